@@ -1,35 +1,32 @@
 """Compares what precopy writes with what two other programs in Rust write, over small traces of every kind.
 
-    checks/run baselines PROGRAM
+    checks/run baselines [PRECOPY]
 
-bench/README.md tells of them. It needs cargo, but no network. If there is no cargo, it says so and compares nothing.
-The last line is 'N passed, M failed'; the status is 0 if nothing failed.
+bench/README.md tells of them. It needs cargo, but no network. An output that was compared is a case.
 """
 
 import os
 import re
-import shutil
-import subprocess
-import sys
 
+from checks.lib.harness import run, run_main
+from checks.lib.tally import left_out, why_not
 from precopy_dev.tree import TOP
 
+SECONDS = 1200
 
-def main(words):
-    if len(words) != 1:
-        raise SystemExit("usage: checks/run baselines PROGRAM")
-    if not shutil.which("cargo"):
-        print("checks/baselines: cargo is not on the path, so the other programs are left out\n0 passed, 0 failed")
-        return 0
-    command = [os.path.join(TOP, "bench", "run"), "--quick", "--program", *words]
-    done = subprocess.run(command, stdout=subprocess.PIPE, stderr=subprocess.STDOUT, text=True)
-    equal = re.search(r"^\.*([0-9]+) outputs compared and equal, 0 faults$", done.stdout, re.M)
-    if done.returncode == 0 and equal and int(equal[1]):
-        print(f"{equal[1]} passed, 0 failed")
-        return 0
-    print(*done.stdout.splitlines()[-40:], "0 passed, 1 failed", sep="\n")
-    return 1
+
+def check(tally, given):
+    if why := why_not("cargo"):
+        left_out("the outputs of two other programs", why)
+        return
+    done = run([os.path.join(TOP, "bench", "run"), "--quick", "--program", given.precopy], seconds=SECONDS)
+    told = (done.output + done.faults).decode(errors="replace")
+    equal = re.search(r"^\.*([0-9]+) outputs compared and equal, 0 faults$", told, re.M)
+    if done.status == 0 and equal and int(equal[1]):
+        tally.passed += int(equal[1])
+    else:
+        tally.add(False, "\n".join([f"bench/run: {done.ended()}", *told.splitlines()[-40:]]))
 
 
 if __name__ == "__main__":
-    sys.exit(main(sys.argv[1:]))
+    run_main(check, __doc__, "precopy")

@@ -1,17 +1,16 @@
 """Tests the documents: their commands and outputs, what they quote and name, their sentences, lines and lengths.
 
-    checks/run documents [PROGRAM]
+    checks/run documents [PRECOPY [PRECOPY_VIEW]]
 
-PROGRAM is crates/precopy/out/precopy of this repository if none is given. A command is an indented line that begins
-with `$`; the lines below it are all that it prints, and `...` stands for any lines. The commands of a page, and its
-blocks of Python, run one after another in a folder of their own, with the repository's files. Commands that need a
-running guest or GNU parallel are left out. A block of code that is headed by the path of a file occurs in that file.
+A command is an indented line that begins with `$`; the lines below it are all that it prints, and `...` stands for any
+lines. Its status is 0, unless what it prints tells of another. The commands of a page, and its blocks of Python, run
+one after another in a folder of their own, with the repository's files. Those of LEFT_OUT need a running guest; those
+of GNU parallel are left out if there is none. A block of code that is headed by the path of a file occurs in that file.
 What docs/PROOF.md, the theorem's table in README.md and the recipes of docs/ARCHITECTURE.md name exists, and that page
 has each crate once. What docs/DECISIONS.md and README.md tell of differences and proof has lost no head. The index that
 dev/index makes has each clause that README.md and docs/PROOF.md name. A refused trace has one sentence in programs and
 pages. A sentence has at most 40 words, unless it is quoted; a line has at most 120 characters. README.md is short, and
-all of docs/ has a bound. The last line is 'N passed, M failed'; the status is 0 if something was tried and nothing
-failed.
+all of docs/ has a bound. What is tested of a page is a case.
 """
 
 import fnmatch
@@ -22,19 +21,26 @@ import sys
 import tempfile
 
 from checks.documents import heads, links, names, refusal_words
+from checks.lib.harness import run_main
 from checks.lib.pages import INDEX, agrees, manuals, pages, quotes, read, steps
-from checks.lib.tally import Tally
+from checks.lib.tally import left_out, why_not
 from precopy_dev.tree import TOP
 
-VIEW = os.path.join(TOP, "crates", "precopy_view", "out", "precopy_view")
 SECONDS = 120
 MOST_WORDS = 40
 MOST_COLUMNS = 120
 README_LINES, README_BYTES = 140, 9216
 OF_USERS = ("README.md", "CONTRIBUTING.md")
 WORDS_IN_ALL = 36_000
-# What a command begins with that is not run here.
-LEFT_OUT = ("tools/compare-qemu", "tools/record", "parallel", "export")
+# What a command begins with that needs a running guest, or is of a shell that runs on.
+LEFT_OUT = ("tools/compare-qemu", "tools/record", "export")
+# What tells of a status: the beginning of a line, or a part of one.
+TOLD_STATUSES = (
+    (r"^precopy(-view)?: (settings|cases?\b|--)|^error: ", 2),
+    (r"^precopy(-view)?: (trace|memory|live|write)", 1),
+    (r"^converges: unknown", 4),
+    (r", not kept$", 3),
+)
 # Words that look like files and are none of the repository's.
 NO_FILES = {"crates/precopy/out/precopy", "manifest.json"}
 FILE = re.compile(r"[\w.*-]+(?:/[\w.*-]+)*/?")
@@ -46,9 +52,9 @@ FOREIGN = re.compile(r"\b[TDRW]\d{1,2}\b|(?<![\w.])/(?:work|tmp|root|home)\b")
 # ---- Commands.
 
 
-def make_folder(folder, program):
+def make_folder(folder, given):
     """The repository's files as links, and beside them the programs ./precopy and ./precopy-view, on the path too."""
-    programs = {"precopy": program, "precopy-view": VIEW}
+    programs = {"precopy": given.precopy, "precopy-view": given.precopy_view}
     for name in os.listdir(TOP):
         if name != ".git" and name not in programs:
             os.symlink(os.path.join(TOP, name), os.path.join(folder, name))
@@ -57,29 +63,39 @@ def make_folder(folder, program):
     return {**os.environ, "PATH": f"{folder}{os.pathsep}{os.environ.get('PATH', '')}", "LC_ALL": "C"}
 
 
-def commands(tally, program):
-    left_out = 0
+def is_due(status, words, printed):
+    """Whether a status is that of which the lines tell, or 0 if it is that of a reader of them."""
+    told = [number for pattern, number in TOLD_STATUSES if re.search(pattern, printed, re.M)]
+    return status in (told[:1] or [0]) or status == 0 and ("|" in words or told == [3])
+
+
+def try_steps(case, folder, given, found):
+    environment = make_folder(folder, given)
+    for kind, words, wanted in found:
+        command = [sys.executable, "-c", words] if kind == "python" else ["sh", "-c", words]
+        how = {"stdin": subprocess.DEVNULL, "stdout": subprocess.PIPE, "stderr": subprocess.STDOUT, "timeout": SECONDS}
+        done = subprocess.run(command, cwd=folder, env=environment, **how)
+        printed = done.stdout.decode(errors="replace")
+        if kind == "python":
+            good = done.returncode == 0
+        else:
+            good = agrees(wanted, printed) and is_due(done.returncode, words, printed)
+        case.add(good, f"{words}\nstatus {done.returncode}\n{printed}")
+
+
+def commands(tally, given):
     for page in pages():
-        with tempfile.TemporaryDirectory() as folder:
-            environment = make_folder(folder, program)
-            for kind, words, wanted in steps(read(page)):
-                if kind == "command" and words.startswith(LEFT_OUT):
-                    left_out += 1
-                    continue
-                command = [sys.executable, "-c", words] if kind == "python" else ["sh", "-c", words]
-                done = subprocess.run(
-                    command,
-                    cwd=folder,
-                    env=environment,
-                    stdin=subprocess.DEVNULL,
-                    stdout=subprocess.PIPE,
-                    stderr=subprocess.STDOUT,
-                    timeout=SECONDS,
-                )
-                printed = done.stdout.decode(errors="replace")
-                good = done.returncode == 0 if kind == "python" else agrees(wanted, printed)
-                tally.add(good, f"{page}: {words}\n{printed}")
-    print(f"{left_out} commands that need a guest or GNU parallel are left out")
+        found = []
+        for step in steps(read(page)):
+            if step[0] == "command" and step[1].startswith(LEFT_OUT):
+                print(f"  {page}: {step[1].splitlines()[0]} is not run here")
+            elif step[0] == "command" and step[1].startswith("parallel") and (why := why_not("parallel")):
+                left_out(f"{page}: {step[1].splitlines()[0]}", why)
+            else:
+                found.append(step)
+        if found:
+            with tally.case(f"the commands of {page}") as case, tempfile.TemporaryDirectory() as folder:
+                try_steps(case, folder, given, found)
 
 
 # ---- Files that are named.
@@ -102,22 +118,25 @@ def is_named_file(word, programs):
     return word.endswith(KINDS) or word.split("/")[0] in programs and "/" in word
 
 
-def files(tally):
+def files(tally, _):
     known = repository_files()
     tops = {name.split("/")[0] for name in known if "/" in name}
     for page in [*pages(), *manuals()]:
         text = read(page)
         words = re.findall(r"`([^`\n]+)`", text) + re.findall(r"\]\(([^)#:]+)\)", text)
-        for word in sorted({word.removeprefix("./").split(" ")[0] for word in words}):
-            if is_named_file(word, tops):
-                good = any(fnmatch.fnmatch(f"/{name}", f"*/{word}") or name == f"{word}/" for name in known)
-                tally.add(good, f"{page} names {word}, which is not there")
+        named = sorted({word.removeprefix("./").split(" ")[0] for word in words})
+        missing = [word for word in named if is_named_file(word, tops) and not is_there(word, known)]
+        tally.add(not missing, f"{page} names {missing}, which are not there")
+
+
+def is_there(word, known):
+    return any(fnmatch.fnmatch(f"/{name}", f"*/{word}") or name == f"{word}/" for name in known)
 
 
 # ---- What is quoted, what the page on the proof names, and the index.
 
 
-def quotations(tally):
+def quotations(tally, _):
     """A block that is headed by a file's path: that file has its lines, and `...` stands for any lines."""
     for page in pages():
         for path, lines in quotes(read(page)):
@@ -126,34 +145,27 @@ def quotations(tally):
             tally.add(good, f"{page} quotes what does not stand so in {path}: {lines[:2]}")
 
 
-def proofs(tally):
-    for good, told in (*names.named(), *names.in_architecture()):
-        tally.add(good, told)
+def all_of(name, found):
+    def test(tally, _):
+        with tally.case(name) as case:
+            for good, told in found():
+                case.add(good, told)
+
+    test.__name__ = name
+    return test
 
 
-def refusals(tally):
-    for good, told in refusal_words.compared():
-        tally.add(good, told)
+def made_by(command, *words):
+    return subprocess.run([os.path.join(TOP, "dev", command), *words], capture_output=True, text=True, timeout=SECONDS)
 
 
-def interface(tally):
-    made = subprocess.run([os.path.join(TOP, "dev", "interface"), "--compare"], capture_output=True, text=True)
+def interface(tally, _):
+    made = made_by("interface", "--compare")
     tally.add(made.returncode == 0, f"dev/interface would write other files: {made.stdout}{made.stderr}")
 
 
-def kept_heads(tally):
-    for good, told in heads.compared():
-        tally.add(good, told)
-
-
-def anchors(tally):
-    for good, told in links.compared():
-        tally.add(good, told)
-
-
-def index(tally):
-    words = [os.path.join(TOP, "dev", "index"), "--print"]
-    made = subprocess.run(words, capture_output=True, text=True, timeout=SECONDS)
+def index(tally, _):
+    made = made_by("index", "--print")
     tally.add(made.returncode == 0, f"dev/index failed: {made.stderr}")
     for good, told in names.in_index(made.stdout):
         tally.add(good, told)
@@ -207,55 +219,59 @@ def sentences(block):
     return re.split(r"(?<=[.!?])[\"*)]*\s+(?=[\"*(]*[A-Z0-9c])", plain)
 
 
-def lengths(tally):
+def lengths(tally, _):
     for page in [*pages(), *manuals()]:
         blocks = blocks_of_manual if page.endswith(".1") else blocks_of_markdown
-        for block in blocks(read(page)):
-            for sentence in sentences(block):
-                count = sum(any(map(str.isalnum, word)) for word in sentence.split())
-                if count:
-                    tally.add(count <= MOST_WORDS, f"{page}: a sentence of {count} words: {sentence[:100]}")
+        found = [sentence for block in blocks(read(page)) for sentence in sentences(block)]
+        long = [it[:100] for it in found if sum(any(map(str.isalnum, word)) for word in it.split()) > MOST_WORDS]
+        tally.add(found and not long, f"{page}: {len(found)} sentences, of which these are too long: {long}")
 
 
-def foreign(tally):
+def foreign(tally, _):
     for page in [*pages(), *manuals()]:
         found = FOREIGN.findall(read(page))
         tally.add(not found, f"{page} has {found}")
 
 
-def widths(tally):
+def widths(tally, _):
     for page in [*pages(), *manuals()]:
-        for number, line in enumerate(read(page).split("\n"), 1):
-            tally.add(len(line) <= MOST_COLUMNS, f"{page}: line {number} has {len(line)} characters")
+        wide = [number for number, line in enumerate(read(page).split("\n"), 1) if len(line) > MOST_COLUMNS]
+        tally.add(not wide, f"{page}: the lines {wide} have more than {MOST_COLUMNS} characters")
 
 
-def size(tally):
+def size(tally, _):
     text = read("README.md")
-    count = len(text.split("\n")) - 1
-    tally.add(count <= README_LINES, f"README.md has {count} lines, and {README_LINES} at most")
-    count = len(text.encode())
-    tally.add(count <= README_BYTES, f"README.md has {count} bytes, and {README_BYTES} at most")
+    sizes = text.count("\n"), len(text.encode())
+    good = sizes[0] <= README_LINES and sizes[1] <= README_BYTES
+    tally.add(good, f"README.md has {sizes} lines and bytes, and {README_LINES} and {README_BYTES} at most")
     count = sum(len(read(page).split()) for page in pages() if page in OF_USERS or page.startswith("docs/"))
     tally.add(count <= WORDS_IN_ALL, f"{', '.join(OF_USERS)} and docs have {count} words, and {WORDS_IN_ALL} at most")
 
 
-def main(words):
-    if len(words) > 1:
-        raise SystemExit("usage: checks/run documents [PROGRAM]")
-    program = os.path.abspath(words[0] if words else os.path.join(TOP, "crates", "precopy", "out", "precopy"))
-    if not os.access(program, os.X_OK):
-        print(f"checks/documents: there is no program {program}; ./precopy builds it\n0 passed, 1 failed")
-        return 1
-    all_passed = all_failed = 0
-    checks = (commands, files, anchors, quotations, proofs, kept_heads, refusals, index, interface)
-    for check in (*checks, lengths, widths, foreign, size):
-        tally = Tally()
-        check(tally, program) if check is commands else check(tally)
-        print(f"{check.__name__}: {tally.passed} passed, {tally.failed} failed", flush=True)
-        all_passed, all_failed = all_passed + tally.passed, all_failed + tally.failed
-    print(f"{all_passed} passed, {all_failed} failed")
-    return 0 if all_passed and not all_failed else 1
+PARTS = [
+    commands,
+    files,
+    all_of("links and their anchors", links.compared),
+    quotations,
+    all_of("what docs/PROOF.md and the theorem's table name", names.named),
+    all_of("what docs/ARCHITECTURE.md names", names.in_architecture),
+    all_of("heads of what differs and what is proved", heads.compared),
+    all_of("the sentences of refusals", refusal_words.compared),
+    index,
+    interface,
+    lengths,
+    widths,
+    foreign,
+    size,
+]
+
+
+def check(tally, given):
+    for part in PARTS:
+        before = tally.passed, tally.failed
+        part(tally, given)
+        print(f"{part.__name__}: {tally.passed - before[0]} passed, {tally.failed - before[1]} failed", flush=True)
 
 
 if __name__ == "__main__":
-    sys.exit(main(sys.argv[1:]))
+    run_main(check, __doc__, "precopy", "precopy_view")

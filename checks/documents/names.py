@@ -2,9 +2,9 @@
 
 `call`: `clause`, .. and `relation`: `fact`, .. name clauses of a public call and facts of a relation. A clause of a
 call is one that it ensures, or a fact of a relation that it ensures. Every other word is a crate, a public call, a
-definition, a clause, a fact, a type, a refusal, a path from the top or from crates/, or part of a wrong body's name.
-docs/ARCHITECTURE.md has each crate once; its recipes also name functions, types and constants within crates, tools,
-checks, the planner and bindings."""
+definition, a clause, a fact, a type, a refusal, a path from the top or from crates/, or whole words of the name of a
+wrong body. docs/ARCHITECTURE.md has each crate once; its recipes also name functions, types and constants within
+crates, tools, checks, the planner and bindings."""
 
 import functools
 import glob
@@ -67,13 +67,18 @@ def types_and_crates():
     return types | {word for line in lines for word in re.findall(r"\w+", line.partition("#")[0])}
 
 
+def is_of_wrong_body(word):
+    """Whether these are words of the name of a wrong body, one after another."""
+    return any(f"_{word}_" in f"_{name}_" for name in wrong_bodies())
+
+
 def is_known(word):
     if word in (INDEX, os.path.basename(INDEX)):
         return True
     if word in known("calls") or word in known("definitions") or word in facts() or word in types_and_crates():
         return True
     paths = [os.path.join(TOP, *parts, word) for parts in ((), ("crates",), ("docs",))]
-    return any(map(os.path.exists, paths)) or OTHER.fullmatch(word) or any(word in name for name in wrong_bodies())
+    return any(map(os.path.exists, paths)) or OTHER.fullmatch(word) or is_of_wrong_body(word)
 
 
 @functools.lru_cache(maxsize=None)

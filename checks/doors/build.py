@@ -12,10 +12,13 @@ import sys
 import time
 
 from checks.doors import launchers
+from checks.lib.harness import Run as Ran
+from checks.lib.tally import LeftOut
 from precopy_dev.tree import TOP
 
 SECONDS, SECONDS_TO_END = 400, 20
 NOBODY = 65534
+STOPPING = (signal.SIGINT, signal.SIGTERM, signal.SIGHUP)
 COPIED = ("precopy", "precopy-view", "dev/build", "dev/library", "dev/start", "python/__main__.py")
 MODULES = tuple(f"python/precopy_dev/{name}.py" for name in ("__init__", "build", "library", "tree"))
 BUILD = "python/precopy_dev/build.py"
@@ -81,14 +84,6 @@ exit 7
 """
 
 
-class Ran:
-    def __init__(self, status, output, faults):
-        self.status, self.output, self.faults = status, output.decode(), faults.decode()
-
-    def __str__(self):
-        return f"status {self.status}, output {self.output!r}, standard error {self.faults[-600:]!r}"
-
-
 class Tree:
     """A small tree of sources, with the wrappers and the build of this repository."""
 
@@ -138,7 +133,7 @@ def ended(started):
     except subprocess.TimeoutExpired:
         os.killpg(started.pid, signal.SIGKILL)
         output, faults = started.communicate()
-    return Ran(started.returncode, output, faults)
+    return Ran(started.returncode, output.decode(), faults.decode())
 
 
 def folder_of_links(folder, *names):
@@ -239,8 +234,7 @@ def call_the_other_name(tally, tree):
 def run_without_rights(tally, tree):
     """Over a tree that the caller may only read, as another user, if this one may become that one."""
     if os.geteuid() != 0:
-        print("  left out: a tree that may only be read, since that takes another user", flush=True)
-        return
+        raise LeftOut("that takes another user, and only root may become one")
     for folder in (os.path.dirname(tree.top), tree.top):
         os.chmod(folder, 0o755)
     ran = tree.run(user=NOBODY)
@@ -340,20 +334,25 @@ def differ(tally, tree, folder):
 
 def check(tally, folder):
     tree = Tree(folder)
-    tell_what_is_missing(tally, tree, folder)
-    differ(tally, tree, folder)
-    if not shutil.which("rt"):
-        tally.add(False, "the toolchain's command rt is not on the path")
-        return
-    build_at_first(tally, tree)
-    call_it_otherwise(tally, tree, folder)
-    call_the_other_name(tally, tree)
-    run_without_rights(tally, tree)
-    build_twice_at_once(tally, tree)
-    edit_meanwhile(tally, tree)
-    refuse_words(tally, tree)
-    tell_after_silence(tally, tree)
-    fail(tally, tree)
-    for number in (signal.SIGINT, signal.SIGTERM, signal.SIGHUP):
-        stop(tally, tree, number)
-    go_on(tally, tree)
+    before = (
+        ("what is missing is told", tell_what_is_missing, tree, folder),
+        ("another toolchain", differ, tree, folder),
+    )
+    needs_toolchain = (
+        ("the first build", build_at_first, tree),
+        ("called by other names and from other folders", call_it_otherwise, tree, folder),
+        ("./precopy-view", call_the_other_name, tree),
+        ("a tree that may only be read", run_without_rights, tree),
+        ("two builds at once", build_twice_at_once, tree),
+        ("a source that is edited meanwhile", edit_meanwhile, tree),
+        ("words that are refused", refuse_words, tree),
+        ("a build that is silent", tell_after_silence, tree),
+        ("a build that fails", fail, tree),
+        *((f"a build stopped by {number.name}", stop, tree, number) for number in STOPPING),
+        ("a build that goes on", go_on, tree),
+    )
+    if not tally.add(shutil.which("rt"), "the toolchain's command rt is not on the path"):
+        needs_toolchain = ()
+    for name, part, *words in (*before, *needs_toolchain):
+        with tally.case(name) as case:
+            part(case, *words)

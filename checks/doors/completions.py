@@ -153,9 +153,11 @@ def check(tally, folder):
         pass
     if has("bash", "bash", "completions in bash"):
         for program in programs:
-            try_bash(tally, bash, program, empty, with_file)
+            with tally.case(f"bash completes {program.words[0]}") as case:
+                try_bash(case, bash, program, empty, with_file)
     if has("zsh", "zsh", "completions in zsh"):
         shell = Shell(zsh, empty)
         for program in programs:
-            try_zsh(tally, shell, program)
+            with tally.case(f"zsh completes {program.words[0]}") as case:
+                try_zsh(case, shell, program)
         shell.end()

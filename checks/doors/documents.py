@@ -28,26 +28,26 @@ def names(tally, folder):
     """No document that a user reads names what only the sources have, and each other name stands for one in them."""
     sources = [pages.read(path) for path, _ in pages_below(folder)]
     for name in documents.RENAMED:
-        tally.add(
-            any(name in text for text in sources),
-            f"python/precopy_dev/packaging/documents.py has a name for {name!r} of no page",
-        )
+        told = f"python/precopy_dev/packaging/documents.py has a name for {name!r} of no page"
+        tally.add(any(name in text for text in sources), told)
     for path, text in pages_below(folder):
-        for line in text.split("\n"):
-            tally.add(not OF_SOURCES.search(line), f"the installed {path} says: {line}")
+        wrong = [line for line in text.split("\n") if OF_SOURCES.search(line)]
+        tally.add(not wrong, f"the installed {path} says: {wrong}")
 
 
 def commands(tally, folder, run):
     """All commands and blocks of Python of a page, one after another, by run(page, words), and what they print."""
     count = 0
     for path, text in pages_below(folder):
-        for kind, words, wanted in pages.steps(text):
-            if kind == "command" and words.startswith(LEFT_OUT):
-                continue
-            status, printed = run(path, ["python3", "-c", words] if kind == "python" else ["sh", "-c", words])
-            good = status == 0 if kind == "python" else pages.agrees(wanted, printed)
-            tally.add(good, f"the installed {path}: {words}\n{printed}")
-            count += 1
+        steps = [step for step in pages.steps(text) if not (step[0] == "command" and step[1].startswith(LEFT_OUT))]
+        if not steps:
+            continue
+        with tally.case(f"the commands of the installed {path}") as case:
+            for kind, words, wanted in steps:
+                status, printed = run(path, ["python3", "-c", words] if kind == "python" else ["sh", "-c", words])
+                good = status == 0 if kind == "python" else pages.agrees(wanted, printed)
+                case.add(good, f"{words}\n{printed}")
+        count += len(steps)
     tally.add(count > 30, f"the installed documents have {count} commands")
 
 

@@ -211,12 +211,14 @@ def check_version(tally):
 def check_words(tally, folder):
     programs, tools = contents.told_by_help()
     for program in programs:
-        check_program(tally, program)
+        with tally.case(f"what is said of {program.words[0]}") as case:
+            check_program(case, program)
     for tool in tools:
-        told = {option.name for option in tool.options}
-        tally.add({"--help", "--version"} <= told, f"{tool.words[0]} --help tells {sorted(told)}")
-        good = tool.about and all(option.help for option in tool.options)
-        tally.add(good, f"{tool.words[0]} has options without help")
+        with tally.case(f"the help of {tool.words[0]}") as case:
+            told = {option.name for option in tool.options}
+            case.add({"--help", "--version"} <= told, f"{tool.words[0]} --help tells {sorted(told)}")
+            good = tool.about and all(option.help for option in tool.options)
+            case.add(good, f"{tool.words[0]} has options without help")
     check_tools(tally)
     check_version(tally)
     unread = os.path.join(folder, "unread")

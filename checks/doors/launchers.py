@@ -3,13 +3,13 @@
 
 import contextlib
 import os
-import random
 import shutil
 import signal
 import subprocess
 import time
 
-from checks.lib.tally import has, left_out
+from checks.lib.harness import draws
+from checks.lib.tally import LeftOut, has
 from precopy_dev.packaging import launcher
 from precopy_dev.tree import TOP
 
@@ -29,7 +29,7 @@ def joined(mine):
 
 def joined_settings():
     """Settings of users, and what becomes of each."""
-    chosen = random.Random(62)
+    chosen = draws("settings of users")
     drawn = [":".join(chosen.choices(PIECES, k=chosen.randint(1, 4))) for _ in range(20)]
     return [(mine, joined(mine)) for mine in ["", "mine", "glibc.malloc.hugetlb=0", launcher.large_pages(), *drawn]]
 
@@ -79,7 +79,7 @@ class Installed:
 
 
 def hand_on_words(tally, it):
-    chosen = random.Random(63)
+    chosen = draws("words of launchers")
     for number in range(30):
         words = [bytes(chosen.choices(range(1, 256), k=chosen.randint(0, 40))) for _ in range(chosen.randint(1, 50))]
         words = [b"precopy" if number % 2 else words[0], b"", *words]
@@ -173,11 +173,14 @@ def start_otherwise(tally, it, folder):
     line = f"PATH='{links}':$PATH precopy"
     ran = it.run(["sh", "-c", line], path="/bin/sh")
     tally.add(ran[0] == 0 and it.heard("process"), f"the launcher on the path: {ran}")
+
+
+def start_without_proc(tally, it, folder):
+    links = os.path.join(folder, "links")
     hide = ["unshare", "--mount", "sh", "-c", 'mount -t tmpfs none /proc && exec "$0"', f"{links}/other"]
     probe = subprocess.run([*hide[:-1], "true"], stderr=subprocess.PIPE, check=False)
     if probe.returncode:
-        left_out("a launcher without /proc", probe.stderr.decode().strip())
-        return
+        raise LeftOut(probe.stderr.decode().strip())
     ran = it.run(hide, path=shutil.which("unshare"))
     tally.add(ran[0] == 0 and it.heard("process"), f"the launcher without /proc: {ran}")
 
@@ -219,11 +222,16 @@ def check(tally, folder):
     if not has("cc", "gcc", "the launchers"):
         return
     it = Installed(folder)
-    hand_on_words(tally, it)
-    hand_on_statuses(tally, it)
-    hand_on_signals(tally, it)
-    hand_on_files(tally, it)
-    hand_on_variables(tally, it)
-    start_otherwise(tally, it, folder)
-    fail(tally, it)
-    cost(tally, it)
+    for name, part, *words in (
+        ("words", hand_on_words),
+        ("statuses", hand_on_statuses),
+        ("signals", hand_on_signals),
+        ("files", hand_on_files),
+        ("variables", hand_on_variables),
+        ("links and folders", start_otherwise, folder),
+        ("no /proc", start_without_proc, folder),
+        ("no program", fail),
+        ("cost", cost),
+    ):
+        with tally.case(f"a launcher: {name}") as case:
+            part(case, it, *words)

@@ -5,14 +5,15 @@ import os
 import random
 import re
 import resource
-import subprocess
 import time
 import xml.etree.ElementTree
 from typing import NamedTuple
 
 from checks.evacuation import model
 from checks.lib.amount_texts import time_text
-from checks.lib.view_texts import Failure, keeps
+from checks.lib.harness import draws, expect, run
+from checks.lib.tally import expect_in_time
+from checks.lib.view_texts import keeps_schema
 from precopy_dev.tree import TOP
 from precopy_tools.evacuate import costs as host_costs
 from precopy_tools.evacuate import schedules
@@ -20,7 +21,7 @@ from precopy_tools.formats import samples, traces
 
 EVACUATE = os.path.join(TOP, "tools", "evacuate")
 SVG = "{http://www.w3.org/2000/svg}"
-SETS, SECONDS, GUESTS, LIMIT = 500, 120, 100, 5.0
+SETS, GUESTS, LIMIT = 500, 100, 5.0
 LINK, DOWNTIME = "64MiB", 0.3
 RATE = 64 << 20
 
@@ -30,18 +31,12 @@ class Programs(NamedTuple):
     view: str
 
 
-def expect(holds: object, told: str) -> None:
-    if not holds:
-        raise Failure(told)
-
-
 # ---- Tables.
 
 
 def answered(program: str, text: bytes | str) -> tuple[int, str, str]:
-    text = text.encode() if isinstance(text, str) else text
-    done = subprocess.run([program], input=text, capture_output=True, timeout=SECONDS)
-    return done.returncode, done.stdout.decode(), done.stderr.decode()
+    done = run([program], text.encode() if isinstance(text, str) else text)
+    return done.status, done.output.decode(), done.faults.decode()
 
 
 def random_plans(draw: random.Random) -> list[tuple[int, int, list[model.Move]]]:
@@ -65,7 +60,7 @@ def random_plans(draw: random.Random) -> list[tuple[int, int, list[model.Move]]]
 
 
 def random_tables(programs: Programs, _: str) -> None:
-    draw = random.Random("tables of plans")
+    draw = draws("tables of plans")
     for number in range(SETS):
         plans = random_plans(draw)
         status, told, fault = answered(programs.scheduler, model.table(plans))
@@ -109,9 +104,8 @@ def tables_that_are_none(programs: Programs, _: str) -> None:
 def a_lost_reader(programs: Programs, _: str) -> None:
     """An answer that cannot be written is told, with status 1."""
     with open("/dev/full", "wb") as full:
-        how = {"stdout": full, "stderr": subprocess.PIPE, "timeout": SECONDS}
-        done = subprocess.run([programs.scheduler], input=b"1 0\n", **how)
-    expect((done.returncode, done.stderr) == (1, b"precopy-schedule: write\n"), f"{done.stderr!r}")
+        done = run([programs.scheduler], b"1 0\n", stdout=full)
+    expect((done.status, done.faults) == (1, b"precopy-schedule: write\n"), f"{done.faults!r}")
 
 
 # ---- Records.
@@ -166,7 +160,7 @@ def write_record(folder: str, name: str, guest: model.Guest, **changed) -> str:
 
 def random_costs(programs: Programs, folder: str) -> None:
     """The costs of each guest at each share, and the range over starts, are those of a plain planner."""
-    draw, compared = random.Random("records of guests"), 0
+    draw, compared = draws("records of guests"), 0
     for number in range(SETS):
         guests = [random_guest(draw) for _ in range(draw.randrange(1, 4))]
         link, downtime = draw.choice([1, 4, 16, 64, 1000]) * (1 << 20), draw.choice([0.01, 0.1, 0.3, 0.335, 2.0])
@@ -189,9 +183,9 @@ def random_costs(programs: Programs, folder: str) -> None:
 
 def run_tool(programs: Programs, *words: str, status: int = 0) -> tuple[str, str]:
     command = [EVACUATE, "--program", programs.view, "--scheduler", programs.scheduler, *words]
-    done = subprocess.run(command, capture_output=True, text=True, timeout=SECONDS)
-    expect(done.returncode == status, f"{words}: status {done.returncode}, {done.stdout[-300:]!r}, {done.stderr!r}")
-    return done.stdout, done.stderr
+    done = run(command)
+    expect(done.status == status, f"{words}: {done.ended()}, {done.output[-300:]!r}, {done.faults!r}")
+    return done.output.decode(), done.faults.decode()
 
 
 def steady_guest(pages: int, hot: int, seconds: int = 60) -> model.Guest:
@@ -226,11 +220,9 @@ def expected_schedules(told: dict, groups: dict[str, int], deadline: int) -> lis
 
 
 def document_of(folder: str) -> dict:
-    with open(os.path.join(TOP, "docs", "evacuation.schema.json"), encoding="utf-8") as file:
-        schema = json.load(file)
     with open(os.path.join(folder, "told.json"), encoding="utf-8") as file:
         told = json.load(file)
-    keeps(schema, told, schema)
+    keeps_schema("evacuation", told)
     return told
 
 
@@ -341,7 +333,7 @@ def refusals(programs: Programs, folder: str) -> None:
             with open(other[:-4] + suffix, "rb") as old, open(f"{folder}/{name}.light.{suffix}", "wb") as new:
                 new.write(old.read())
     text, fault = run_tool(programs, web, f"{folder}/old.light.pcwt", db, *link, status=1)
-    expect("old.light.pcwt: E2: it does not begin as a trace" in fault and "2 guests" in text, f"{fault!r} {text!r}")
+    expect("old.light.pcwt: E2: it does not begin with PCWT" in fault and "2 guests" in text, f"{fault!r} {text!r}")
     expect(not re.search(r"^ +3  ", text, re.M), f"three at once of two guests: {text!r}")
     twice = "two records of one guest"
     for second, told in (("web.20261127T030000Z", f"{twice}: web"), ("twin", twice)):
@@ -489,14 +481,15 @@ def refused_words(programs: Programs, folder: str) -> None:
 
 def a_hundred_guests(programs: Programs, folder: str) -> None:
     """The answer is there within 5 seconds; or, if other work is in the way, within 5 seconds of a processor."""
-    draw = random.Random("a hundred guests")
+    draw = draws("a hundred guests")
     guests = [steady_guest(draw.randrange(1000, 4000), draw.randrange(1, 50), 30) for _ in range(GUESTS)]
     records = [write_record(folder, f"guest{number:03}", guest) for number, guest in enumerate(guests)]
     before, began = spent(), time.monotonic()
     text, _ = run_tool(programs, *records, "--link", "10Gbit")
     took, processor = time.monotonic() - began, spent() - before
     print(f"  {GUESTS} guests: {took:.1f} s, {processor:.1f} s of a processor", flush=True)
-    expect(f"{GUESTS} guests" in text and min(took, processor) <= LIMIT, f"{GUESTS} guests took {took:.1f} s")
+    expect(f"{GUESTS} guests" in text, text)
+    expect_in_time(min(took, processor) <= LIMIT, f"{GUESTS} guests took {took:.1f} s")
 
 
 def spent() -> float:

@@ -1,23 +1,19 @@
 """Makes traces from text, text from traces, and releases in traces: by tools/import, tools/export and tools/release.
 
-    checks/run importing [PROGRAM]
+    checks/run importing [--only CASE] [PRECOPY]
 
-PROGRAM is crates/precopy/out/precopy of this repository if none is given. tools/export and tools/release must refuse
-each damaged trace by the name that the program gives it. If valgrind is on the path, what its lackey reports about a
-process is imported too. The last line is 'N passed, M failed'; the status is 0 if something was tried and nothing
-failed.
+tools/export and tools/release must refuse each damaged trace by the name that the program gives it. What the lackey of
+valgrind reports about a process is imported too, if valgrind can be had.
 """
 
 import glob
 import os
-import shutil
-import struct
 import subprocess
-import sys
-import tempfile
-import traceback
 
-from checks.lib.worked import header, record
+from checks.lib import harness
+from checks.lib.harness import expect, run_cases, run_main
+from checks.lib.tally import need
+from checks.lib.traces import Trace, header, record
 from precopy_dev.tree import TOP
 
 IMPORT, EXPORT, RELEASE = (os.path.join(TOP, "tools", name) for name in ("import", "export", "release"))
@@ -50,23 +46,12 @@ I  0400100c,2
 LACKEY_STORES = [(0, 0, 0xFE8, 8), (1, 1, 0xFFE, 2), (1, 2, 0, 2), (2, 0, 0xF00, 16)]
 
 
-def expect(holds, told):
-    if not holds:
-        raise AssertionError(told)
-
-
 def run(command, text=b""):
-    return subprocess.run(command, input=text, capture_output=True, timeout=SECONDS)
+    return harness.run(command, text, SECONDS)
 
 
 def records_of(trace):
-    """The writes of a trace, taken apart here by docs/FORMATS.md."""
-    at, found = 16, []
-    while at < len(trace):
-        tick, page, offset, length = struct.unpack_from("<QIHH", trace, at)
-        found.append((tick, page, offset, trace[at + 16 : at + 16 + length]))
-        at += 16 + length
-    return found
+    return Trace(trace).records
 
 
 # ---- The cases. Each has an empty folder, and raises if something is wrong.
@@ -79,19 +64,19 @@ def round_trips(_, folder):
         text, again = os.path.join(folder, "text"), os.path.join(folder, "again")
         for command in ([EXPORT, path, text], [IMPORT, text, again]):
             done = run(command)
-            expect(done.returncode == 0 and not done.stdout + done.stderr, f"{command}: {done}")
+            expect(done.status == 0 and not done.output + done.faults, f"{command}: {done}")
         with open(path, "rb") as one, open(again, "rb") as other:
             expect(one.read() == other.read(), f"{path} is another trace after export and import")
         with open(path, "rb") as file:
             trace = file.read()
         through = run(["sh", "-c", '"$0" - - | "$1" - -', EXPORT, IMPORT], trace)
-        expect(through.stdout == trace, f"{path} is another trace after a pipe: {through.stderr!r}")
+        expect(through.output == trace, f"{path} is another trace after a pipe: {through.faults!r}")
 
 
 def known_text(_, folder):
     for name, text in (("a", A_TEXT), ("c", C_TEXT)):
         done = run([EXPORT, os.path.join(TOP, "examples", f"{name}.pcwt"), "-"])
-        expect(done.stdout.decode() == text, done)
+        expect(done.output.decode() == text, done)
 
 
 def versions(_, folder):
@@ -108,25 +93,25 @@ def versions(_, folder):
         (b"pages 5 size 32 version 2\n", header(5, 0, 5, version=2)),
     ):
         done = run([IMPORT, "-", "-"], text)
-        expect(done.returncode == 0 and done.stdout == trace, f"{text!r} gives {done}")
+        expect(done.status == 0 and done.output == trace, f"{text!r} gives {done}")
     first = run([IMPORT, "--first", "1", "-", "-"], plain + release)
-    expect(first.stdout == header(3, 1) + written, first)
+    expect(first.output == header(3, 1) + written, first)
 
 
 def releases(_, folder):
     """tools/release: a page that is not written for a number of ticks, and no other, and no page twice."""
     text = b"0 0 0 01\n5 1 0 02\n10 0 0 03\n21 2 0 04\n25 2 0 05\n40 1 0 06\n"
-    trace = run([IMPORT, "-", "-"], text).stdout
+    trace = run([IMPORT, "-", "-"], text).output
     wanted = text.replace(b"21 2", b"15 1 release\n20 0 release\n21 2").replace(b"40 1", b"35 2 release\n40 1")
-    for made, due in ((trace, wanted), (run([IMPORT, "-", "-"], wanted).stdout, wanted)):
+    for made, due in ((trace, wanted), (run([IMPORT, "-", "-"], wanted).output, wanted)):
         done = run([RELEASE, "--after", "10", "-", "-"], made)
-        expect(done.returncode == 0 and done.stdout == run([IMPORT, "-", "-"], due).stdout, done)
+        expect(done.status == 0 and done.output == run([IMPORT, "-", "-"], due).output, done)
     done = run([RELEASE, "--after", "100", "-", "-"], trace)
-    expect(done.returncode == 0 and done.stdout == trace, done)
+    expect(done.status == 0 and done.output == trace, done)
     gzip, released = (os.path.join(TOP, "examples", f"{name}.pcwt") for name in ("gzip", "released"))
     done = run([RELEASE, "--after", "100", gzip, "-"])
     with open(released, "rb") as file:
-        expect(done.stdout == file.read(), "examples/released.pcwt is not made of gzip.pcwt as examples/README.md says")
+        expect(done.output == file.read(), "examples/released.pcwt is not made of gzip.pcwt as examples/README.md says")
 
 
 def derived_shape(_, folder):
@@ -143,9 +128,9 @@ def derived_shape(_, folder):
     ):
         done = run([IMPORT, *words, "-", "-"], text.encode())
         wanted = [] if not text else [(0, int(text.split("\n")[-2 - ("--first" in words)].split()[1]))]
-        expect(done.returncode == 0, done)
-        expect(done.stdout[:12] == header(pages, 0, shift)[:12], f"{text!r} gives {done.stdout[:16]!r}")
-        expect([write[:2] for write in records_of(done.stdout)] == wanted, f"{text!r} gives {done.stdout!r}")
+        expect(done.status == 0, done)
+        expect(done.output[:12] == header(pages, 0, shift)[:12], f"{text!r} gives {done.output[:16]!r}")
+        expect([write[:2] for write in records_of(done.output)] == wanted, f"{text!r} gives {done.output!r}")
 
 
 BAD_LINES = [
@@ -197,8 +182,8 @@ def expect_refused(folder, command, text, begin, word="", status=1):
             with open(path, "wb") as file:
                 file.write(before)
         done = run([*command, path], text)
-        faults = done.stderr.decode()
-        expect(done.returncode == status and not done.stdout, f"{text[:80]!r}: {done}")
+        faults = done.faults.decode()
+        expect(done.status == status and not done.output, f"{text[:80]!r}: {done}")
         expect(faults.startswith(begin) and word in faults, f"{text[:80]!r}: {faults!r}")
         expect(os.listdir(folder) == (["out"] if before else []), f"{text[:80]!r} leaves {os.listdir(folder)}")
         if before:
@@ -211,10 +196,10 @@ def limits(_, folder):
     """As many writes as a trace has pass, and one more is refused by its line; so with bytes."""
     most = 1 << 20
     done = run([IMPORT, "-", "-"], b"0 0 0 01\n" * most)
-    expect(done.returncode == 0 and len(done.stdout) == 16 + 17 * most, done.stderr)
+    expect(done.status == 0 and len(done.output) == 16 + 17 * most, done.faults)
     more = run([IMPORT, "-", os.path.join(folder, "out")], b"0 0 0 01\n" * (most + 1))
-    expect(more.returncode == 1 and b"writes" in more.stderr, more)
-    expect(more.stderr.startswith(b"import: line %d: " % (most + 1)), more.stderr)
+    expect(more.status == 1 and b"writes" in more.faults, more)
+    expect(more.faults.startswith(b"import: line %d: " % (most + 1)), more.faults)
     fits = ((1 << 28) - 16) // (16 + 4096)
     line = b"0 0 0 " + b"ab" * 4096 + b"\n"
     done = subprocess.Popen([IMPORT, "-", os.path.join(folder, "out")], stdin=subprocess.PIPE, stderr=subprocess.PIPE)
@@ -265,8 +250,8 @@ def damaged_traces(program, folder):
     names = set()
     for trace in DAMAGED:
         told = run([program, "image"], trace)
-        expect(told.returncode == 1 and told.stderr.startswith(b"precopy: trace E"), told)
-        cause = told.stderr.decode().removeprefix("precopy: ")
+        expect(told.status == 1 and told.faults.startswith(b"precopy: trace E"), told)
+        cause = told.faults.decode().removeprefix("precopy: ")
         expect_refused(folder, [EXPORT, "-"], trace, f"export: {cause}")
         expect_refused(folder, [RELEASE, "--after", "10", "-"], trace, f"release: {cause}")
         names.add(cause.split()[1])
@@ -293,15 +278,15 @@ def bad_words(_, folder):
 
 def lackey(program, folder):
     done = run([IMPORT, "--lackey", "--instructions", "2", "-", "-"], LACKEY.encode())
-    expect(done.returncode == 0 and done.stdout[:16] == header(3, 4, 12), done)
-    found = records_of(done.stdout)
+    expect(done.status == 0 and done.output[:16] == header(3, 4, 12), done)
+    found = records_of(done.output)
     expect([(*write[:3], len(write[3])) for write in found] == LACKEY_STORES, found)
     expect(all(any(write[3]) for write in found), "a store's data are zero")
     expect(len({write[3][:2] for write in found}) == len(found), "stores have the same data")
     first = run([IMPORT, "--lackey", "--instructions", "2", "--first", "2", "-", "-"], LACKEY.encode())
-    expect(records_of(first.stdout) == found[:2] and first.stdout[:16] == header(2, 2, 12), first)
-    image = run([program, "image"], done.stdout)
-    expect(image.returncode == 0 and len(image.stdout) == 3 * 4096, image.stderr)
+    expect(records_of(first.output) == found[:2] and first.output[:16] == header(2, 2, 12), first)
+    image = run([program, "image"], done.output)
+    expect(image.status == 0 and len(image.output) == 3 * 4096, image.faults)
 
 
 def bad_lackey(_, folder):
@@ -312,19 +297,20 @@ def bad_lackey(_, folder):
 
 
 def real_lackey(program, folder):
+    need("valgrind")
     log, trace = os.path.join(folder, "log"), os.path.join(folder, "true.pcwt")
     run(["valgrind", "--tool=lackey", "--trace-mem=yes", f"--log-file={log}", "true"])
     done = run([IMPORT, "--lackey", log, trace])
-    expect(done.returncode == 0, done.stderr)
+    expect(done.status == 0, done.faults)
     with open(log, "rb") as lines:
         stores = sum(line[:3] in (b" S ", b" M ") for line in lines)
     with open(trace, "rb") as file:
         text = file.read()
-    writes = struct.unpack_from("<I", text, 12)[0]
+    writes = len(records_of(text))
     expect(1000 < stores <= writes <= stores + stores // 10, f"{writes} writes of {stores} stores")
     for words in (["image"], ["report"]):
         done = run([program, *words], text)
-        expect(done.returncode == 0, done.stderr)
+        expect(done.status == 0, done.faults)
 
 
 CASES = [
@@ -339,32 +325,13 @@ CASES = [
     bad_words,
     lackey,
     bad_lackey,
-    *([real_lackey] if shutil.which("valgrind") else []),
+    real_lackey,
 ]
 
 
-def main(words):
-    if len(words) > 1:
-        raise SystemExit("usage: checks/run importing [PROGRAM]")
-    program = os.path.abspath(words[0] if words else os.path.join(TOP, "crates", "precopy", "out", "precopy"))
-    if not os.access(program, os.X_OK):
-        print(f"checks/importing: there is no program {program}; ./precopy builds it\n0 passed, 1 failed")
-        return 1
-    failed = 0
-    for case in CASES:
-        with tempfile.TemporaryDirectory() as folder:
-            try:
-                case(program, folder)
-                print(f"{case.__name__}: passed", flush=True)
-            except Exception as wrong:
-                failed += 1
-                told = str(wrong) if isinstance(wrong, AssertionError) else traceback.format_exc()
-                print(f"{case.__name__}: FAILED {told}", flush=True)
-    if real_lackey not in CASES:
-        print("valgrind is not on the path: what it tells of a process was not imported")
-    print(f"{len(CASES) - failed} passed, {failed} failed")
-    return 1 if failed or not CASES else 0
+def check(tally, given):
+    run_cases(tally, CASES, given.precopy, only=given.only)
 
 
 if __name__ == "__main__":
-    sys.exit(main(sys.argv[1:]))
+    run_main(check, __doc__, "precopy")

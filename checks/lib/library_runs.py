@@ -1,13 +1,11 @@
 """What the parts of checks/library share: commands, files of the repository, the program's answers."""
 
-import glob
 import os
 import subprocess
 
 from precopy_dev.tree import TOP
 
 LIBRARY = os.path.join(TOP, "out", "library")
-EXAMPLES = sorted(glob.glob(os.path.join(TOP, "examples", "*.pcwt")))
 SECONDS = 300
 
 

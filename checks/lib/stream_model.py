@@ -7,6 +7,8 @@ import bisect
 import struct
 from typing import Iterator, NamedTuple, Optional, Union
 
+from checks.lib.traces import Trace
+
 HEAD = 9
 
 
@@ -73,15 +75,11 @@ class Guest:
     """The pages of a trace that the library accepts."""
 
     def __init__(self, trace: bytes):
-        self.size = 1 << trace[5]
-        count, self.write_count = struct.unpack_from("<II", trace, 8)
-        self.pages = [Page(self.size) for _ in range(count)]
-        self.ticks, at = [], 16
-        for place in range(1, self.write_count + 1):
-            tick, page, offset, length = struct.unpack_from("<QIHH", trace, at)
-            self.ticks.append(tick)
-            self.pages[page].add(place, tick, offset, trace[at + 16 : at + 16 + length])
-            at += 16 + length
+        it = Trace(trace)
+        self.size, self.write_count, self.ticks = it.size, len(it.records), [tick for tick, _ in it.writes]
+        self.pages = [Page(self.size) for _ in range(it.pages)]
+        for place, (tick, page, offset, data) in enumerate(it.records, 1):
+            self.pages[page].add(place, tick, offset, data)
 
     def writes_before(self, tick: int) -> int:
         return bisect.bisect_left(self.ticks, tick)

@@ -1,52 +1,179 @@
-"""What the checks count, and how they get a command that a trial needs."""
+"""What checks count: cases that passed and that failed, those that were left out, and those that passed when they were
+tried again. A case is what somebody would name: a trace, a page of documents, a way to call a program.
+"""
 
+import contextlib
+import importlib
 import os
 import shutil
 import subprocess
+import sys
+import threading
+import traceback
 
 SECONDS_TO_INSTALL = 300
+# Of the expectations of one case that failed, so many are told.
+MOST_TOLD = 5
+TOOLS = os.path.join(os.path.dirname(os.path.abspath(__file__)), "tools.txt")
+# Where Debian's modules are, if python3 is another than Debian's.
+OF_DEBIAN = "/usr/lib/python3/dist-packages"
+# What this process left out, each with its reason.
+SKIPPED: list[tuple[str, str]] = []
+
+
+class Failure(Exception):
+    """What a check saw that it did not want."""
+
+
+class LeftOut(Failure):
+    """Why a case cannot be tried here."""
+
+
+class Late(Failure):
+    """Something was not in time, which other work on this machine may cause."""
+
+
+def expect(holds: object, told: object) -> None:
+    if not holds:
+        raise Failure(str(told))
+
+
+def expect_in_time(holds: object, told: object) -> None:
+    """The same of what hangs on a clock alone."""
+    if not holds:
+        raise Late(str(told))
+
+
+def left_out(what: str, why: object) -> None:
+    """Counts a case that cannot be tried here."""
+    SKIPPED.append((what, str(why)))
+    print(f"  SKIPPED {what}: {' '.join(str(why).split())}", flush=True)
+
+
+class Case:
+    """What was expected of a case, and what of it does not hold."""
+
+    def __init__(self):
+        self.tried, self.faults = 0, []
+
+    def add(self, good, told) -> bool:
+        self.tried += 1
+        if not good:
+            self.faults.append(str(told))
+        return bool(good)
 
 
 class Tally:
-    """How many trials passed and failed. A failure is reported at once."""
+    """How many cases passed and failed. A failure is reported at once; if the environment says so, it is the end."""
 
     def __init__(self):
-        self.passed, self.failed = 0, 0
+        self.passed, self.failed, self.flaky = 0, 0, []
+        self.lock = threading.Lock()
 
-    def add(self, good, told):
-        self.passed, self.failed = self.passed + bool(good), self.failed + (not good)
+    def add(self, good, told) -> bool:
+        """A case of one expectation."""
+        with self.lock:
+            self.passed, self.failed = self.passed + bool(good), self.failed + (not good)
         if not good:
             print(f"  FAILED {told}", flush=True)
+            if "CHECKS_END_EARLY" in os.environ:
+                print(self, flush=True)
+                raise SystemExit(1)
         return bool(good)
 
-    def add_all(self, other):
+    @contextlib.contextmanager
+    def case(self, name: str):
+        """A case of several expectations. It fails if one does not hold, if there is none, or by any exception."""
+        case = Case()
+        try:
+            yield case
+        except LeftOut as why:
+            left_out(name, why)
+            return
+        except Failure as wrong:
+            case.add(False, wrong)
+        except Exception:
+            case.add(False, traceback.format_exc())
+        if not case.tried:
+            case.add(False, "nothing was tried")
+        more = len(case.faults) - MOST_TOLD
+        told = [*case.faults[:MOST_TOLD], *([f"and {more} more"] if more > 0 else [])]
+        self.add(not case.faults, f"{name}: " + "\n    ".join(told))
+
+    def tries(self, name: str, act, *words) -> None:
+        """A case that raises what it does not want."""
+        with self.case(name) as case:
+            act(*words)
+            case.add(True, "")
+
+    def add_all(self, other: "Tally") -> None:
         self.passed, self.failed = self.passed + other.passed, self.failed + other.failed
+        self.flaky += other.flaky
 
-    def __str__(self):
-        return f"{self.passed} passed, {self.failed} failed"
-
-
-def left_out(what, why):
-    print(f"  left out: {what}, since {why}", flush=True)
+    def __str__(self) -> str:
+        return f"{self.passed} passed, {self.failed} failed" + (f", {len(SKIPPED)} skipped" if SKIPPED else "")
 
 
-def apt_get(*words):
+# ---- Tools that cases need.
+
+
+def tools() -> dict[str, list[str]]:
+    """The packages of Debian that have each tool, by the list of tools."""
+    with open(TOOLS, encoding="utf-8") as file:
+        lines = [line.split() for line in file if line.strip()]
+    return {name: packages for name, *packages in lines}
+
+
+def apt_get(*words: str) -> bool:
     environment = {**os.environ, "DEBIAN_FRONTEND": "noninteractive"}
     command = ["apt-get", "-q", "-o", "DPkg::Lock::Timeout=120", *words]
     how = {"stdin": subprocess.DEVNULL, "stdout": subprocess.DEVNULL, "stderr": subprocess.DEVNULL}
-    try:
+    with contextlib.suppress(subprocess.TimeoutExpired):
         return subprocess.run(command, env=environment, timeout=SECONDS_TO_INSTALL, **how).returncode == 0
-    except subprocess.TimeoutExpired:
-        return False
-
-
-def has(command, package, what):
-    """Whether a command is here, or could be installed. If not, it says that the trials of `what` are left out."""
-    if shutil.which(command):
-        return True
-    if os.geteuid() == 0 and shutil.which("apt-get"):
-        words = ("install", "-y", "--no-install-recommends", package)
-        if (apt_get(*words) or apt_get("update") and apt_get(*words)) and shutil.which(command):
-            return True
-    left_out(what, f"there is no {command}, and the package {package} could not be installed")
     return False
+
+
+def is_installed(packages: list[str]) -> bool:
+    """Whether packages could be installed."""
+    if os.geteuid() != 0 or not shutil.which("apt-get"):
+        return False
+    words = ("install", "-y", "--no-install-recommends", *packages)
+    return apt_get(*words) or (apt_get("update") and apt_get(*words))
+
+
+def why_not(command: str) -> str:
+    """Why a tool of the list is not here and could not be installed, or nothing."""
+    packages = tools()[command]
+    if shutil.which(command) or (is_installed(packages) and shutil.which(command)):
+        return ""
+    return f"there is no {command}, and {' '.join(packages)} could not be installed"
+
+
+def has(command: str, _package: str, what: str) -> bool:
+    """Whether a tool is here, or could be installed. If not, what needs it is left out."""
+    if why := why_not(command):
+        left_out(what, why)
+    return not why
+
+
+def need(*commands: str) -> None:
+    """Leaves the case out if a tool is not here and cannot be installed."""
+    for command in commands:
+        if why := why_not(command):
+            raise LeftOut(why)
+
+
+def module(name: str):
+    """A module of Debian. It leaves the case out if the module is not here and cannot be installed."""
+    with contextlib.suppress(ImportError):
+        return importlib.import_module(name)
+    package = f"python3-{name}"
+    if not os.path.isdir(os.path.join(OF_DEBIAN, name)) and not is_installed([package]):
+        raise LeftOut(f"there is no module {name}, and {package} could not be installed")
+    sys.path.append(OF_DEBIAN)
+    try:
+        return importlib.import_module(name)
+    except ImportError as fault:
+        raise LeftOut(f"the module {name} of {package} cannot be loaded: {fault}") from fault
+    finally:
+        sys.path.remove(OF_DEBIAN)

@@ -2,35 +2,27 @@
 
 import json
 import os
-import subprocess
+from fractions import Fraction
 
+from checks.lib.harness import run
+from checks.lib.tally import Failure, module
 from precopy_dev.tree import TOP
-
-try:
-    import jsonschema
-except ImportError:
-    jsonschema = None
 
 SECONDS = 60
 
 
-class Failure(Exception):
-    """What a check saw that it did not want."""
+def ran(program, words, trace):
+    with open(trace, "rb") as source:
+        done = run([program, *words], stdin=source, seconds=SECONDS)
+    return done.status, done.output.decode(), done.faults.decode()
 
 
 def told(program, words, trace):
     """Returns the text that a program writes over a trace."""
-    with open(trace, "rb") as source:
-        run = subprocess.run([program, *words], stdin=source, capture_output=True, timeout=SECONDS, check=False)
-    if run.returncode or run.stderr:
-        raise Failure(f"status {run.returncode}, {run.stderr[:200]!r}")
-    return run.stdout.decode()
-
-
-def ran(program, words, trace):
-    with open(trace, "rb") as source:
-        run = subprocess.run([program, *words], stdin=source, capture_output=True, timeout=SECONDS, check=False)
-    return run.returncode, run.stdout.decode(), run.stderr.decode()
+    status, text, faults = ran(program, words, trace)
+    if status or faults:
+        raise Failure(f"{words}: status {status}, {faults[:200]!r}")
+    return text
 
 
 # ---- The facts of the texts, under their own names.
@@ -72,34 +64,30 @@ def sweep_facts(text):
 
 
 def schema_of(name):
-    with open(os.path.join(TOP, "docs", f"view-{name}.schema.json"), encoding="utf-8") as file:
+    with open(os.path.join(TOP, "docs", f"{name}.schema.json"), encoding="utf-8") as file:
         return json.load(file)
 
 
-def keeps(schema, value, whole, place="document"):
-    """Tests a value by a part of a whole schema, by the words that the schemas use."""
+def is_ordered(schema, value, whole):
+    """Whether the members of all objects come in the order of their schema."""
     if "$ref" in schema:
         schema = whole["$defs"][schema["$ref"].rsplit("/", 1)[1]]
-    kinds = {"object": dict, "array": list, "integer": int, "number": float, "boolean": bool, "string": str}
-    kind = schema["type"]
-    if not isinstance(value, kinds[kind]) or (kind == "integer" and isinstance(value, bool)):
-        raise Failure(f"{place} is no {kind}")
-    if kind == "object":
-        known = [name for name in schema["properties"] if name in value]
-        if list(value) != known or set(schema["required"]) - set(known):
-            raise Failure(f"{place} has the members {list(value)}")
-        for name in known:
-            keeps(schema["properties"][name], value[name], whole, f"{place}.{name}")
-    elif kind == "array":
-        if len(value) < schema.get("minItems", 0):
-            raise Failure(f"{place} has too few items")
-        for number, item in enumerate(value):
-            keeps(schema["items"], item, whole, f"{place}[{number}]")
-    elif kind in ("integer", "number"):
-        if not schema["minimum"] <= value <= schema["maximum"]:
-            raise Failure(f"{place} is {value}")
-    elif "enum" in schema and value not in schema["enum"]:
-        raise Failure(f"{place} is {value}")
+    if isinstance(value, list):
+        return all(is_ordered(schema["items"], item, whole) for item in value)
+    if not isinstance(value, dict):
+        return True
+    names = [name for name in schema["properties"] if name in value]
+    return list(value) == names and all(is_ordered(schema["properties"][name], value[name], whole) for name in names)
+
+
+def keeps_schema(name, document):
+    """Tests a document by a schema of docs/."""
+    schema, jsonschema = schema_of(name), module("jsonschema")
+    fault = next(jsonschema.Draft202012Validator(schema).iter_errors(document), None)
+    if fault:
+        raise Failure(f"{fault.json_path}: {fault.message}")
+    if not is_ordered(schema, document, schema):
+        raise Failure(f"the document has its members in another order: {document}")
 
 
 def once(members):
@@ -109,11 +97,14 @@ def once(members):
     return dict(members)
 
 
-def document_of(name, text):
+def document_of(name, text, parse_float=float):
+    """The document of a command of precopy-view, which keeps its schema."""
     if text.count("\n") != 1 or not text.endswith("\n"):
         raise Failure("the document is not one line")
-    document = json.loads(text, object_pairs_hook=once)
-    keeps(schema_of(name), document, schema_of(name))
-    if jsonschema:
-        jsonschema.validate(document, schema_of(name))
-    return document
+    keeps_schema(f"view-{name}", json.loads(text, object_pairs_hook=once))
+    return json.loads(text, parse_float=parse_float)
+
+
+def parsed(name, text):
+    """The same, with its numbers as they are written."""
+    return document_of(name, text, Fraction)

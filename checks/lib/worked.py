@@ -1,15 +1,6 @@
 """The worked guest of docs/FORMATS.md, as bytes: its trace, and what comes of it, by hand."""
 
-import struct
-
-
-def header(pages, writes, shift=4, magic=b"PCWT", version=1, reserved=b"\0\0"):
-    return magic + bytes([version, shift]) + reserved + struct.pack("<II", pages, writes)
-
-
-def record(tick, page, offset, data, length=None):
-    return struct.pack("<QIHH", tick, page, offset, len(data) if length is None else length) + data
-
+from checks.lib.traces import header, record
 
 RECORDS = [
     record(0, 0, 0, b"\x01"),

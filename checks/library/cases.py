@@ -1,15 +1,19 @@
 """Cases of checks/library. The module precopy loads the library, so that is built before this is imported."""
 
 import os
-import random
 import re
 import shutil
 import sys
 
 import precopy
-from checks.lib import trace_bytes
-from checks.lib.library_runs import EXAMPLES, LIBRARY, is_done, program_says, read, run
+from checks.lib import migration_model
+from checks.lib import traces as all_traces
+from checks.lib.harness import draws
+from checks.lib.library_runs import LIBRARY, is_done, program_says, read, run
+from checks.lib.traces import EXAMPLES, Trace
+from checks.lib.view_texts import report_facts
 from checks.library import header, installs, places, python, rust, streams, traces
+from precopy_dev.models import redrawn
 from precopy_dev.tree import TOP
 from precopy_tools import version
 
@@ -131,6 +135,8 @@ def compare(tally, program, trace, settings, name):
     found = "".join(case_line(i, *it) for i, it in enumerate(zip(others, lines))) + f"best {best}\n"
     tally.add(found.encode() == wanted, f"{name}: sweep {found}, and the program {wanted!r}")
     report, lines = precopy.report(trace, settings), precopy.rounds(trace, settings)
+    model = migration_model.report_of(Trace(trace), settings_of(settings), settings.window, settings.hot)
+    tally.add(report_facts(report) == model, f"{name}: report {report}, and the model {model}")
     found = "".join(round_line(i, it) for i, it in enumerate(lines))
     tally.add(found in report and len(lines) == report.count("\nround "), f"{name}: rounds {found}, report {report}")
     sums = precopy.plan(trace, settings)
@@ -139,21 +145,29 @@ def compare(tally, program, trace, settings, name):
     tally.add(report.endswith(f"{ends}\n") and sums.rounds == len(lines), f"{name}: sums {sums}, report {report}")
     if len(trace) < 4096:
         for tick in (0, 1, sums.stop, settings.start):
-            found, wanted = precopy.memory_before(trace, tick), trace_bytes.memory_before(trace, tick)
+            found, wanted = precopy.memory_before(trace, tick), Trace(trace).memory(tick)
             tally.add(found == wanted, f"{name}: memory before tick {tick}")
+
+
+def settings_of(it):
+    """Settings as the model has them."""
+    numbers = it.min, it.max, it.increment, it.threshold, it.rounds, it.start
+    return redrawn.Settings(*numbers, bool(it.skip), it.base)
 
 
 def check_beside(tally, program):
     few = precopy.Settings(min=500, max=4000, threshold=10, window=1200, hot=3)
     for path in EXAMPLES:
         for settings in (precopy.Settings(), few, precopy.Settings(min=2, max=4, increment=1, threshold=1, rounds=8)):
-            compare(tally, program, read(path), settings, os.path.basename(path))
-    chosen = random.Random(50)
+            with tally.case(f"{os.path.basename(path)} with {settings}") as case:
+                compare(case, program, read(path), settings, os.path.basename(path))
+    chosen = draws("beside")
     for number in range(GENERATED):
-        trace = trace_bytes.generated(chosen)
+        trace = all_traces.generated(chosen)
         if number % 2:
-            trace = trace_bytes.damaged(chosen, trace)
-        compare(tally, program, trace, traces.settings(chosen), f"trace {number}")
+            trace = all_traces.damaged(chosen, trace)
+        with tally.case(f"trace {number} beside the program") as case:
+            compare(case, program, trace, traces.settings(chosen), f"trace {number}")
     # Where a plan stops the guest, a live run leaves what is written before that tick.
     for path in EXAMPLES:
         trace = read(path)
@@ -165,40 +179,30 @@ def check_beside(tally, program):
 def check_settings(tally, program):
     """Each setting at both ends of its range and one beyond them."""
     for name, low, high in traces.RANGES:
-        for value in {low, high, low - 1, high + 1} - {-1}:
-            settings = precopy.Settings(**{"min": 1, "max": 1_000_000, name: value})
-            try:
-                precopy.check_settings(settings)
-                found = ""
-            except precopy.SettingsRefused as refused:
-                found = f"precopy: {str(refused).split(':')[0]}"
-            wanted = program_says(program, ["report", *options_of(settings)], read(EXAMPLES[0]))
-            tally.add(found == (wanted if isinstance(wanted, str) else ""), f"{name} {value}: {found}, {wanted!r:.80}")
+        with tally.case(f"the ends of {name}") as case:
+            check_ends(case, program, name, {low, high, low - 1, high + 1} - {-1})
+
+
+def check_ends(tally, program, name, values):
+    for value in values:
+        settings = precopy.Settings(**{"min": 1, "max": 1_000_000, name: value})
+        try:
+            precopy.check_settings(settings)
+            found = ""
+        except precopy.SettingsRefused as refused:
+            found = f"precopy: {str(refused).split(':')[0]}"
+        wanted = program_says(program, ["report", *options_of(settings)], read(EXAMPLES[0]))
+        tally.add(found == (wanted if isinstance(wanted, str) else ""), f"{name} {value}: {found}, {wanted!r:.80}")
 
 
 # ---- Streams of frames.
 
 
 def check_streams(tally):
-    chosen = random.Random(51)
+    chosen = draws("streams of frames")
     for number in range(60):
-        sizes, frames = traces.frames(chosen)
-        wanted = traces.joined(sizes, frames)
-        flat = precopy.FlatMemory(sizes)
-        sent = frames * chosen.randint(1, 3)
-        chosen.shuffle(sent)
-        texts = [precopy.encode_frame(sizes, *frame) for frame in sent]
-        tally.add(all(traces.frame_text(*it) == text for it, text in zip(sent, texts)), f"stream {number}: encodings")
-        pieces, text = [], b"".join(texts)
-        while text:
-            length = chosen.randint(1, 60)
-            pieces, text = [*pieces, text[:length]], text[length:]
-        rest = b""
-        for piece in pieces:
-            rest += piece
-            rest = rest[traces.taken_of(flat, rest) :]
-        tally.add(not rest and traces.state(flat) == wanted, f"stream {number}: shuffled, repeated, in pieces")
-        tally.add(flat.missing() == traces.first_missing(sizes, wanted), f"stream {number}: missing {flat.missing()}")
+        with tally.case(f"stream {number}") as case:
+            check_stream(case, chosen, number)
     sizes, frames = traces.frames(chosen)
     text = b"".join(traces.frame_text(*frame) for frame in frames)
     ends = traces.ends_of(frames)
@@ -209,7 +213,29 @@ def check_streams(tally):
         good = good and traces.taken_of(flat, text[taken:]) == len(text) - taken
         tally.add(good and traces.state(flat) == traces.joined(sizes, frames), f"a stream cut at byte {cut}")
     for number in range(300):
-        check_damage(tally, chosen, number)
+        with tally.case(f"damage {number}") as case:
+            check_damage(case, chosen, number)
+
+
+def check_stream(tally, chosen, number):
+    """Frames that are shuffled, repeated, and come in pieces."""
+    sizes, frames = traces.frames(chosen)
+    wanted = traces.joined(sizes, frames)
+    flat = precopy.FlatMemory(sizes)
+    sent = frames * chosen.randint(1, 3)
+    chosen.shuffle(sent)
+    texts = [precopy.encode_frame(sizes, *frame) for frame in sent]
+    tally.add(all(traces.frame_text(*it) == text for it, text in zip(sent, texts)), f"stream {number}: encodings")
+    pieces, text = [], b"".join(texts)
+    while text:
+        length = chosen.randint(1, 60)
+        pieces, text = [*pieces, text[:length]], text[length:]
+    rest = b""
+    for piece in pieces:
+        rest += piece
+        rest = rest[traces.taken_of(flat, rest) :]
+    tally.add(not rest and traces.state(flat) == wanted, f"stream {number}: shuffled, repeated, in pieces")
+    tally.add(flat.missing() == traces.first_missing(sizes, wanted), f"stream {number}: missing {flat.missing()}")
 
 
 def check_damage(tally, chosen, number):
@@ -237,17 +263,17 @@ def check_damage(tally, chosen, number):
 def check_rows(tally, folder):
     """Worked examples of each function; null pointers with length 0, and the order of refusals."""
     for name in ("rows", "edges"):
-        built, source = os.path.join(folder, name), f"checks/{name}.c"
+        built, source = os.path.join(folder, name), f"checks/library/{name}.c"
         words = ["-std=c99", *WARNINGS, *SANITIZERS, f"-I{TOP}/include", "-o", built, f"{TOP}/{source}"]
         if is_done(tally, run("cc", *words, os.path.join(LIBRARY, "libprecopy.a")), f"{source} is compiled"):
-            count_in(tally, run(built), source)
+            expect_counts(tally, run(built), source)
 
 
-def count_in(tally, done, what):
-    """Adds the trials that a program counts in its last line."""
-    counts = re.search(rb"(\d+) passed, (\d+) failed\n$", done.stdout)
-    if is_done(tally, done, what) and tally.add(counts and int(counts[1]), f"{what}: nothing was tried"):
-        tally.passed += int(counts[1])
+def expect_counts(tally, done, what):
+    """A program that counts its trials in its last line has passed some, and failed none."""
+    counts = re.search(rb"(\d+) passed, 0 failed\n$", done.stdout)
+    good = done.returncode == 0 and counts and int(counts[1])
+    tally.add(good, f"{what}: status {done.returncode}, {(done.stdout + done.stderr).decode()[-1500:]}")
 
 
 def check_sanitized(tally, folder):
@@ -257,17 +283,18 @@ def check_sanitized(tally, folder):
     done = run("cc", *words, os.path.join(LIBRARY, "libprecopy.a"), *wrapped, "-pthread")
     if not is_done(tally, done, "checks/library/library.c is compiled with sanitizers"):
         return
-    chosen = random.Random(52)
+    chosen = draws("traces of library.c")
     path = os.path.join(folder, "trace.pcwt")
     for number in range(40):
         if number < len(EXAMPLES):
             shutil.copy(EXAMPLES[number], path)
         else:
-            trace = trace_bytes.generated(chosen)
+            trace = all_traces.generated(chosen)
             with open(path, "wb") as file:
-                file.write(trace_bytes.damaged(chosen, trace) if number % 4 == 0 else trace)
-        done = run(driver, path, str(chosen.choice([0, 5, 100, 2500])))
-        count_in(tally, done, f"checks/library/library.c, trace {number}")
+                file.write(all_traces.damaged(chosen, trace) if number % 4 == 0 else trace)
+        tick = str(chosen.choice([0, 5, 100, 2500]))
+        for fence in ("front", "behind"):
+            expect_counts(tally, run(driver, path, tick, fence), f"checks/library/library.c, trace {number}, {fence}")
 
 
 # ---- Examples and what the page on the library shows.
@@ -319,9 +346,20 @@ def check_page(tally, folder):
 
 def check(tally, folder, program):
     """All of it, in a folder that is empty."""
-    check_form(tally)
-    check_header(tally, folder)
-    header.check(tally, folder)
+    for name, part, *words in (
+        ("the form of the library", check_form),
+        ("the header", check_header, folder),
+        ("the example at the head of the header", header.check_example, folder),
+        ("the version of the header", header.check_version),
+        ("the bound of a report's length", header.check_bound, folder),
+        ("what a compiler tells", header.check_warnings, folder),
+        ("the examples in C", check_c, folder, program),
+        ("docs/LIBRARY.md", check_page, folder),
+        ("the library installed alone", installs.check_library_alone, folder),
+        ("the library installed by make", installs.check_make, folder),
+    ):
+        with tally.case(name) as case:
+            part(case, *words)
     check_settings(tally, program)
     check_beside(tally, program)
     check_streams(tally)
@@ -329,8 +367,5 @@ def check(tally, folder, program):
     places.check(tally)
     check_rows(tally, folder)
     check_sanitized(tally, folder)
-    check_c(tally, folder, program)
     python.check(tally, folder)
     rust.check(tally, folder, program)
-    check_page(tally, folder)
-    installs.check(tally, folder)

@@ -1,6 +1,6 @@
 /*
- * Buffers with a fence after them, for the checks of the library: one byte read or written there stops the program. In
- * front of them are bytes of one pattern.
+ * Buffers with a fence behind them or in front of them, for the checks of the library: one byte read or written there
+ * stops the program. On the other side are bytes of one pattern.
  */
 #include <stdint.h>
 #include <stdio.h>
@@ -17,39 +17,41 @@ struct room {
     size_t length;
     uint8_t *mapped;
     size_t whole;
+    uint8_t *begin; /* of what is inside the fence */
+    size_t inside;
 };
+
+/* Whether the fence is in front. */
+static int is_fence_in_front;
 
 static struct room fenced(size_t length) {
     size_t page = (size_t)sysconf(_SC_PAGESIZE);
     size_t inside = (length + FRONT + page - 1) / page * page;
     uint8_t *mapped = mmap(NULL, inside + page, PROT_READ | PROT_WRITE, MAP_PRIVATE | MAP_ANONYMOUS, -1, 0);
-    if (mapped == MAP_FAILED || mprotect(mapped + inside, page, PROT_NONE)) {
+    uint8_t *begin = mapped + (is_fence_in_front ? page : 0);
+    if (mapped == MAP_FAILED || mprotect(is_fence_in_front ? mapped : mapped + inside, page, PROT_NONE)) {
         perror("mmap");
         exit(3);
     }
-    memset(mapped, PATTERN, inside);
-    struct room room = {mapped + inside - length, length, mapped, inside + page};
+    memset(begin, PATTERN, inside);
+    uint8_t *at = is_fence_in_front ? begin : begin + inside - length;
+    struct room room = {at, length, mapped, inside + page, begin, inside};
     return room;
 }
 
 static struct room input_of(const void *bytes, size_t length) {
     struct room room = fenced(length);
     memcpy(room.at, bytes, length);
-    mprotect(room.mapped, room.whole - (size_t)sysconf(_SC_PAGESIZE), PROT_READ);
+    mprotect(room.begin, room.inside, PROT_READ);
     return room;
 }
 
 static void drop(struct room *room) { munmap(room->mapped, room->whole); }
 
-/* Whether the bytes in front of a buffer are untouched, and those from `from` on. */
+/* Whether the bytes beside a buffer are untouched, and those from `from` on. */
 static int is_untouched(const struct room *room, size_t from) {
-    for (const uint8_t *at = room->at - FRONT; at < room->at; at++) {
-        if (*at != PATTERN) {
-            return 0;
-        }
-    }
-    for (size_t i = from; i < room->length; i++) {
-        if (room->at[i] != PATTERN) {
+    for (const uint8_t *at = room->begin; at < room->begin + room->inside; at++) {
+        if (*at != PATTERN && (at < room->at || at >= room->at + from)) {
             return 0;
         }
     }

@@ -87,10 +87,3 @@ def check_warnings(tally, folder):
             done = run("cc", *words)
             good = wanted in done.stderr and done.returncode if wanted else done.returncode == 0
             tally.add(good, f"as {language}, {body}: {done.stderr.decode()}")
-
-
-def check(tally, folder):
-    check_example(tally, folder)
-    check_version(tally)
-    check_bound(tally, folder)
-    check_warnings(tally, folder)

@@ -5,7 +5,7 @@ import shutil
 import sys
 
 from checks.lib.library_runs import TOP, is_done, read, run
-from checks.lib.tally import left_out
+from checks.lib.tally import left_out, why_not
 from precopy_tools import version
 
 # What of the sources an installation of the library needs besides what is built: no program, and no crate.
@@ -21,7 +21,9 @@ def link_and_run(tally, folder, prefix):
     """What is below a prefix is enough to compile, link and run a program, by pkg-config if it is there."""
     library = os.path.join(prefix, "lib")
     flags = [f"-I{prefix}/include", f"-L{library}", "-lprecopy"]
-    if shutil.which("pkg-config"):
+    if why := why_not("pkg-config"):
+        left_out("what pkg-config tells of the library", why)
+    else:
         environment = {**os.environ, "PKG_CONFIG_PATH": f"{library}/pkgconfig"}
         told = run("pkg-config", "--cflags", "--libs", "precopy", env=environment).stdout.decode().split()
         tally.add(set(told) == set(flags), f"pkg-config tells {told}, not {flags}")
@@ -37,8 +39,8 @@ def link_and_run(tally, folder, prefix):
 
 def build_crate(tally, folder, prefix):
     """A program over the crate that is installed, which finds the library beside it."""
-    if not shutil.which("cargo"):
-        left_out("the installed crate", "there is no cargo")
+    if why := why_not("cargo"):
+        left_out("the installed crate", why)
         return
     source = os.path.join(folder, "a program")
     os.makedirs(f"{source}/src")
@@ -111,8 +113,3 @@ def check_make(tally, folder):
     tally.add("bin/precopy" in left and "include/precopy.h" not in left, "make uninstall-lib after make install")
     done = make("uninstall", f"PREFIX={prefix}")
     tally.add(done.returncode == 0 and not os.path.exists(prefix), f"make uninstall leaves {files_below(prefix)}")
-
-
-def check(tally, folder):
-    check_library_alone(tally, folder)
-    check_make(tally, folder)

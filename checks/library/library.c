@@ -1,12 +1,12 @@
 /*
  * Calls the library for C over one trace, for checks/library, from which it is compiled with the sanitizers.
  *
- *     library TRACE TICK
+ *     library TRACE TICK front|behind
  *
- * Each input lies in memory that cannot be written. Each buffer ends where memory ends, so that one byte read or
- * written after it stops the program, and has bytes of one pattern in front. malloc and realloc are wrapped: one of
- * them can be refused, and what is not given back is counted. It prints what is wrong, and at last how many trials
- * there were.
+ * Each input lies in memory that cannot be written. Each buffer begins or ends where memory does, so that one byte read
+ * or written in front of it, or behind it, stops the program; on the other side are bytes of one pattern. malloc and
+ * realloc are wrapped: one of them can be refused, and what is not given back is counted. It prints what is wrong, and
+ * at last how many trials there were.
  */
 #define _GNU_SOURCE
 #include "calls.h"
@@ -400,11 +400,12 @@ static void try_all(struct guest *guest, const struct precopy_sizes *sizes) {
 }
 
 int main(int argc, char **argv) {
-    FILE *file = argc == 3 ? fopen(argv[1], "rb") : NULL;
+    FILE *file = argc == 4 ? fopen(argv[1], "rb") : NULL;
     if (!file) {
-        fprintf(stderr, "usage: library TRACE TICK\n");
+        fprintf(stderr, "usage: library TRACE TICK front|behind\n");
         return 2;
     }
+    is_fence_in_front = strcmp(argv[3], "front") == 0;
     uint8_t *bytes = __real_malloc(((size_t)1 << 28) + 2);
     size_t length = fread(bytes, 1, ((size_t)1 << 28) + 2, file);
     fclose(file);

@@ -1,11 +1,10 @@
 """Versions and writes of pages, and memory that is brought on from place to place, over random traces. stream_model.py
 works them out from the bytes of the trace."""
 
-import random
-
 import precopy
 from checks.lib import stream_model
-from checks.library.traces import generated
+from checks.lib.harness import draws
+from checks.lib.traces import generated
 
 TRACES = 150
 NO_PAGE, BACKWARDS, NO_VERSION = 67, 68, 71
@@ -58,15 +57,19 @@ def check_steps(tally, trace, guest, chosen):
 
 
 def check(tally):
-    chosen = random.Random(55)
-    for _ in range(TRACES):
-        trace = generated(chosen)
-        guest = stream_model.Guest(trace)
-        numbers = range(len(guest.pages))
-        for number in chosen.sample(numbers, min(len(numbers), 5)):
-            check_page(tally, trace, guest, number, chosen)
-        check_steps(tally, trace, guest, chosen)
-        for number in (len(numbers), chosen.randrange(len(numbers), 1 << 32)):
-            found = [status_of(precopy.version_after, trace, number, 1), status_of(precopy.page_at, trace, number, 0)]
-            found.append(status_of(precopy.page_writes, trace, number))
-            tally.add(set(found) == {NO_PAGE}, f"page {number} of {len(numbers)}: {found}")
+    chosen = draws("places")
+    for number in range(TRACES):
+        with tally.case(f"places of trace {number}") as case:
+            check_trace(case, generated(chosen), chosen)
+
+
+def check_trace(tally, trace, chosen):
+    guest = stream_model.Guest(trace)
+    numbers = range(len(guest.pages))
+    for number in chosen.sample(numbers, min(len(numbers), 5)):
+        check_page(tally, trace, guest, number, chosen)
+    check_steps(tally, trace, guest, chosen)
+    for number in (len(numbers), chosen.randrange(len(numbers), 1 << 32)):
+        found = [status_of(precopy.version_after, trace, number, 1), status_of(precopy.page_at, trace, number, 0)]
+        found.append(status_of(precopy.page_writes, trace, number))
+        tally.add(set(found) == {NO_PAGE}, f"page {number} of {len(numbers)}: {found}")

@@ -6,7 +6,6 @@ import ctypes
 import mmap
 import os
 import pickle
-import random
 import shutil
 import subprocess
 import sys
@@ -15,8 +14,10 @@ import time
 import tracemalloc
 
 import precopy
-from checks.lib import trace_bytes
-from checks.lib.tally import left_out
+from checks.lib import traces as all_traces
+from checks.lib.harness import draws
+from checks.lib.tally import LeftOut
+from checks.lib.traces import header, record
 from checks.library import traces
 from precopy_dev.tree import TOP
 
@@ -104,20 +105,25 @@ class Index:
         return self.value
 
 
+def check_number(tally, name, call, low, high):
+    chosen = draws(name)
+    values = [*HOSTILE, low - 1, high + 1, low, high, *(chosen.getrandbits(70) for _ in range(10))]
+    for value in [*values, *(Index(value) for value in values)]:
+        found = outcome(call, value)
+        number = value.value if isinstance(value, Index) else value
+        wanted = {"answered"} if low <= number <= high else {"OverflowError", "Refused"}
+        tally.add(found in wanted, f"{name} {str(hex(number))[:40]}: {found}, not {wanted}")
+    for value in NO_NUMBERS:
+        found = outcome(call, value)
+        wanted = "answered" if value is None and name.endswith(OPTIONAL) else "TypeError"
+        tally.add(found == wanted, f"{name} {value!r}: {found}")
+
+
 def check_numbers(tally):
-    trace = trace_bytes.generated(random.Random(60))
+    trace = all_traces.generated(draws("numbers"))
     for name, call, (low, high) in taking_numbers(trace):
-        chosen = random.Random(name)
-        values = [*HOSTILE, low - 1, high + 1, low, high, *(chosen.getrandbits(70) for _ in range(10))]
-        for value in [*values, *(Index(value) for value in values)]:
-            found = outcome(call, value)
-            number = value.value if isinstance(value, Index) else value
-            wanted = {"answered"} if low <= number <= high else {"OverflowError", "Refused"}
-            tally.add(found in wanted, f"{name} {str(hex(number))[:40]}: {found}, not {wanted}")
-        for value in NO_NUMBERS:
-            found = outcome(call, value)
-            wanted = "answered" if value is None and name.endswith(OPTIONAL) else "TypeError"
-            tally.add(found == wanted, f"{name} {value!r}: {found}")
+        with tally.case(f"numbers in Python: {name}") as case:
+            check_number(case, name, call, low, high)
     good = precopy.memory_before(trace, 1 << 40) == precopy.memory(trace) == precopy.memory_before(trace, 1 << 63)
     tally.add(good, "memory before a tick after all writes")
 
@@ -175,20 +181,25 @@ def kinds_of(data, folder):
                 yield mapped
 
 
+def check_kinds(tally, name, data, call, folder):
+    wanted = call(data)
+    for kind in kinds_of(data, folder):
+        tally.add(call(kind) == wanted, f"{name} over {type(kind).__name__}")
+    for other in NO_BYTES:
+        tally.add(outcome(call, other) == "TypeError", f"{name} over {other!r}: {outcome(call, other)}")
+    found = outcome(call, memoryview(data)[::2])
+    tally.add(found == "BufferError", f"{name} over bytes that are not in one piece: {found}")
+
+
 def check_bytes(tally, folder):
-    chosen = random.Random(61)
+    chosen = draws("bytes")
     for number in range(20):
-        trace = trace_bytes.generated(chosen)
+        trace = all_traces.generated(chosen)
         frames = [(chosen.randrange(3), chosen.randrange(21), chosen.choice([bytes(16), PAGE])) for _ in range(5)]
         stream = b"".join(traces.frame_text(*frame) for frame in frames)
         for name, data, call in taking_bytes(trace, stream):
-            wanted = call(data)
-            for kind in kinds_of(data, folder):
-                tally.add(call(kind) == wanted, f"{name} over {type(kind).__name__}, trace {number}")
-            for other in NO_BYTES:
-                tally.add(outcome(call, other) == "TypeError", f"{name} over {other!r}: {outcome(call, other)}")
-            found = outcome(call, memoryview(data)[::2])
-            tally.add(found == "BufferError", f"{name} over bytes that are not in one piece: {found}")
+            with tally.case(f"bytes in Python: {name}, trace {number}") as case:
+                check_kinds(case, name, data, call, folder)
 
 
 def peak(call, *words):
@@ -204,8 +215,8 @@ def peak(call, *words):
 def check_copies(tally):
     """A long trace is not copied, nor is memory a second time, and a report is made once."""
     pages, size = 4096, 4096
-    head = trace_bytes.MAGIC + bytes([1, 12, 0, 0]) + pages.to_bytes(4, "little") + (2000).to_bytes(4, "little")
-    trace = head + b"".join(trace_bytes.record(tick, tick * 7 % pages, 0, b"\1" * size) for tick in range(2000))
+    writes = (record(tick, tick * 7 % pages, 0, b"\1" * size) for tick in range(2000))
+    trace = header(pages, 2000, 12) + b"".join(writes)
     settings, whole, small = precopy.Settings(), pages * size, 1 << 20
     for kind in (trace, bytearray(trace), memoryview(trace)):
         for call in (precopy.plan, precopy.rounds, precopy.report):
@@ -232,35 +243,37 @@ def check_copies(tally):
 def longest_reports():
     """Traces whose reports are long: each write, the shortest there is, has a window with a great number and a page."""
     for writes in (0, 1, 2, 70, 5000):
-        head = trace_bytes.MAGIC + bytes([2, 4, 0, 0]) + (1 << 16).to_bytes(4, "little") + writes.to_bytes(4, "little")
-        late = [(1 << 40) - 1 - writes + number for number in range(writes)]
-        yield head + b"".join(trace_bytes.record(tick, 65_535 - number, 0, b"") for number, tick in enumerate(late))
+        late = [((1 << 40) - 1 - writes + number, 65_535 - number) for number in range(writes)]
+        yield all_traces.made(1 << 16, late, version=2)
 
 
 # ---- Refusals and flat memory.
 
 
+def check_refusal(tally, trace, wanted):
+    for name, _, call in taking_bytes(trace, b""):
+        if name not in ("is_zero", "encode_frame", "decode_frame", "accept", "check_trace"):
+            try:
+                call(trace)
+                tally.add(False, f"{name} takes it")
+            except precopy.TraceRefused as found:
+                same = (found.status, found.record, str(found)) == (wanted.status, wanted.record, str(wanted))
+                tally.add(same, f"{name}: {found}, and check_trace {wanted}")
+    again = pickle.loads(pickle.dumps(wanted))
+    tally.add((type(again), vars(again), str(again)) == (type(wanted), vars(wanted), str(wanted)), f"{again!r}")
+
+
 def check_refusals(tally):
     """A refused record is named by each call over a trace, and a refusal goes from process to process."""
-    chosen, settings, named = random.Random(62), precopy.Settings(), 0
+    chosen, settings, named = draws("refusals"), precopy.Settings(), 0
     for number in range(200):
-        trace = trace_bytes.damaged(chosen, trace_bytes.generated(chosen))
+        trace = all_traces.damaged(chosen, all_traces.generated(chosen))
         try:
             precopy.check_trace(trace)
-            continue
         except precopy.TraceRefused as fault:
-            wanted = fault
-        named += wanted.record is not None
-        for name, _, call in taking_bytes(trace, b""):
-            if name not in ("is_zero", "encode_frame", "decode_frame", "accept", "check_trace"):
-                try:
-                    call(trace)
-                    tally.add(False, f"{name} takes damaged trace {number}")
-                except precopy.TraceRefused as found:
-                    same = (found.status, found.record, str(found)) == (wanted.status, wanted.record, str(wanted))
-                    tally.add(same, f"{name} of damaged trace {number}: {found}, and check_trace {wanted}")
-        again = pickle.loads(pickle.dumps(wanted))
-        tally.add((type(again), vars(again), str(again)) == (type(wanted), vars(wanted), str(wanted)), f"{again!r}")
+            named += fault.record is not None
+            with tally.case(f"damaged trace {number} in Python") as case:
+                check_refusal(case, trace, fault)
     tally.add(named > 20, f"only {named} damaged traces have a record that is named")
     tally.add(outcome(precopy.plan, b"", settings) == "Refused", "a trace without bytes")
     try:
@@ -272,7 +285,7 @@ def check_refusals(tally):
 
 def check_flat(tally):
     """Frames that stand in the memory that takes them, and threads that share one memory."""
-    chosen, frame = random.Random(63), precopy.encode_frame(SIZES, 0, 7, bytes(range(1, 17)))
+    chosen, frame = draws("flat"), precopy.encode_frame(SIZES, 0, 7, bytes(range(1, 17)))
     for number in range(100):
         sizes = precopy.Sizes(4, 6, 20)
         frames = [(chosen.randrange(6), chosen.randrange(21), chosen.randbytes(16)) for _ in range(3)]
@@ -334,8 +347,7 @@ def check_pip(tally, folder):
     fresh, packed = os.path.join(folder, "a venv"), os.path.join(folder, "packed")
     made = run(python, "-m", "venv", fresh)
     if made.returncode:
-        left_out("the module by pip", f"{python} makes no environment: {made.stdout.decode()[-200:]}")
-        return
+        raise LeftOut(f"{python} makes no environment: {made.stdout.decode()[-200:]}")
     shutil.copytree(f"{TOP}/bindings/python", packed, ignore=shutil.ignore_patterns("__pycache__"))
     pack = run(python, "-Bc", "import wheels; print(wheels.build_sdist('.'))", cwd=packed)
     tally.add(pack.returncode == 0, f"the sources are packed: {pack.stderr.decode()}")
@@ -360,7 +372,9 @@ def check_pip(tally, folder):
 def check(tally, folder):
     check_numbers(tally)
     check_bytes(tally, folder)
-    check_copies(tally)
+    with tally.case("no copies in Python") as case:
+        check_copies(case)
     check_refusals(tally)
     check_flat(tally)
-    check_pip(tally, folder)
+    with tally.case("the Python module by pip") as case:
+        check_pip(case, folder)

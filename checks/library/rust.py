@@ -2,14 +2,15 @@
 
 import dataclasses
 import os
-import random
 import re
 import shutil
 
 import precopy
-from checks.lib import trace_bytes
-from checks.lib.library_runs import EXAMPLES, LIBRARY, TOP, is_done, program_says, read, run
-from checks.lib.tally import left_out
+from checks.lib import traces as all_traces
+from checks.lib.harness import draws
+from checks.lib.library_runs import LIBRARY, TOP, is_done, program_says, read, run
+from checks.lib.tally import left_out, why_not
+from checks.lib.traces import EXAMPLES, Trace
 from checks.library import traces
 
 HEADER, CRATE = "include/precopy.h", "bindings/rust"
@@ -19,7 +20,7 @@ SOURCES = ("flat.rs", "lib.rs", "places.rs", "predictions.rs", "refusals.rs", "s
 def receive(tally, folder, path, trace):
     """The frames of a trace's memory, older ones too, dealt to three streams. The example in C takes them."""
     sizes = precopy.check_trace(trace)
-    chosen, paths = random.Random(53), [os.path.join(folder, f"stream{number}") for number in range(3)]
+    chosen, paths = draws(path), [os.path.join(folder, f"stream{number}") for number in range(3)]
     texts = []
     for memory, stamp in ((precopy.memory(trace), sizes.writes), (precopy.memory_before(trace, 9), 0)):
         for page in range(sizes.pages if sizes.writes or not stamp else 0):
@@ -102,8 +103,8 @@ def check_crate(tally, crate, target, environment):
     """The crate's own tests, its form, and its answers beside those of the Python module."""
     done = run("cargo", "test", "--offline", cwd=crate, env=environment)
     counts = [int(count) for count in re.findall(rb"test result: ok\. (\d+) passed; 0 failed", done.stdout)]
-    if is_done(tally, done, "the tests of bindings/rust") and tally.add(sum(counts) > 10, f"tests in Rust: {counts}"):
-        tally.passed += sum(counts)
+    if is_done(tally, done, "the tests of bindings/rust"):
+        tally.add(sum(counts) > 10, f"tests in Rust: {counts}")
     for words in (("fmt", "--check"), ("clippy", "--offline", "--all-targets", "--", "-D", "warnings")):
         if run("cargo", words[0], "--version").returncode:
             left_out(f"cargo {words[0]} of bindings/rust", "it is not installed")
@@ -113,10 +114,10 @@ def check_crate(tally, crate, target, environment):
     is_done(tally, run("cargo", "doc", "--offline", cwd=crate, env=warned), "cargo doc of bindings/rust")
     if not is_done(tally, run("cargo", "build", "--offline", "--examples", cwd=crate, env=environment), "answers.rs"):
         return
-    chosen = random.Random(54)
+    chosen = draws("answers.rs")
     for number in range(200):
-        trace, settings = trace_bytes.generated(chosen), traces.settings(chosen)
-        trace = trace_bytes.damaged(chosen, trace) if number % 3 == 0 else trace
+        trace, settings = all_traces.generated(chosen), traces.settings(chosen)
+        trace = all_traces.damaged(chosen, trace) if number % 3 == 0 else trace
         if number % 10 == 9:
             settings = dataclasses.replace(settings, rounds=chosen.choice([0, 65, (1 << 64) - 1]))
         base = "-" if settings.base is None else settings.base
@@ -136,9 +137,7 @@ def check_example(tally, folder, source, target, environment, program):
         done = run(built, input=trace)
         tally.add(done.stdout == program_says(program, ["report"], trace), f"examples/rust of {path}: {done.stderr!r}")
         done = run(built, "memory", "2000", input=trace)
-        tally.add(
-            done.stdout == trace_bytes.memory_before(trace, 2000), f"examples/rust of {path}, memory: {done.stderr!r}"
-        )
+        tally.add(done.stdout == Trace(trace).memory(2000), f"examples/rust of {path}, memory: {done.stderr!r}")
         words, stream = receive(tally, folder, path, trace)
         done = run(built, "receive", *words, input=stream)
         wanted = program_says(program, ["image"], trace)
@@ -150,9 +149,10 @@ def check_example(tally, folder, source, target, environment, program):
 
 
 def check(tally, folder, program):
-    check_statuses(tally)
-    if not shutil.which("cargo"):
-        left_out("the crate for Rust and its example", "there is no cargo")
+    with tally.case("the statuses and calls of the crate") as case:
+        check_statuses(case)
+    if why := why_not("cargo"):
+        left_out("the crate for Rust and its example", why)
         return
     # In copies, as a build writes among sources.
     copies, target = os.path.join(folder, "rust"), os.path.join(folder, "target")

@@ -2,16 +2,15 @@
 tool over it, tools/check, tells worked examples."""
 
 import collections
-import itertools
 import os
-import random
 import tempfile
 import time
 
 import precopy
 from checks.lib import stream_model, stream_rows
+from checks.lib.harness import draws
 from checks.lib.library_runs import TOP, run
-from checks.library.traces import generated
+from checks.lib.traces import generated, header, record
 
 TRIALS = 2000
 HEAD = 9
@@ -222,11 +221,9 @@ def check_tool(tally, folder):
 
 def check_speed(tally):
     """The check beside `accept`, over streams of a guest that was written all over."""
-    chosen, shift, pages, writes = random.Random(54), 12, 4096, 20000
-    text = b"PCWT" + bytes([1, shift, 0, 0]) + pages.to_bytes(4, "little") + writes.to_bytes(4, "little")
-    for tick in range(writes):
-        head = tick.to_bytes(8, "little") + chosen.randrange(pages).to_bytes(4, "little")
-        text += head + (0).to_bytes(2, "little") + (8).to_bytes(2, "little") + chosen.randbytes(8)
+    chosen, pages, writes = draws("speed"), 4096, 20000
+    drawn = (record(tick, chosen.randrange(pages), 0, chosen.randbytes(8)) for tick in range(writes))
+    text = header(pages, writes, 12) + b"".join(drawn)
     guest = stream_model.Guest(text)
     stream = b"".join(
         frame(page, stamp, content_of(guest, page, stamp))
@@ -248,14 +245,16 @@ def check_speed(tally):
 
 
 def check(tally):
-    chosen, planted = random.Random(53), collections.Counter()
-    for number in itertools.count():
-        if name := trial(chosen, tally, number):
-            planted[name] += 1
-        if planted.total() == TRIALS:
-            break
+    chosen, planted, number = draws("mistakes"), collections.Counter(), 0
+    while planted.total() < TRIALS:
+        with tally.case(f"streams {number}") as case:
+            if name := trial(chosen, case, number):
+                planted[name] += 1
+        number += 1
     tally.add(len(planted) == len(MISTAKES), f"of the mistakes only {sorted(planted)} were planted")
-    print(f"mistakes in streams of {number + 1} traces: {dict(planted)}", flush=True)
+    print(f"mistakes in streams of {number} traces: {dict(planted)}", flush=True)
     with tempfile.TemporaryDirectory() as folder:
-        check_tool(tally, folder)
-    check_speed(tally)
+        with tally.case("tools/check") as case:
+            check_tool(case, folder)
+    with tally.case("the check of streams beside accept") as case:
+        check_speed(case)

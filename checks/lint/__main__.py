@@ -2,17 +2,16 @@
 
     checks/run lint
 
-The tools are those of TOOLS. One that is missing and cannot be installed is left out with a line. The last line is 'N
-passed, M failed'; the status is 0 if something was tried and nothing failed.
+The tools are those of TOOLS. One that is missing and cannot be installed is left out. A tool is a case.
 """
 
 import os
 import re
 import subprocess
-import sys
 from collections.abc import Callable, Iterator
 
-from checks.lib.tally import Tally, has
+from checks.lib.harness import run_main
+from checks.lib.tally import has
 from precopy_dev.tree import TOP
 
 # Headers whose layout is by hand: a line for each status and field, with what it means.
@@ -58,16 +57,13 @@ TOOLS = (
 )
 
 
-def main() -> int:
-    tally = Tally()
+def check(tally, _) -> None:
     for command, package, words, files in TOOLS:
         if has(command, package, "its rules"):
             done = subprocess.run([command, *words, *files()], cwd=TOP, capture_output=True, text=True)
             told = (done.stdout + done.stderr)[-3000:]
             tally.add(done.returncode == 0, f"{command}:\n{told}")
-    print(tally)
-    return 0 if tally.passed and not tally.failed else 1
 
 
 if __name__ == "__main__":
-    sys.exit(main())
+    run_main(check, __doc__)

@@ -1,33 +1,30 @@
 """Asks the same questions at each door of a prediction, and compares the answers to the last digit.
 
-    checks/run predictions [--seed N] [VIEW [MODULE]]
+    checks/run predictions [--seed N] [--module MODULE] [PRECOPY_VIEW]
 
-VIEW is crates/precopy_view/out/precopy_view of this repository if none is given, and MODULE out/browser_planner.wasm,
-which `make page` builds. 136 random questions are about eight traces, and 64 about four records. They are asked of
-precopy-view, in lines and in JSON, of the page's module, if Node is there, of the library in C and in Python, if `make
-lib` has built it, and those about records of tools/predict. All must answer what a plain model does, which plans page
-by page: verdict, time, bytes, downtime, their standard errors, what is enough for the limit, and the words for
-hypervisors; and refuse what it refuses. The last line is 'N passed, M failed'; the status is 0 if something was tried
-and nothing failed.
+MODULE is out/browser_planner.wasm, which `make page` builds, if none is given. 136 random questions are about eight
+traces, and 64 about four records. They are asked of precopy-view, in lines and in JSON, of the page's module, if Node
+is there, of the library in C and in Python, if `make lib` has built it, and those about records of tools/predict. All
+must answer what a plain model does, which plans page by page, in all that they tell, or refuse by the same words or
+number. At most a fifth is refused, and of each verdict there are a number. A question at a door is a case.
 """
 
-import argparse
 import collections
 import concurrent.futures
 import itertools
 import os
-import sys
 import tempfile
 
-from checks.lib.tally import Tally, left_out
+from checks.lib.harness import expect, left_out, run_main, seed
+from checks.lib.migration_model import answer_of
 from checks.page.node import node_command, put_web
 from checks.predictions import questions
 from checks.predictions.doors import DOORS, Programs, asker, compare
-from checks.predictions.model import answer_of
 from checks.predictions.questions import Asked
 from precopy_dev.tree import TOP
 
-LEAST, FEW, AT_ONCE = 15, 6, 4
+LEAST = {"yes": 30, "no": 10, "unknown": 10, "refused": 4}
+FEW, AT_ONCE = 6, 4
 
 
 def tried(programs: Programs, some: list[Asked]) -> tuple[list[str], list[str]]:
@@ -38,6 +35,10 @@ def tried(programs: Programs, some: list[Asked]) -> tuple[list[str], list[str]]:
     return [answer.kept if answer else "refused" for answer in answers], found
 
 
+def path_of(asked: Asked) -> str:
+    return asked.trace.path
+
+
 def by_trace(asked: list[Asked]) -> list[list[Asked]]:
     """The questions about each trace, in lists of a few."""
     groups = itertools.groupby(sorted(asked, key=path_of), key=path_of)
@@ -45,41 +46,40 @@ def by_trace(asked: list[Asked]) -> list[list[Asked]]:
     return [group[at : at + FEW] for group in some for at in range(0, len(group), FEW)]
 
 
-def path_of(asked: Asked) -> str:
-    return asked.trace.path
-
-
 def programs_of(folder: str, view: str, module: str) -> Programs:
     """The programs; says which doors are not there."""
     web = put_web(folder, "predictions.mjs")
-    programs = Programs(os.path.abspath(view), os.path.abspath(module), web, node_command(), asker(folder))
+    programs = Programs(view, os.path.abspath(module), web, node_command(), asker(folder))
     for door in DOORS:
         if lacking := door.lacking(programs):
-            left_out(door.name, lacking)
+            left_out(f"questions at {door.name}", lacking)
     return programs
 
 
-def main() -> int:
-    parser = argparse.ArgumentParser(description=__doc__, formatter_class=argparse.RawDescriptionHelpFormatter)
-    parser.add_argument("--seed", type=int, default=64, metavar="N")
-    parser.add_argument("view", nargs="?", default=os.path.join(TOP, "crates", "precopy_view", "out", "precopy_view"))
-    parser.add_argument("module", nargs="?", default=os.path.join(TOP, "out", "browser_planner.wasm"))
-    options = parser.parse_args()
-    tally, verdicts = Tally(), collections.Counter()
+def expect_each(verdicts: collections.Counter) -> None:
+    told = ", ".join(f"{verdict} {count}" for verdict, count in sorted(verdicts.items()))
+    expect(all(verdicts[verdict] >= least for verdict, least in LEAST.items()), f"fewer than {LEAST}: {told}")
+    expect(5 * verdicts["refused"] <= verdicts.total(), f"more than a fifth is refused: {told}")
+    print(f"{verdicts.total()} questions: {told}")
+
+
+def check(tally, given):
+    seed()
+    verdicts = collections.Counter()
     with tempfile.TemporaryDirectory() as folder, concurrent.futures.ProcessPoolExecutor(AT_ONCE) as pool:
-        asked = questions.all_asked(folder, options.seed)
-        programs = programs_of(folder, options.view, options.module)
+        asked = questions.all_asked(folder)
+        programs = programs_of(folder, given.precopy_view, given.module)
         groups = by_trace(asked)
         for told, found in pool.map(tried, [programs] * len(groups), groups):
             verdicts.update(told)
             for fault in found:
                 tally.add(not fault, fault)
-    told = ", ".join(f"{verdict} {count}" for verdict, count in sorted(verdicts.items()))
-    print(f"{len(asked)} questions: {told}")
-    tally.add(len(verdicts) == 4 and min(verdicts.values()) >= LEAST, f"each verdict {LEAST} times: {told}")
-    print(tally)
-    return 0 if tally.passed and not tally.failed else 1
+    tally.tries("verdicts", expect_each, verdicts)
+
+
+def more(parser):
+    parser.add_argument("--module", default=os.path.join(TOP, "out", "browser_planner.wasm"), help="the page's module")
 
 
 if __name__ == "__main__":
-    sys.exit(main())
+    run_main(check, __doc__, "precopy_view", more=more)

@@ -6,33 +6,31 @@ import json
 import os
 import shutil
 import subprocess
-from fractions import Fraction
+import traceback
 from typing import NamedTuple, Optional
 
 from checks.lib.host_words import host_lines
+from checks.lib.migration_model import STATUSES, Answer, Refusal, Starts, all_lines, document_of, lines_of
 from checks.lib.remedy_model import Remedies, enough_lines, found_of
-from checks.lib.view_texts import Failure, ran
-from checks.predictions.model import Answer, document_of, lines_of
+from checks.lib.tally import Failure
+from checks.lib.view_texts import parsed, ran
 from checks.predictions.questions import Asked
 from precopy_dev.tree import TOP
 from precopy_tools.predict import command
 
 LIBRARY = os.path.join(TOP, "out", "library")
-STATUSES = {"yes": 0, "no": 3, "unknown": 4}
-REFUSED = (1, 2)
-# The statuses of the library for a question that is out of its range, or that is not about such a trace.
-QUESTION_REFUSED = (*range(21, 31), *range(81, 90))
-KINDS = (
-    "converges: ",
-    "total time: ",
-    "sent: ",
-    "downtime: ",
-    "standard errors: ",
-    "warning: ",
-    "enough: ",
-    "QEMU: ",
-    "libvirt: ",
+# Lines of tools/predict that are its own, and not those of precopy-view.
+OF_TOOL = (
+    "taken: ",
+    "guest: ",
+    "sample: ",
+    "link: ",
+    "at half the link: ",
+    "at twice the link: ",
+    "a plan takes no longer limit",
 )
+# Members of answers of the library that say once more what others say.
+TWICE = ("size", "stop", "down", "total", "has_errors")
 
 
 class Programs(NamedTuple):
@@ -50,6 +48,8 @@ class Door:
     """A door: what it answers to a question, and what it should answer by the model. Refused is None."""
 
     name = ""
+    # Which of several things that are wrong is told.
+    is_of_library = True
 
     def __init__(self, programs: Programs):
         self.programs = programs
@@ -73,36 +73,40 @@ class Door:
     def wanted(self, asked: Asked, answer: Answer) -> object:
         raise NotImplementedError
 
+    def refused(self, asked: Asked, refusal: Refusal) -> object:
+        """What is told of a question that is refused: the status of the library."""
+        return refusal.number
+
 
 class Lines(Door):
-    """The program's lines and its status. Those of which the model knows nothing are left out."""
+    """The program's lines and its status."""
 
     name = "precopy-view predict"
+    is_of_library = False
 
     def told(self, asked: Asked) -> object:
         status, text, faults = ran(self.programs.view, ["predict", *asked.question.words()], asked.trace.path)
-        return answered(status, faults) and [status, *known(text.splitlines())]
+        return [status, text, faults]
 
     def wanted(self, asked: Asked, answer: Answer) -> object:
-        return [
-            STATUSES[answer.kept],
-            *lines_of(asked.question, answer),
-            *enough_lines(answer.enough),
-            *host_lines(asked.question.link, asked.question.millis_for_pages()),
-        ]
+        lines = all_lines(asked.question, answer, asked.trace)
+        return [STATUSES[answer.kept], "".join(f"{line}\n" for line in lines), ""]
+
+    def refused(self, asked: Asked, refusal: Refusal) -> object:
+        return refusal.of_view()
 
 
-class Document(Door):
-    """The program's JSON. Members of which the model knows nothing are left out."""
+class Document(Lines):
+    """The program's JSON, which keeps its schema."""
 
     name = "precopy-view json predict"
 
     def told(self, asked: Asked) -> object:
         status, text, faults = ran(self.programs.view, ["json", "predict", *asked.question.words()], asked.trace.path)
-        return answered(status, faults) and [status, json.loads(text, parse_float=Fraction)]
+        return [status, parsed("predict", text) if text else "", faults]
 
     def wanted(self, asked: Asked, answer: Answer) -> object:
-        return [STATUSES[answer.kept], document_of(asked.question, answer)]
+        return [STATUSES[answer.kept], document_of(asked.question, answer, asked.trace), ""]
 
 
 class Tool(Door):
@@ -121,16 +125,25 @@ class Tool(Door):
         printed, faults = io.StringIO(), io.StringIO()
         with contextlib.redirect_stdout(printed), contextlib.redirect_stderr(faults):
             status = self.tool.main([*asked.words, "--program", self.programs.view])
-        lines = known(printed.getvalue().splitlines())
-        return answered(status, faults.getvalue()) and [status, *lines]
+        lines = [line for line in printed.getvalue().splitlines() if not line.startswith(OF_TOOL)]
+        return [status, lines, faults.getvalue()]
 
     def wanted(self, asked: Asked, answer: Answer) -> object:
         """If the downtime is cut to what a plan takes, there is no word for a hypervisor."""
         question = asked.question
         is_whole = f"--downtime={question.downtime}us" in asked.words
         hosts = host_lines(question.link, question.millis_for_pages()) if is_whole else []
-        lines = lines_of(asked.question, answer) + enough_lines(answer.enough)
-        return [STATUSES[answer.kept], *lines, *hosts]
+        ranges = Starts(question, asked.trace).lines()
+        lines = [*lines_of(question, answer), *ranges, *enough_lines(answer.enough), *hosts]
+        return [STATUSES[answer.kept], lines, ""]
+
+    def refused(self, asked: Asked, refusal: Refusal) -> object:
+        """The tool tells of the rate before it asks."""
+        it = asked.question
+        rate = it.link * it.tick * it.sampled / (1000 * it.page * it.guest)
+        told = f"{rate:.3g} pages of it in 1,000 ticks, and a plan has 1 to 1,000,000"
+        speed = "slow" if rate < 1 else "fast"
+        return [1, [], f"predict: a link of {it.link:,} bytes a second is too {speed} for this sample: {told}\n"]
 
 
 class Page(Door):
@@ -154,7 +167,7 @@ class Page(Door):
         done = subprocess.run(command, input=json.dumps(questions), capture_output=True, text=True, check=False)
         if done.returncode:
             raise Failure(done.stderr[-300:])
-        return [None if "refusal" in found else found for found in json.loads(done.stdout)]
+        return [found.get("refusal", found) for found in json.loads(done.stdout)]
 
     def wanted(self, asked: Asked, answer: Answer) -> object:
         """Large numbers are words."""
@@ -209,12 +222,12 @@ class Python(Library):
         question = precopy.Question(**vars(asked.question))
         try:
             it = precopy.predict(trace, question)
-        except (precopy.QuestionRefused, precopy.SettingsRefused):
-            return None
+        except (precopy.QuestionRefused, precopy.SettingsRefused) as refused:
+            return refused.status
         errors = it.errors and (it.errors.bytes, it.errors.time, it.errors.downtime)
         words = {name: getattr(it, name).name.lower() for name in ("reason", "converges", "kept")}
         known = {"errors": errors if words["kept"] != "unknown" else None}
-        return {**vars(it), **words, **known, "enough": vars(precopy.enough(trace, question))}
+        return without({**vars(it), **words, **known, "enough": vars(precopy.enough(trace, question))})
 
 
 class C(Library):
@@ -250,9 +263,7 @@ class C(Library):
         """What a line of the program tells: twelve numbers, four of standard errors and seven of what is enough, or a
         status."""
         if len(numbers) == 1:
-            if numbers[0] in QUESTION_REFUSED:
-                return None
-            raise Failure(f"status {numbers[0]}")
+            return numbers[0]
         found = dict(zip(self.ANSWER.split(), numbers))
         verdicts = {name: ("yes", "no", "unknown")[found[name]] for name in ("converges", "kept")}
         has_errors = numbers[15] and verdicts["kept"] != "unknown"
@@ -260,7 +271,7 @@ class C(Library):
         given = zip(self.AMOUNTS, numbers[16:19], numbers[19:22])
         enough = {name: amount if has else None for name, amount, has in given} | {"is_kept": numbers[22] != 0}
         reason = ("few", "fast", "rounds")[found["reason"]]
-        return {**found, **verdicts, "reason": reason, "errors": errors, "enough": enough}
+        return without({**found, **verdicts, "reason": reason, "errors": errors, "enough": enough})
 
 
 DOORS = [Lines, Document, Tool, Page, C, Python]
@@ -283,41 +294,22 @@ def amounts_of(found: Remedies) -> dict[str, Optional[int]]:
     return {"link": found.link and 125 * found.link, "downtime": found.downtime, "speed": found.speed}
 
 
-def answered(status: int, faults: str) -> Optional[bool]:
-    """Whether there is an answer; None if the question is refused, in words."""
-    if status in REFUSED and faults:
-        return None
-    if status in REFUSED or faults:
-        raise Failure(f"status {status}, {faults!r}")
-    return True
-
-
-def known(lines: list[str]) -> list[str]:
-    """The lines that the model tells too."""
-    return [line for line in lines if line.startswith(KINDS)]
-
-
-def only(found: object, wanted: object) -> object:
-    """What is found, without members that are not wanted."""
-    if isinstance(found, dict) and isinstance(wanted, dict):
-        return {name: only(found[name], wanted[name]) for name in wanted if name in found}
-    if isinstance(found, list) and isinstance(wanted, list):
-        return [only(*pair) for pair in zip(found, wanted)] if len(found) == len(wanted) else found
-    return found
+def without(members: dict) -> dict:
+    return {name: it for name, it in members.items() if name not in TWICE}
 
 
 def difference(door: Door, asked: Asked, found: object, answer: Optional[Answer]) -> str:
     """What differs at a door from what should be told, or nothing."""
-    wanted = answer and door.wanted(asked, answer)
-    found = only(found, wanted)
+    refusal = asked.question.refusal(asked.trace, door.is_of_library)
+    wanted = door.refused(asked, refusal) if refusal else door.wanted(asked, answer)
     return "" if found == wanted else f"{asked}, at {door.name}: {found} in place of {wanted}"
 
 
 def compare(door: Door, some: list[Asked], answers: list[Optional[Answer]]) -> list[str]:
-    """The differences at a door, of each of some questions about one trace that can be asked there."""
+    """What differs at a door, of each of some questions about one trace that can be asked there."""
     pairs = [(asked, answer) for asked, answer in zip(some, answers) if door.is_asked(asked)]
     try:
         told = door.all_told([asked for asked, _ in pairs]) if pairs else []
-    except (Failure, OSError, ValueError) as fault:
-        return [f"{asked}, at {door.name}: {fault}" for asked, _ in pairs]
-    return [difference(door, asked, found, answer) for (asked, answer), found in zip(pairs, told)]
+        return [difference(door, asked, found, answer) for (asked, answer), found in zip(pairs, told, strict=True)]
+    except Exception:
+        return [f"{asked}, at {door.name}: {traceback.format_exc()}" for asked, _ in pairs]

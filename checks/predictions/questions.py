@@ -1,6 +1,6 @@
 """Random questions for checks/predictions, over traces and records whose shapes come from elsewhere.
 
-Traces are examples, or from `page_shapes` and `trace_bytes`. Records are an example, one of tools/thin, and traces
+Traces are examples, or from `page_shapes` and `traces`. Records are an example, one of tools/thin, and traces
 of `page_shapes` with a NAME.json of random numbers.
 """
 
@@ -14,9 +14,12 @@ from dataclasses import replace
 from fractions import Fraction
 from typing import NamedTuple, Optional
 
-from checks.lib import trace_bytes
+from checks.lib import traces
+from checks.lib.harness import draws
+from checks.lib.migration_model import Question
+from checks.lib.traces import Trace
 from checks.page import shapes as page_shapes
-from checks.predictions.model import Question, Trace, in_longer_ticks, trace_in
+from checks.predictions.model import in_longer_ticks
 from precopy_dev.tree import TOP
 from precopy_tools.formats import samples
 
@@ -53,20 +56,17 @@ def is_fit(text: bytes) -> bool:
     return writes >= LEAST_WRITES and pages <= MOST_PAGES
 
 
-def shapes_of(seed: int) -> list[bytes]:
+def shapes(folder: str) -> list[str]:
     """Traces of random shapes, without the corners, which are first."""
-    return page_shapes.shapes(100, seed)[len(page_shapes.corners()) :]
-
-
-def shapes(folder: str, seed: int) -> list[str]:
-    found = filter(is_fit, shapes_of(seed))
+    drawn_shapes = page_shapes.shapes(100, draws("shapes").getrandbits(32))[len(page_shapes.corners()) :]
+    found = filter(is_fit, drawn_shapes)
     return [put(folder, f"shape-{number}.pcwt", text) for number, text in zip(range(SHAPES), found)]
 
 
-def small(folder: str, seed: int) -> list[str]:
+def small(folder: str) -> list[str]:
     """Two small traces in both versions of the format."""
-    chosen = random.Random(seed)
-    found = filter(is_fit, (trace_bytes.generated(chosen) for _ in range(100)))
+    chosen = draws("small")
+    found = filter(is_fit, (traces.generated(chosen) for _ in range(100)))
     return [put(folder, f"small-{number}.pcwt", text) for number, text in zip(range(2), found)]
 
 
@@ -80,10 +80,10 @@ def thinned(folder: str) -> str:
 
 def recorded(draw: random.Random, path: str) -> str:
     """Writes a NAME.json of random numbers beside a trace, which is a record then."""
-    trace = trace_in(path)
+    trace = Trace.at(path)
     with open(path, "rb") as file:
         text = file.read()
-    pages = len(trace.guest)
+    pages = trace.pages
     sampled = draw.randrange(pages, 2 * pages + 1)
     guest = sampled * draw.choice([1, draw.randrange(1, 300)])
     last, tick = trace.last + draw.choice([0, draw.randrange(2_000)]), draw.choice([0.0001, 0.001, 0.001, 0.02])
@@ -118,7 +118,7 @@ def recorded(draw: random.Random, path: str) -> str:
 
 def drawn(draw: random.Random, trace: Trace) -> Question:
     """A question about a trace, most of the time one that is not refused."""
-    pages, sampled = len(trace.guest), len(trace.guest)
+    pages, sampled = trace.pages, trace.pages
     if draw.randrange(2):
         sampled = draw.randrange(max(1, pages - draw.choice([0] * 9 + [1])), 2 * pages + 2)
     guest = sampled * draw.choice([1, draw.randrange(1, 50), draw.randrange(1, 10_000)]) + draw.choice([0, 0, 17])
@@ -144,7 +144,7 @@ def drawn(draw: random.Random, trace: Trace) -> Question:
 
 def limited(draw: random.Random, asked: Question, trace: Trace) -> Question:
     """With a link that moves all pages in about the time of the trace or less, and a downtime for some of them."""
-    pages = len(trace.guest)
+    pages = trace.pages
     rate = min(1_010_000, max(1.2, 1_000 * pages / (trace.last + 1) * 10 ** draw.uniform(-0.3, 2)))
     link = max(1, math.ceil(rate * 1_000 * asked.page * asked.guest / asked.sampled / asked.tick / 125)) * 125
     most = max(1, asked.rate(link))
@@ -165,19 +165,19 @@ def of_record(draw: random.Random, folder: str, trace: Trace, told: dict) -> Ask
         later = draw.randrange(1, 2 + length // 2)
         asked, words = replace(asked, start=later), [*words, f"--start={later * tick}us"]
     longer, writes = in_longer_ticks(asked, told, trace)
-    text = page_shapes.trace(trace.size.bit_length() - 1, len(trace.guest), [(*write, 1) for write in writes])
+    text = page_shapes.trace(trace.size.bit_length() - 1, trace.pages, [(*write, 1) for write in writes])
     name = f"{os.path.basename(trace.path)}-{longer.tick}.pcwt"
-    return Asked(longer, trace_in(put(folder, name, text)), words)
+    return Asked(longer, Trace.at(put(folder, name, text)), words)
 
 
-def all_asked(folder: str, seed: int) -> list[Asked]:
+def all_asked(folder: str) -> list[Asked]:
     """The questions about eight traces, and those about four records."""
-    draw, made = random.Random(f"questions {seed}"), shapes(folder, seed)
-    paths = [os.path.join(EXAMPLES, name) for name in ("gzip.pcwt", "released.pcwt")] + small(folder, seed) + made[:4]
-    found = [Asked(drawn(draw, trace), trace) for trace in map(trace_in, paths) for _ in range(OF_TRACE)]
+    draw, made = draws("questions"), shapes(folder)
+    paths = [os.path.join(EXAMPLES, name) for name in ("gzip.pcwt", "released.pcwt")] + small(folder) + made[:4]
+    found = [Asked(drawn(draw, trace), trace) for trace in map(Trace.at, paths) for _ in range(OF_TRACE)]
     records = [os.path.join(EXAMPLES, "guests", "sqlite.light.pcwt"), thinned(folder)]
     for path in records + [recorded(draw, path) for path in made[4:]]:
         with open(samples.path_beside(path), encoding="utf-8") as file:
-            trace, told = trace_in(path), json.load(file)
+            trace, told = Trace.at(path), json.load(file)
         found += [of_record(draw, folder, trace, told) for _ in range(OF_RECORD)]
     return found

@@ -1,14 +1,14 @@
 """Records a process that writes known pages at a known pace, and looks at the traces that tools/record makes.
 
-    checks/run recording [PROGRAM [VIEW]]
+    checks/run recording [--seed N] [--only CASE] [PRECOPY [PRECOPY_VIEW]]
 
-PROGRAM is crates/precopy/out/precopy of this repository if none is given, and VIEW its precopy-view. The former makes
-the image of each trace, which must be the memory that was recorded; the latter plans. The process that writes is
-checks/recording/known_writes.py. The last line is 'N passed, M failed'; the status is 0 if something was tried and
-nothing failed. It takes two to five minutes. If the kernel reports no writes, or root is needed for it, cases that need
-them are left out, and a line says so.
+precopy makes the image of each trace, which must be the memory that was recorded; precopy-view plans. The process that
+writes is checks/recording/known_writes.py. It takes two to five minutes. If the kernel reports no writes, or root is
+needed for it, cases that need them are left out. A case in which something was late beside others is tried once
+more, alone.
 """
 
+import functools
 import json
 import os
 import pty
@@ -18,27 +18,20 @@ import signal
 import socket
 import subprocess
 import sys
-import tempfile
 import threading
 import time
-import traceback
-from concurrent.futures import ThreadPoolExecutor
 
+from checks.lib.harness import expect, run_cases, run_main
+from checks.lib.tally import LeftOut, expect_in_time
+from checks.lib.traces import Trace
 from checks.recording import compare_cases, forecast_cases, memory_cases, sample_cases, scan_cases, series_cases
 from checks.recording.known_writes import LATER_PAGES, PACE, PAGE, PAGES, STEPS, ended, step
-from checks.recording.recorder_runs import (
-    RECORD,
-    TOP,
-    Recording,
-    Writing,
-    expect,
-    expect_nothing,
-    expect_whole,
-    recorded,
-)
+from checks.recording.recorder_runs import RECORD, TOP, Recording, Writing, expect_nothing, expect_whole, recorded
 
-# A change may be this much later or earlier in the trace than it was written, besides the interval of samples.
-SLACK = 300
+# The ticks by which the recorder's clock may begin earlier than is known here, and by which a look may be late.
+SLACK, LATE = 300, 60
+# Looks that see no step: the first one, and some before the steps and after them.
+IDLE_LOOKS = 6
 AT_ONCE = 4
 
 
@@ -54,16 +47,27 @@ def a_file(program, folder):
     pages = sorted(record[1] for record in behind)
     expect(pages == sorted(step(n)[0] for n in range(STEPS)), f"other pages than written: {pages}")
     ticks = {record[1]: record[0] for record in behind}
-    for number, written in enumerate(writing.times):
-        early = 1000 + 1000 * (written - recording.known_begin)
-        tick = ticks[step(number)[0]]
-        expect(early - SLACK <= tick <= early + 50 + SLACK, f"step {number} of tick {early:.0f} stands at {tick}")
+    known = [1000 + 1000 * (written - recording.known_begin) for written in writing.times]
+    looks = int(re.search(r"(\d+) samples", recording.output)[1])
+    expect_times(known, [ticks[step(number)[0]] for number in range(STEPS)], looks)
     planned = re.search(r"^plan: (--start .*)$", recording.output, re.M)[1]
     expect(planned == "--start 1000 --threshold 205 --min 2048 --max 2048 --inc 0", planned)
     with open(recording.trace_path, "rb") as file:
         report = subprocess.run([program, "report", *planned.split()], stdin=file, capture_output=True, text=True)
     expect(report.returncode == 0 and "round 0 from 1000 to 1047 rate 2048" in report.stdout, report.stdout)
     expect("not seen" in recording.output and "of a processor" in recording.output, recording.output)
+
+
+def expect_times(known, found, looks):
+    """Each change stands at the first look after it: not before it was written, and behind no look that could have seen
+    it. All may be apart by one shift, since the recorder's clock is not known exactly."""
+    ticks = sorted(set(found))
+    expect_in_time(len(ticks) >= looks - IDLE_LOOKS, f"the steps stand at {len(ticks)} ticks of {looks} looks")
+    before = dict(zip(ticks, [1000, *ticks]))
+    least = max(before[tick] - written for written, tick in zip(known, found)) - LATE
+    most = min(tick - written for written, tick in zip(known, found)) + LATE
+    told = f"written at {[round(it) for it in known]}, found at {found}"
+    expect_in_time(max(least, -SLACK) <= min(most, SLACK), f"shifts from {least:.0f} to {most:.0f}: {told}")
 
 
 def a_file_compact(program, folder):
@@ -124,7 +128,7 @@ def signal_in_the_middle(program, folder, number=signal.SIGINT):
         time.sleep(STEPS * PACE / 2)
         recording.end(number)
     _, behind = expect_whole(program, recording)
-    expect(0 < len(behind) < STEPS, f"{len(behind)} of {STEPS} steps")
+    expect_in_time(0 < len(behind) < STEPS, f"{len(behind)} of {STEPS} steps")
 
 
 def terminated_in_the_middle(program, folder):
@@ -138,7 +142,7 @@ def given_length(program, folder):
         recording.end()
     trace, _ = expect_whole(program, recording)
     last = int(re.search(r"ticks 0 to (\d+)", recording.output)[1])
-    expect(4000 <= last < 4000 + 10 * SLACK, f"300 ms end at tick {last} of 100 us")
+    expect_in_time(4000 <= last < 4000 + 10 * SLACK, f"300 ms end at tick {last} of 100 us")
     expect(trace.writes > 0, "nothing was recorded")
 
 
@@ -207,7 +211,7 @@ def limited(program, folder, option, most, said, *words):
         recording.end()
     trace, behind = expect_whole(program, recording, 3)
     expect(said in recording.faults, recording.faults)
-    expect(0 < len(behind) < STEPS, f"{len(behind)} of {STEPS} steps")
+    expect_in_time(0 < len(behind) < STEPS, f"{len(behind)} of {STEPS} steps")
     return trace
 
 
@@ -307,13 +311,18 @@ def bad_sources(_, folder):
 
 # ---- A stand-in for QEMU's machine protocol.
 
+# Where in a page the stand-in counts.
+COUNTED = 4090
+
 
 class Machine(threading.Thread):
-    """Serves a number of connections on a socket, and notes each command."""
+    """Serves a number of connections on a socket, and notes each command. With each `stop` and `cont` the memory of the
+    guest changes at once: a byte of each page counts them."""
 
-    def __init__(self, path, running, connections=2):
+    def __init__(self, path, memory, running, connections=2):
         super().__init__(daemon=True)
         self.asked, self.running, self.connections = [], running, connections
+        self.memory, self.turns = memory, 0
         self.socket = socket.socket(socket.AF_UNIX)
         self.socket.bind(path)
         self.socket.listen()
@@ -334,10 +343,17 @@ class Machine(threading.Thread):
             answer = {"running": self.running}
         elif command in ("stop", "cont"):
             self.running = command == "cont"
+            self.turn()
             self.say(stream, {"event": command.upper()})
         if command != "qmp_capabilities":
             self.asked.append(command)
         self.say(stream, {"return": answer})
+
+    def turn(self):
+        self.turns += 1
+        with open(self.memory, "r+b", buffering=0) as file:
+            for page in range(PAGES):
+                os.pwrite(file.fileno(), bytes([self.turns]), page * PAGE + COUNTED)
 
     @staticmethod
     def say(stream, message):
@@ -345,16 +361,27 @@ class Machine(threading.Thread):
         stream.flush()
 
 
+def counted(memory):
+    """The counts that stand in the pages of a memory, without those that were zero from the first on."""
+    return {memory[page * PAGE + COUNTED] for page in range(PAGES)}
+
+
 def paused(program, folder, running=True, connections=2):
+    """The first and the last look see the guest while it is paused, and it runs in between."""
     path = os.path.join(folder, "socket")
-    machine = Machine(path, running, connections)
     with Writing(folder, False) as writing:
-        recording = Recording(folder, writing.source, ["--qmp", path, "--for", "200ms"])
+        before = counted(ended(0))
+        machine = Machine(path, writing.path, running, connections)
+        recording = Recording(folder, writing.source, ["--qmp", path, "--for", "300ms"])
         recording.end()
     expect_whole(program, recording)
     once = ["query-status", "stop", "cont"] if running else ["query-status"]
     expect(machine.asked == once * connections, f"asked: {machine.asked}")
     expect(machine.running == running, "the guest's state is another one than before")
+    first = counted(Trace.at(recording.trace_path).memory(1000))
+    expect(first == ({1} if running else before), f"the first look sees the counts {first}")
+    last = counted(recording.image())
+    expect(last == ({2 * connections - 1 if connections > 1 else 2} if running else before), f"the last look: {last}")
     return recording
 
 
@@ -399,41 +426,23 @@ CASES = [
 ]
 
 
-def tried(program, case):
-    """None if the case passes, else what was wrong."""
-    with tempfile.TemporaryDirectory() as folder:
-        try:
-            case(program, folder)
-        except AssertionError as wrong:
-            return str(wrong)
-        except Exception:
-            return traceback.format_exc()
-    return None
-
-
-def main(words):
-    if len(words) > 2:
-        raise SystemExit("usage: checks/run recording [PROGRAM [VIEW]]")
-    program = os.path.abspath(words[0] if words else os.path.join(TOP, "crates", "precopy", "out", "precopy"))
-    forecast_cases.VIEW[:] = words[1:] or forecast_cases.VIEW
-    for path in (program, forecast_cases.VIEW[0]):
-        if not os.access(path, os.X_OK):
-            print(f"checks/recording: there is no program {path}; ./precopy and ./precopy-view build them")
-            print("0 passed, 1 failed")
-            return 1
-    failed, cause = 0, sample_cases.cause_of_no_writes()
+def check(tally, given):
+    forecast_cases.VIEW[:] = [given.precopy_view]
     parts = sample_cases, memory_cases, series_cases, scan_cases
-    need_writes = set().union(*(part.NEED_WRITES for part in parts))
-    cases = [case for case in CASES if not cause or case not in need_writes]
-    if cause:
-        print(f"{len(CASES) - len(cases)} cases are left out, since writes cannot be followed here: {cause}")
-    with ThreadPoolExecutor(AT_ONCE) as pool:
-        for case, wrong in zip(cases, pool.map(lambda case: tried(program, case), cases)):
-            failed += wrong is not None
-            print(f"{case.__name__}: {'passed' if wrong is None else 'FAILED ' + wrong}", flush=True)
-    print(f"{len(cases) - failed} passed, {failed} failed")
-    return 1 if failed or not cases else 0
+    need_writes, cause = set().union(*(part.NEED_WRITES for part in parts)), sample_cases.cause_of_no_writes()
+
+    def case_of(case):
+        """The case, or one that is left out since the kernel reports no writes."""
+
+        @functools.wraps(case)
+        def instead(*_):
+            raise LeftOut(f"writes cannot be followed here: {cause}")
+
+        return instead if cause and case in need_writes else case
+
+    cases = list(map(case_of, CASES))
+    run_cases(tally, cases, given.precopy, at_once=AT_ONCE, only=given.only)
 
 
 if __name__ == "__main__":
-    sys.exit(main(sys.argv[1:]))
+    run_main(check, __doc__, "precopy", "precopy_view")

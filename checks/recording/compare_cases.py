@@ -1,11 +1,12 @@
 """Cases of checks/recording: the words of tools/compare-qemu, and what it gives to QEMU; without QEMU."""
 
 import os
-import random
 import subprocess
 import sys
 
-from checks.recording.recorder_runs import SECONDS, TOP, expect
+from checks.lib import harness
+from checks.lib.harness import expect
+from checks.recording.recorder_runs import SECONDS, TOP
 from precopy_tools.qemu import guest, migration
 
 COMPARE = os.path.join(TOP, "tools", "compare-qemu")
@@ -15,7 +16,7 @@ PAGE = 4096
 def nodes_of_any_size(_, __):
     """Each node has whole pages, as many as asked but for a few, and a size at which QEMU 7.2 loses none."""
     for seed in range(500):
-        draws = random.Random(seed)
+        draws = harness.draws(f"nodes {seed}")
         memory, count = draws.randrange(1 << 27, 1 << 37), draws.randrange(1, 9)
         nodes = guest.nodes_of(memory, count)
         expect(len(nodes) == count and all(size % PAGE == 0 and size % guest.UNSAFE for size in nodes), f"{nodes}")

@@ -10,8 +10,10 @@ import subprocess
 import xml.etree.ElementTree
 from concurrent.futures import ThreadPoolExecutor
 
+from checks.lib import harness
 from checks.lib.amount_texts import size_text, time_text
-from checks.recording.recorder_runs import SECONDS, TOP, expect
+from checks.lib.harness import expect
+from checks.recording.recorder_runs import SECONDS, TOP
 from precopy_tools import places, refusals
 from precopy_tools.formats import samples, traces
 from precopy_tools.predict import day_chart, forecast, plans
@@ -145,7 +147,7 @@ def damaged_beside_tools(_, folder):
 
 def refused_traces(_, folder):
     """A trace that is damaged at random is refused by file, name and cause, or it has another SHA-256."""
-    path, draws = os.path.join(folder, "guest.pcwt"), random.Random(7)
+    path, draws = os.path.join(folder, "guest.pcwt"), harness.draws("damages")
     made_trace(os.path.join(folder, "whole.pcwt"), pages=64, ticks=200)
     run_thin(os.path.join(folder, "whole.pcwt"), path, "--one-in", "1", "--start", "1000")
     with open(path, "rb") as file:
@@ -192,7 +194,7 @@ def thinned_pages(_, folder):
         ([whole, os.path.join(folder, "a.light.pcwt"), "--one-in", "2"], 2, ".light.pcwt"),
         ([whole, os.path.join(folder, "a.pcwt")], 2, "--one-in"),
         ([whole, os.path.join(folder, "none", "a.pcwt"), "--one-in", "2"], 1, "No such file"),
-        ([text, os.path.join(folder, "a.pcwt"), "--one-in", "2"], 1, f"{text}: E2: it does not begin as a trace"),
+        ([text, os.path.join(folder, "a.pcwt"), "--one-in", "2"], 1, f"{text}: E2: it does not begin with PCWT"),
     ):
         _, refused = run_thin(*words, status=status)
         expect(said in refused, refused)
@@ -449,7 +451,7 @@ def pictures_of_any_starts(_, folder):
     """Whatever the costs are, the picture is well formed, and no dot is outside of its panel."""
     path = os.path.join(folder, "any.svg")
     for seed in range(200):
-        draws = random.Random(seed)
+        draws = harness.draws(f"pictures {seed}")
         begin = datetime.datetime.fromtimestamp(1_800_000_000 + draws.random() * 1e8, datetime.timezone.utc)
         span = draws.choice((0, 1, 50, 4000, 86_399, 86_400, 900_000))
         starts = [

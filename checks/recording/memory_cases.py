@@ -2,7 +2,7 @@
 
 import json
 import os
-import random
+import shutil
 import signal
 import socket
 import stat
@@ -13,9 +13,12 @@ import threading
 import time
 import uuid
 
+from checks.lib import harness
 from checks.lib.amount_texts import size_text
+from checks.lib.harness import expect
+from checks.lib.tally import expect_in_time
 from checks.recording import known_guest
-from checks.recording.recorder_runs import RECORD, SECONDS, TOP, expect, read_until_recording
+from checks.recording.recorder_runs import RECORD, SECONDS, TOP, read_until_recording
 from checks.recording.sample_runs import Drawn
 from precopy_tools.formats import samples, traces
 from precopy_tools.qemu import qmp
@@ -110,7 +113,7 @@ def expect_recorded(folder, source, known, *said, **more):
 def asked_by_monitor(_, folder):
     """Layouts at random, also after memory was plugged in: exactly the nodes are recorded."""
     for seed in range(LAYOUTS):
-        draws = random.Random(seed)
+        draws = harness.draws(f"layout {seed}")
         with Known(folder, layout_of(draws)) as known:
             if draws.random() < 0.5:
                 known.ask("plug")
@@ -169,7 +172,7 @@ def plugged_in_meanwhile(_, folder):
 def never_the_guest(_, folder):
     """All nodes may be the guest's memory; code, stacks, and the data of libraries never are."""
     for seed in range(LAYOUTS):
-        with Known(folder, layout_of(random.Random(f"words {seed}"))) as known:
+        with Known(folder, layout_of(harness.draws(f"words {seed}"))) as known:
             taken = []
 
             def overlap(begin, end):
@@ -296,7 +299,7 @@ def lying_monitors(_, __):
     refused = right = other = 0
     for seed in range(MUTATIONS):
         try:
-            ranges = guest_memory.checked(os.getpid(), guest_memory.asked(Lying(guest, random.Random(seed))))
+            ranges = guest_memory.checked(os.getpid(), guest_memory.asked(Lying(guest, harness.draws(f"lies {seed}"))))
         except (qmp.Fault, ValueError) as fault:
             refused += 1
             expect(str(fault).strip(), f"seed {seed}: refused without a word")
@@ -372,7 +375,7 @@ def hostile_sockets(_, folder):
         except qmp.Fault as fault:
             said = str(fault)
         expect(said, f"{name}: not refused")
-        expect(time.monotonic() - begun < 5, f"{name}: {time.monotonic() - begun:.1f} s")
+        expect_in_time(time.monotonic() - begun < 5, f"{name}: {time.monotonic() - begun:.1f} s")
         os.unlink(path)
         if says is not None and not isinstance(says, tuple):
             hostile_server(path, says)
@@ -386,7 +389,7 @@ def hostile_sockets(_, folder):
 
 def guests_that_end(_, folder):
     """Killed at any moment while it is asked and recorded: a whole trace, or none and words."""
-    draws, statuses = random.Random(66), set()
+    draws, statuses = harness.draws("ends"), set()
     for number in range(KILLED):
         with Known(folder, layout_of(draws)) as known:
             timer = threading.Timer(draws.uniform(0, 0.9), known.process.kill)
@@ -417,12 +420,21 @@ def virsh_in(folder, known, identity, garbled=False):
     with open(path, "w", encoding="utf-8") as file:
         file.write(text)
     os.chmod(path, stat.S_IRWXU)
-    return {**os.environ, "PATH": programs, "PYTHONDONTWRITEBYTECODE": "1"}
+    return {**os.environ, "PATH": f"{programs}:{without_virsh(folder)}", "PYTHONDONTWRITEBYTECODE": "1"}
+
+
+def without_virsh(folder):
+    """A folder for a path on which there is what a tool begins with, and nothing else."""
+    links = tempfile.mkdtemp(prefix="programs", dir=folder)
+    for name in ("sh", "dirname", "readlink", "python3"):
+        found = sys.executable if name == "python3" else shutil.which(name)
+        os.symlink(os.path.realpath(found), os.path.join(links, name))
+    return links
 
 
 def asked_by_domain(_, folder):
     identity = uuid.uuid4()
-    with Known(folder, layout_of(random.Random(7)), "-uuid", str(identity)) as known:
+    with Known(folder, layout_of(harness.draws("domain")), "-uuid", str(identity)) as known:
         known.ask("plug")
         environment = virsh_in(folder, known, identity)
         expect_recorded(folder, ["--domain", "known"], known, "memory: dimm, ", "left out: ", env=environment)
@@ -431,7 +443,7 @@ def asked_by_domain(_, folder):
             ("known", "is it running, on this host?", virsh_in(folder, known, uuid.uuid4())),
             ("known", "no UUID", virsh_in(folder, known, "nothing")),
             ("known", "no JSON: 'no JSON", virsh_in(folder, known, identity, garbled=True)),
-            ("known", "libvirt-clients has it", {**environment, "PATH": folder}),
+            ("known", "libvirt-clients has it", {**environment, "PATH": without_virsh(folder)}),
         ):
             drawn = Drawn(folder, ["--domain", name], ["--pages", "9"], env=other)
             drawn.end()

@@ -8,6 +8,7 @@ import subprocess
 import sys
 import time
 
+from checks.lib.harness import expect
 from checks.recording.known_writes import PAGE, PAGES
 from precopy_dev.tree import TOP
 from precopy_tools.formats import traces
@@ -59,7 +60,7 @@ def read_until_recording(lines):
     return began
 
 
-class Run:
+class Started:
     """One run of a recorder into a folder, from its first sample on."""
 
     def __init__(self, folder, words, path, errors=subprocess.PIPE, **more):
@@ -79,7 +80,7 @@ class Run:
         self.output, self.status = self.began + rest, self.process.returncode
 
 
-class Recording(Run):
+class Recording(Started):
     """A run of tools/record that writes all of a trace."""
 
     def __init__(self, folder, source, words, name="guest.pcwt", errors=subprocess.PIPE):
@@ -105,11 +106,6 @@ class Recording(Run):
                 expect(first == len(found), f"the map goes on at page {first} after {len(found)} pages")
                 found += range(place, place + count * PAGE, PAGE)
         return found
-
-
-def expect(holds, told):
-    if not holds:
-        raise AssertionError(told)
 
 
 def expect_whole(program, recording, status=0):

@@ -1,7 +1,6 @@
 """Cases of checks/recording: recordings of drawn pages, by writes and by values, and what may go wrong with them."""
 
 import os
-import random
 import resource
 import signal
 import subprocess
@@ -9,7 +8,9 @@ import sys
 import tempfile
 import time
 
-from checks.recording.recorder_runs import RECORD, expect
+from checks.lib import harness
+from checks.lib.harness import expect
+from checks.recording.recorder_runs import RECORD
 from checks.recording.sample_runs import PAGE, PAGES, Drawn, Pages
 from precopy_tools.formats import samples
 from precopy_tools.record import mappings
@@ -65,7 +66,7 @@ def exact(folder, kind, pages_of_it, wanted, method="writes", words=(), tool=REC
         places = drawn_places(pages, wanted, 5)
         words = ["--pages", str(wanted), "--seed", "5", "--by", method, *words]
         drawn = Drawn(folder, pages.source, words, tool=tool)
-        steps = written_again(drawn, pages, places, random.Random(kind))
+        steps = written_again(drawn, pages, places, harness.draws(kind))
         drawn.end(signal.SIGINT)
         pages.expect_as_before()
     _, _, sample = drawn.expect_whole()
@@ -140,7 +141,7 @@ def mapped_anew(_, folder, tool=RECORD):
 
 def killed_recorder(_, folder):
     """Killed at any moment, the process goes on as it was, and there is no trace."""
-    draws = random.Random(47)
+    draws = harness.draws("kills")
     with Pages("private") as pages:
         for _ in range(30):
             command = [RECORD, *pages.source, "--by", "writes", os.path.join(folder, "a.light.pcwt")]

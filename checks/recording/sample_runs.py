@@ -5,7 +5,8 @@ import subprocess
 import sys
 import time
 
-from checks.recording.recorder_runs import RECORD, SECONDS, TOP, Run, Watched, expect
+from checks.lib.harness import expect
+from checks.recording.recorder_runs import RECORD, SECONDS, TOP, Started, Watched
 from precopy_tools.formats import samples, traces
 
 PAGE = 4096
@@ -58,7 +59,7 @@ class Pages(Watched):
             return sum(int(line.split()[1]) << 10 for line in lines if line.startswith("AnonHugePages"))
 
 
-class Drawn(Run):
+class Drawn(Started):
     """A run of tools/record over drawn pages."""
 
     def __init__(self, folder, source, words=(), cause=None, tool=RECORD, **more):

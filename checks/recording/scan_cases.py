@@ -2,12 +2,14 @@
 
 import errno
 import os
-import random
 import shutil
 import subprocess
 import sys
 
-from checks.recording.recorder_runs import SECONDS, TOP, expect
+from checks.lib import harness
+from checks.lib.harness import expect
+from checks.lib.tally import need
+from checks.recording.recorder_runs import SECONDS, TOP
 from checks.recording.sample_cases import exact, mapped_anew
 from checks.recording.sample_runs import PAGE, PAGES, Pages
 from precopy_dev.packaging import contents
@@ -28,8 +30,9 @@ def tools_with(folder, library):
 
 
 def built():
-    """The library, or None if there is no C compiler."""
-    return contents.scan_library() if shutil.which(os.environ.get("CC", "cc")) else None
+    """The library. Without a C compiler the case is left out."""
+    need("cc")
+    return contents.scan_library()
 
 
 def is_used(tool):
@@ -42,27 +45,23 @@ def is_used(tool):
 def looks_in_machine_code(_, folder):
     """With the library no write is missed and none is false, also of memory that is mapped anew."""
     library = built()
-    if library is None:
-        print("  there is no C compiler: the library of looks is not tried", flush=True)
-        return
     tool = tools_with(folder, library)
     expect(is_used(tool), "the library is not used")
     for kind, pages, wanted in (("private", PAGES, 16_384), ("shared", PAGES, 16_384), ("huge", 1 << 14, 200)):
         exact(folder, kind, pages, wanted, tool=tool)
     for name in ("guest.light.pcwt", "guest.light.json", "map"):
         os.unlink(os.path.join(folder, name))
-    shutil.move(os.path.dirname(tool), os.path.join(os.path.dirname(folder), f"{os.path.basename(folder)}.tools"))
-    tool = os.path.join(os.path.dirname(folder), f"{os.path.basename(folder)}.tools", "record")
+    moved = f"{folder}.tools"
+    shutil.move(os.path.join(folder, "memory"), moved)
     try:
-        os.rmdir(os.path.join(folder, "memory"))
-        mapped_anew(None, folder, tool)
+        mapped_anew(None, folder, os.path.join(moved, "tools", "record"))
     finally:
-        shutil.rmtree(os.path.dirname(tool))
+        shutil.rmtree(moved)
 
 
 def looks_with_a_bad_library(_, folder):
     """A library that is for another machine, or damaged, is left alone."""
-    draws, library = random.Random(4), built() or b"\x7fELF" + bytes(99)
+    draws, library = harness.draws("libraries"), built()
     bad = [b"", draws.randbytes(4000), library[:200], library[:18] + b"\xb7" + library[19:]]
     for number, each in enumerate(bad):
         tool = tools_with(os.path.join(folder, str(number)), each)
@@ -74,8 +73,6 @@ def looks_with_a_bad_library(_, folder):
 def same_by_both(_, folder):
     """Looks with the library and without it tell the pages that were written, also after a look that failed."""
     library = built()
-    if library is None:
-        return
     path = os.path.join(folder, "scan.so")
     with open(path, "wb") as file:
         file.write(library)
@@ -83,7 +80,7 @@ def same_by_both(_, folder):
     call, scans.PATHS = scans.library(), before
     expect(call is not None, "the library cannot be loaded")
     for seed in range(SEEDS):
-        draws = random.Random(seed)
+        draws = harness.draws(f"looks {seed}")
         with Pages(draws.choice(("private", "shared"))) as pages:
             drawn = sorted(draws.sample(range(PAGES), draws.randrange(2, 400)))
             places = [pages.address + page * PAGE for page in drawn]

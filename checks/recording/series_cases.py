@@ -1,7 +1,6 @@
 """Cases of checks/recording: series, which are recordings in segments, and what may end one."""
 
 import os
-import random
 import re
 import resource
 import signal
@@ -10,8 +9,11 @@ import tempfile
 import time
 import uuid
 
+from checks.lib import harness
+from checks.lib.harness import expect
+from checks.lib.tally import LeftOut, expect_in_time
 from checks.recording.memory_cases import Known, virsh_in
-from checks.recording.recorder_runs import RECORD, SECONDS, TOP, Run, expect, read_until_recording
+from checks.recording.recorder_runs import RECORD, SECONDS, TOP, Started, read_until_recording
 from checks.recording.sample_runs import PAGE, PAGES, Pages
 from precopy_tools.formats import samples, traces
 from precopy_tools.record import series
@@ -32,7 +34,7 @@ OTHERS = (
 )
 
 
-class Segments(Run):
+class Segments(Started):
     """A run of tools/record that writes a series into a folder."""
 
     def __init__(self, folder, source, *words, **more):
@@ -115,20 +117,20 @@ def nothing_lost(_, folder):
     """Over several segments."""
     for seed in range(2):
         with tempfile.TemporaryDirectory(dir=folder) as each:
-            _, found = exact_series(each, random.Random(f"series {seed}"))
-            expect(len(found) >= 3, f"{len(found)} segments")
+            _, found = exact_series(each, harness.draws(f"series {seed}"))
+            expect_in_time(len(found) >= 3, f"{len(found)} segments")
     # Also in the milliseconds in which one segment ends and the next one begins.
     with tempfile.TemporaryDirectory(dir=folder) as each:
         one_by_one = {"steps": 6000, "size": 1, "pauses": (0.0004, 0.0006), "count": 1 << 14}
-        _, found = exact_series(each, random.Random("one by one"), **one_by_one)
-        expect(len(found) >= 4, f"{len(found)} segments")
+        _, found = exact_series(each, harness.draws("one by one"), **one_by_one)
+        expect_in_time(len(found) >= 4, f"{len(found)} segments")
 
 
 def full_segments(_, folder):
     """A segment that is full is followed by the next one, which has what found no room."""
     filled = len(filled_of(PAGES))
     words = ["--segment", "60s", "--limit-writes", str(filled + 8 * STEP)]
-    run, found = exact_series(folder, random.Random("full"), *words)
+    run, found = exact_series(folder, harness.draws("full"), *words)
     expect(len(found) >= 2, f"{len(found)} segments")
     expect(run.output.count("; ended early: a trace has at most") == len(found) - 1, run.output)
 
@@ -149,7 +151,7 @@ def full_from_the_first(_, folder):
 
 def killed_twice(_, folder):
     """A recorder that is killed loses the segment that it was writing, and no other; the next one cleans up."""
-    draws = random.Random("killed")
+    draws = harness.draws("killed")
     with Pages("private") as pages:
         told, before = [], set()
         for _ in range(2):
@@ -184,7 +186,7 @@ def kept_segments(_, folder):
         run = Segments(folder, pages.source, "--keep", "2", "--for", "5200ms")
         run.end()
     expect(run.status == 0, f"{run.status}, {run.faults!r}")
-    expect(len(run.told()) >= 3, run.output)
+    expect_in_time(len(run.told()) >= 3, run.output)
     wanted = {*OTHERS}
     for name in run.told()[-2:]:
         wanted |= {name, samples.path_beside(name)}
@@ -226,11 +228,11 @@ def values_of_a_series(_, folder):
     counts = [sample.sampled_nonzero for *_, sample in found]
     expect(counts == sorted(counts) and counts[0] <= 1 and counts[-1] >= 20, f"{counts}")
     later = sum(1 for _, _, written, _ in found for tick, _ in written if tick > 1000)
-    expect(later == 30, f"{later} changes of 30")
+    expect_in_time(later == 30, f"{later} changes of 30")
 
 
 def no_room_left(_, folder):
-    """A file that cannot grow, and a disk that is full: the segment is whole, with its NAME.json, and words."""
+    """A file that cannot grow: the segment is whole, with its NAME.json, and words."""
     with Pages("private") as pages:
 
         def limit():
@@ -244,24 +246,29 @@ def no_room_left(_, folder):
         expect(run.status == 3 and "File too large" in run.faults, f"{run.status}, {run.faults!r}")
         expect(len(segments_in(folder)) == 1, f"{os.listdir(folder)}")
         expect_no_parts(folder)
-        disk = os.path.join(folder, "disk")
-        os.mkdir(disk)
-        if subprocess.run(["mount", "-t", "tmpfs", "-o", "size=160k", "none", disk], capture_output=True).returncode:
-            print("  no disk of its own can be mounted: a full disk is not tried", flush=True)
-            return
-        try:
+
+
+def a_full_disk(_, folder):
+    """A disk of its own that is full: the segments are whole, with words."""
+    disk = os.path.join(folder, "disk")
+    os.mkdir(disk)
+    mounted = subprocess.run(["mount", "-t", "tmpfs", "-o", "size=160k", "none", disk], capture_output=True)
+    if mounted.returncode:
+        raise LeftOut(f"no disk can be mounted: {mounted.stderr.decode()}")
+    try:
+        with Pages("private") as pages:
             run = Segments(disk, pages.source)
             for _ in range(40):
                 pages.write(range(PAGES))
                 time.sleep(0.06)
             run.end()
-            expect(run.status == 3 and "No space left on device" in run.faults, f"{run.status}, {run.faults!r}")
-            found = segments_in(disk)
-            expect(found and found[-1][2], f"{os.listdir(disk)}")
-            expect(run.told() == [os.path.basename(path) for path, *_ in found], run.output)
-            expect_no_parts(disk)
-        finally:
-            subprocess.run(["umount", disk], check=True)
+        expect(run.status == 3 and "No space left on device" in run.faults, f"{run.status}, {run.faults!r}")
+        found = segments_in(disk)
+        expect(found and found[-1][2], f"{os.listdir(disk)}")
+        expect(run.told() == [os.path.basename(path) for path, *_ in found], run.output)
+        expect_no_parts(disk)
+    finally:
+        subprocess.run(["umount", disk], check=True)
 
 
 def words_of_a_series(_, folder):
@@ -314,7 +321,15 @@ def service_of_a_guest(_, folder):
     expect(sum(tick > 1000 for tick, _ in found[0][2]) == 1100, f"{len(found[0][2])} writes")
 
 
-NEED_WRITES = {nothing_lost, full_segments, full_from_the_first, killed_twice, no_room_left, words_of_a_series}
+NEED_WRITES = {
+    nothing_lost,
+    full_segments,
+    full_from_the_first,
+    killed_twice,
+    no_room_left,
+    a_full_disk,
+    words_of_a_series,
+}
 CASES = [
     nothing_lost,
     full_segments,
@@ -324,6 +339,7 @@ CASES = [
     guest_of_a_series_ends,
     values_of_a_series,
     no_room_left,
+    a_full_disk,
     words_of_a_series,
     service_of_a_guest,
 ]

@@ -1,24 +1,20 @@
 """Runs the built program with its growths, thread starts, reads and writes refused, one after another.
 
-    checks/run refusals [PROGRAM]
+    checks/run refusals [PRECOPY]
 
-PROGRAM is crates/precopy/out/precopy of this repository if none is given. checks/refusals/refuse.c is put between the
-program and the C library. It is compiled here, so a C compiler `cc` is needed, and `nm` for names of functions.
-docs/RELIABILITY.md says what is promised, and checks/README.md what is tried. The last line is 'N passed, M failed';
-the status is 0 if something was tried and nothing failed.
+checks/refusals/refuse.c is put between the program and the C library. It is compiled here, so a C compiler `cc` is
+needed, and `nm` for names of functions. docs/RELIABILITY.md says what is promised, and checks/README.md what is tried.
+A run that is refused something is a case.
 """
 
-import argparse
 import os
 import re
 import select
 import subprocess
-import sys
-import tempfile
-import time
-from concurrent.futures import ThreadPoolExecutor
 from functools import partial
 
+from checks.lib.harness import run as run_plainly
+from checks.lib.harness import run_main
 from checks.lib.worked import A
 from checks.refusals.refusal_jobs import (
     AT_STOP,
@@ -43,11 +39,9 @@ from checks.refusals.refusal_jobs import (
     WIDE_SWEEP,
     WRITE_FAILED,
 )
-from checks.refusals.refusal_runs import LAST_RUNS, SECONDS, TOP, Run, Runner, Tally, compile_shim, show, stop
+from checks.refusals.refusal_runs import LAST_RUNS, SECONDS, Part, run_parts
 from checks.refusals.refused_growths import SAVED, Harmless, is_for_makers, told_of_live
 
-PROGRAM = os.path.join(TOP, "crates", "precopy", "out", "precopy")
-AT_ONCE = 2
 # All growths up to this one are refused, each in a run of its own; after it only some.
 ALL_UP_TO = 2000
 STRIDE = 7
@@ -72,7 +66,7 @@ def name_of(run):
     return run.faults.decode("ascii", "replace").strip().removeprefix("precopy: ")
 
 
-def check(runner, tally, job, refused, lines, output=b"", may_answer=None):
+def try_one(runner, tally, job, refused, lines, output=b"", may_answer=None):
     """One run that is refused something, and one right after it that is not. Answers whether something was refused.
 
     A run that was refused nothing must give its whole output. One that was refused must end with one of `lines`, or of
@@ -82,7 +76,7 @@ def check(runner, tally, job, refused, lines, output=b"", may_answer=None):
     was_refused = run.counts["refused"] > 0
     told = " ".join(f"{name}={value}" for name, value in refused.items())
     if not was_refused:
-        tally.add(is_whole(job, run), "nothing refused", f"{job.name}, {told}, nothing was refused: {run}")
+        tally.seen(is_whole(job, run), "nothing refused", f"{job.name}, {told}, nothing was refused: {run}")
         return False
     kind = may_answer(run) if may_answer else None
     if is_whole(job, run):
@@ -96,7 +90,7 @@ def check(runner, tally, job, refused, lines, output=b"", may_answer=None):
     if not is_whole(job, after):
         good, run = False, after
         told += ", and then with nothing refused"
-    tally.add(good, kind, f"{job.name}, {told}: {run}")
+    tally.seen(good, kind, f"{job.name}, {told}: {run}")
     return True
 
 
@@ -105,15 +99,15 @@ def count_up(runner, tally, job, variable, lines, may_answer=None, **more):
     number, without, refused = 1, 0, 0
     while without < LAST_RUNS and not runner.gives_up(tally):
         if number > MOST:
-            tally.failures.append(f"{job.name}: {variable}={number} is refused still")
+            tally.add(False, f"{job.name}: {variable}={number} is refused still")
             break
-        if check(runner, tally, job, {variable: number, **more}, lines, may_answer=may_answer):
+        if try_one(runner, tally, job, {variable: number, **more}, lines, may_answer=may_answer):
             without, refused, tally.last = 0, refused + 1, number
         else:
             without += 1
         number += 1 if number < ALL_UP_TO or without else STRIDE
     if not refused:
-        tally.failures.append(f"{job.name}: {variable} refused nothing, so nothing was tried")
+        tally.add(False, f"{job.name}: {variable} refused nothing, so nothing was tried")
 
 
 # ---- The parts.
@@ -129,14 +123,15 @@ def made_by_caller(job, run):
 
 
 def growths(runner, job, refuse_on):
-    lines = [MEMORY, NO_ROOM_FOR_TRACE]
+    # A job without a trace has no room to ask for one.
+    lines = [MEMORY, NO_ROOM_FOR_TRACE] if job.reads else [MEMORY]
     if job.is_live:
         lines = [*lines, LIVE_MEMORY, LIVE_THREAD] if refuse_on else lines_of_live
     if refuse_on:
-        tally = Tally(f"{job.name}: the Nth growth and all after it refused")
+        tally = Part(f"{job.name}: the Nth growth and all after it refused")
         count_up(runner, tally, job, "REFUSE_GROWTH", lines, may_answer=partial(made_by_caller, job), REFUSE_ON=1)
     else:
-        tally = Tally(f"{job.name}: the Nth growth refused")
+        tally = Part(f"{job.name}: the Nth growth refused")
         harmless = Harmless(runner, job)
         count_up(runner, tally, job, "REFUSE_GROWTH", lines, may_answer=harmless.kind)
         tally.told = harmless.told()
@@ -146,7 +141,7 @@ def growths(runner, job, refuse_on):
 
 def threads(runner, job, variable, title):
     """The work of a thread that only saves time, and is not started, is done by its caller."""
-    tally = Tally(f"{job.name}: {title}")
+    tally = Part(f"{job.name}: {title}")
     lines = [LIVE_THREAD] if job.is_live else []
     left = iter([SAVED] * job.savers)
     count_up(runner, tally, job, variable, lines, may_answer=lambda run: next(left, None) if run.status == 0 else None)
@@ -166,83 +161,79 @@ def of_migration(runner, job):
 
 def named(runner, job):
     """A refused growth of a live run is L1, and a refused start of its first thread, which it needs, is L2."""
-    tally = Tally(f"{job.name}: L1 for a growth of its own, L2 for a thread that is needed")
+    tally = Part(f"{job.name}: L1 for a growth of its own, L2 for a thread that is needed")
     for run, line in [(of_migration(runner, job), LIVE_MEMORY), (runner.run(job, REFUSE_THREAD=1), LIVE_THREAD)]:
         good = run.counts["refused"] == 1 and is_refusal(run, [line])
-        tally.add(good, name_of(run), f"{job.name}, {line!r} is due: {run}")
+        tally.seen(good, name_of(run), f"{job.name}, {line!r} is due: {run}")
     return tally
 
 
 def reads(runner, job):
     # One byte a call: call 103 of 102 bytes is the one that would find the end.
-    tally = Tally(f"{job.name}: the Nth read of one byte refused, N to {len(A) + 1}")
+    tally = Part(f"{job.name}: the Nth read of one byte refused, N to {len(A) + 1}")
     for number in range(1, len(A) + 2):
         if runner.gives_up(tally):
             break
-        if not check(runner, tally, job, {"REFUSE_READ": number, "ONE_BYTE": 1}, [READ_FAILED]):
-            tally.failures.append(f"{job.name}: read {number} was not refused")
+        if not try_one(runner, tally, job, {"REFUSE_READ": number, "ONE_BYTE": 1}, [READ_FAILED]):
+            tally.add(False, f"{job.name}: read {number} was not refused")
     return tally
 
 
 def writes(runner, job, variable, title):
-    tally = Tally(f"{job.name}: {title}, N to {len(job.output)}")
+    tally = Part(f"{job.name}: {title}, N to {len(job.output)}")
     for number in range(1, len(job.output) + 1):
         if runner.gives_up(tally):
             return tally
         refused = {variable: number, "ONE_BYTE": 1}
-        if not check(runner, tally, job, refused, [WRITE_FAILED], job.output[: number - 1]):
-            tally.failures.append(f"{job.name}: write {number} was not refused")
-    check(runner, tally, job, {variable: len(job.output) + 1, "ONE_BYTE": 1}, [])
+        if not try_one(runner, tally, job, refused, [WRITE_FAILED], job.output[: number - 1]):
+            tally.add(False, f"{job.name}: write {number} was not refused")
+    try_one(runner, tally, job, {variable: len(job.output) + 1, "ONE_BYTE": 1}, [])
     return tally
 
 
 def broken(runner, job):
     """A read or a write that a signal interrupts is tried again."""
-    tally = Tally(f"{job.name}: the Nth read or write interrupted once")
+    tally = Part(f"{job.name}: the Nth read or write interrupted once")
     for variable, last in [("BREAK_READ", len(A) + 1), ("BREAK_WRITE", len(job.output))]:
         for number in sorted({1, 2, last // 2, last - 1, last}):
             if runner.gives_up(tally):
                 return tally
             run = runner.run(job, ONE_BYTE=1, **{variable: number})
             good = run.counts["refused"] == 1 and is_whole(job, run)
-            tally.add(good, "answered in full", f"{job.name}, {variable}={number}: {run}")
+            tally.seen(good, "answered in full", f"{job.name}, {variable}={number}: {run}")
     return tally
 
 
 def untold(runner, job):
     """A fault line that can't be written changes nothing else."""
-    tally = Tally(f"{job.name}: a refused read, and a fault line that can't be written")
+    tally = Part(f"{job.name}: a refused read, and a fault line that can't be written")
     if runner.gives_up(tally):
         return tally
     run = runner.run(job, REFUSE_READ=1, REFUSE_FAULTS=1, REFUSE_ON=1)
     good = run.counts["refused"] >= 2 and is_refusal(run, [b""])
-    tally.add(good, "only status 1", f"{job.name}, REFUSE_READ=1 REFUSE_FAULTS=1: {run}")
+    tally.seen(good, "only status 1", f"{job.name}, REFUSE_READ=1 REFUSE_FAULTS=1: {run}")
     return tally
 
 
 def unsaid(runner, job):
     """If what is wrong with words can't be written, only the status says it."""
-    tally = Tally(f"{job.name}: what is wrong with the words can't be written")
+    tally = Part(f"{job.name}: what is wrong with the words can't be written")
     run = runner.run(job, REFUSE_FAULTS=1, REFUSE_ON=1)
     good = run.counts["refused"] >= 1 and (run.status, run.output, run.faults) == (2, b"", b"")
-    tally.add(good, "only status 2", f"{job.name}, REFUSE_FAULTS=1: {run}")
+    tally.seen(good, "only status 2", f"{job.name}, REFUSE_FAULTS=1: {run}")
     return tally
 
 
 def plainly(runner, job):
     """What a system refuses by itself: no call is changed in these runs."""
-    tally = Tally(f"{job.name}: a full disk, a closed pipe, a folder to read from")
+    tally = Part(f"{job.name}: a full disk, a closed pipe, a folder to read from")
     program = [runner.program, *job.words]
     if runner.gives_up(tally):
         return tally
 
     def ended(stdin, stdout, line):
-        try:
-            done = subprocess.run(program, stdin=stdin, stdout=stdout, stderr=subprocess.PIPE, timeout=SECONDS)
-            run = Run(done.returncode, done.stdout or b"", done.stderr, {})
-        except subprocess.TimeoutExpired as late:
-            run = Run(None, b"", late.stderr or b"", {})
-        tally.add(is_refusal(run, [line]), name_of(run), f"{job.name}, {line!r} is due: {run}")
+        run = run_plainly(program, stdin=stdin, stdout=stdout, seconds=SECONDS)
+        tally.seen(is_refusal(run, [line]), name_of(run), f"{job.name}, {line!r} is due: {run}")
 
     with open(runner.trace(job.trace), "rb") as trace, open("/dev/full", "wb") as full:
         ended(trace, full, WRITE_FAILED)
@@ -284,37 +275,17 @@ def parts(runner):
         yield plainly, job
 
 
-def arguments():
-    parser = argparse.ArgumentParser(description=__doc__.splitlines()[0])
-    parser.add_argument("program", nargs="?", default=PROGRAM, help="the built program; crates/precopy/out/precopy")
-    return parser.parse_args()
+def prepare(runner):
+    for name, trace in [("a", A), ("many", MANY), ("large", LARGE)]:
+        with open(runner.trace(name), "wb") as file:
+            file.write(trace)
+    for job in HELPS:
+        job.output = runner.run(job).output
 
 
-def main():
-    given = arguments()
-    program = os.path.abspath(given.program)
-    if not os.access(program, os.X_OK):
-        stop(f"there is no program {program}; ./precopy builds it")
-    begun = time.monotonic()
-    passed = failed = 0
-    with tempfile.TemporaryDirectory() as folder:
-        runner = Runner(program, folder, compile_shim(folder))
-        for name, trace in [("a", A), ("many", MANY), ("large", LARGE)]:
-            with open(runner.trace(name), "wb") as file:
-                file.write(trace)
-        for job in HELPS:
-            job.output = runner.run(job).output
-        with ThreadPoolExecutor(AT_ONCE) as pool:
-            for begun_part in [pool.submit(part, runner, *rest) for part, *rest in parts(runner)]:
-                tally = begun_part.result()
-                show(tally)
-                passed += tally.passed
-                failed += len(tally.failures)
-    counts = f"{runner.runs['refused']} runs that could be refused something, {runner.runs['plain']} after them"
-    print(f"{counts}, {time.monotonic() - begun:.0f} s")
-    print(f"{passed} passed, {failed} failed")
-    return 0 if passed and not failed else 1
+def check(tally, given):
+    run_parts(tally, given.precopy, prepare, parts)
 
 
 if __name__ == "__main__":
-    sys.exit(main())
+    run_main(check, __doc__, "precopy")

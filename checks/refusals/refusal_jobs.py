@@ -1,7 +1,8 @@
 """What checks/refusals runs, and what it must write. That is worked out by hand from docs/FORMATS.md and the rules of
 the plan, not by the program; except for help, which is what the program writes if nothing is refused."""
 
-from checks.lib.worked import A_AT_2000, A_IMAGE, A_REPORT, header, record
+from checks.lib.traces import header, record
+from checks.lib.worked import A_AT_2000, A_IMAGE, A_REPORT
 
 ZEROS = bytes(16)
 A_SWEEP = b"""\
@@ -67,6 +68,8 @@ class Job:
     `makers`, make memory that is written; after them nothing is asked for but what starts them."""
 
     status, faults = 0, b""
+    # Whether a trace is read, and not only words.
+    reads = True
 
     def __init__(self, name, words, output, trace="a", is_live=False, savers=0, makers=0):
         self.name = name
@@ -82,7 +85,7 @@ class Job:
 class Misuse(Job):
     """Words that the command line does not have, and what is said of them."""
 
-    status = 2
+    status, reads = 2, False
 
     def __init__(self, words, message, usage=""):
         super().__init__(words, words.split(), b"")
@@ -116,8 +119,14 @@ WIDE_WORDS = ["--workers", "2", *MANY_CASES.split()]
 WIDE_REPORT = Job(f"report, {WIDE}", ["report", *PLAN, *TABLES, "--workers", "2"], MANY_REPORT, "many", savers=1)
 WIDE_SWEEP = Job(f"sweep, {WIDE}", ["sweep", *WIDE_WORDS], MANY_SWEEP, "many", savers=1)
 
-# What help must write is None here: checks/words looks at it.
-HELPS = [Job("--help", ["--help"], None), Job("live --help", ["live", "--help"], None)]
+
+class Help(Job):
+    """What help must write is None here: checks/words looks at it."""
+
+    reads = False
+
+
+HELPS = [Help("--help", ["--help"], None), Help("live --help", ["live", "--help"], None)]
 MISUSES = [
     Misuse("guess", "unrecognized subcommand 'guess'", "<COMMAND>"),
     Misuse("report --min x", "invalid value 'x' for '--min <N>': invalid digit found in string"),

@@ -1,15 +1,20 @@
 """Runs a built program with refuse.c between it and the C library, and counts what passed and failed."""
 
 import os
-import shutil
 import struct
-import subprocess
+import tempfile
 import threading
+import time
 from collections import Counter
+from concurrent.futures import ThreadPoolExecutor
+from dataclasses import dataclass, field
 
+from checks.lib import harness
+from checks.lib.tally import Tally, expect, left_out, why_not
 from checks.refusals.refused_growths import Functions, Growth
 from precopy_dev.tree import TOP
 
+AT_ONCE = 2
 SECONDS = 20
 # A part ends after this many failures, and all of them after this many runs that did not end.
 MOST_FAILURES = 20
@@ -18,26 +23,23 @@ MOST_HANGS = 4
 LAST_RUNS = 3
 
 
-class Run:
-    """What came of a run: its status (of a signal its number below 0, of a hang None), its output, its faults, counts;
-    the first growth that was refused, how many starts of threads came before it, and the next growth of the same
-    thread if that was granted."""
+COUNTS = "growths threads inner reads writes faults refused".split()
 
-    def __init__(self, status, output, faults, counts):
-        self.status = status
-        self.output = output
-        self.faults = faults
-        self.counts = counts
-        self.refused = self.again = None
-        self.started = 0
+
+@dataclass
+class Run(harness.Run):
+    """What came of a run, and its counts; the first growth that was refused, how many starts of threads came before it,
+    and the next growth of the same thread if that was granted."""
+
+    counts: dict = field(default_factory=lambda: dict.fromkeys(COUNTS, 0))
+    refused: Growth | None = None
+    again: Growth | None = None
+    started: int = 0
 
     def __str__(self):
-        ended = "did not end" if self.status is None else f"status {self.status}"
-        told = f"{len(self.output)} bytes of output {self.output[:60]!r}, standard error {self.faults[:200]!r}"
-        return f"{ended}, {told}" + (f"; refused were {self.refused}" if self.refused else "")
+        return super().__str__() + (f"; refused were {self.refused}" if self.refused else "")
 
 
-COUNTS = "growths threads inner reads writes faults refused".split()
 # After the counts: whether a refused growth is named, how many starts of threads came before it, whether one after it
 # is named, whether that was granted; then of both the size, whether it moves an older room, and six addresses; and the
 # program that was run.
@@ -56,11 +58,11 @@ class Runner:
 
     def gives_up(self, tally):
         """Whether so much failed that more runs would show nothing new."""
-        if len(tally.failures) < MOST_FAILURES and self.runs["hung"] < MOST_HANGS:
+        if tally.failed < MOST_FAILURES and self.runs["hung"] < MOST_HANGS:
             return False
         if not tally.gave_up:
             tally.gave_up = True
-            tally.failures.append(f"{tally.title}: given up")
+            tally.add(False, f"{tally.title}: given up")
         return True
 
     def trace(self, name):
@@ -97,72 +99,53 @@ class Runner:
             environment["LD_PRELOAD"] = self.shim
             environment["REFUSE_COUNTS"] = self.counts_file()
         with open(self.trace(job.trace) if job.trace else os.devnull, "rb") as trace:
-            try:
-                done = subprocess.run(
-                    ["precopy", *job.words],
-                    executable=self.program,
-                    stdin=trace,
-                    stdout=subprocess.PIPE,
-                    stderr=subprocess.PIPE,
-                    env=environment,
-                    timeout=SECONDS,
-                    close_fds=False,
-                )
-                status, output, faults = done.returncode, done.stdout, done.stderr
-            except subprocess.TimeoutExpired as late:
-                status, output, faults = None, late.stdout or b"", late.stderr or b""
+            how = {"executable": self.program, "env": environment, "close_fds": False}
+            done = harness.run(["precopy", *job.words], stdin=trace, seconds=SECONDS, **how)
         self.runs["refused" if refused else "plain"] += 1
-        self.runs["hung"] += status is None
-        run = Run(status, output, faults, dict.fromkeys(COUNTS, 0))
+        self.runs["hung"] += done.status is None
+        run = Run(done.status, done.output, done.faults)
         if refused:
             self.tell(run)
         return run
 
 
-class Tally:
-    """Counts what passed and failed. Each part of the checks has one, and says in one line what came of it."""
+class Part(Tally):
+    """A part of the check, with how often each kind of a right answer came. It says in one line what came of it."""
 
     def __init__(self, title):
-        self.title = title
-        self.passed = 0
-        self.failures = []
-        self.kinds = Counter()
-        self.last = 0
-        self.gave_up = False
-        self.told = []
+        super().__init__()
+        self.title, self.kinds, self.last, self.gave_up, self.told = title, Counter(), 0, False, []
 
-    def add(self, good, kind, told):
-        if good:
-            self.passed += 1
-            self.kinds[kind] += 1
-        else:
-            self.failures.append(told)
+    def seen(self, good, kind, told):
+        self.kinds[kind] += bool(good)
+        self.add(good, told)
 
     def __str__(self):
-        kinds = ", ".join(f"{kind} {count}" for kind, count in sorted(self.kinds.items()))
-        return f"{self.title}: {self.passed} passed, {len(self.failures)} failed ({kinds})"
-
-
-def stop(why):
-    raise SystemExit(f"checks: {why}\n0 passed, 1 failed")
+        kinds = ", ".join(f"{kind} {count}" for kind, count in sorted(self.kinds.items()) if count)
+        return f"{self.title}: {self.passed} passed, {self.failed} failed ({kinds})"
 
 
 def compile_shim(folder):
-    for tool in ("cc", "nm"):
-        if not shutil.which(tool):
-            stop(f"{tool} is not on the path, and is needed")
-    shim = os.path.join(folder, "refuse.so")
-    source = os.path.join(TOP, "checks", "refusals", "refuse.c")
-    if subprocess.run(["cc", "-shared", "-fPIC", "-O2", "-o", shim, source]).returncode:
-        stop("cc does not compile checks/refusals/refuse.c")
+    shim, source = os.path.join(folder, "refuse.so"), os.path.join(TOP, "checks", "refusals", "refuse.c")
+    done = harness.run(["cc", "-shared", "-fPIC", "-O2", "-o", shim, source])
+    expect(done.status == 0, f"cc does not compile checks/refusals/refuse.c: {done}")
     return shim
 
 
-def show(tally):
-    print(tally, flush=True)
-    for line in tally.told:
-        print(f"  whole output, {line}")
-    for failure in tally.failures[:5]:
-        print(f"  FAILED {failure}")
-    if len(tally.failures) > 5:
-        print(f"  FAILED and {len(tally.failures) - 5} more")
+def run_parts(tally, program, prepare, parts_of):
+    """Runs the parts of a check, some at a time. Without the tools that they need, all are left out."""
+    if why := why_not("cc") or why_not("nm"):
+        left_out("all that is refused", why)
+        return
+    begun = time.monotonic()
+    with tempfile.TemporaryDirectory() as folder, ThreadPoolExecutor(AT_ONCE) as pool:
+        runner = Runner(program, folder, compile_shim(folder))
+        prepare(runner)
+        for begun_part in [pool.submit(part, runner, *rest) for part, *rest in parts_of(runner)]:
+            part = begun_part.result()
+            print(part, flush=True)
+            for line in part.told:
+                print(f"  whole output, {line}")
+            tally.add_all(part)
+    counts = f"{runner.runs['refused']} runs that could be refused something, {runner.runs['plain']} after them"
+    print(f"{counts}, {time.monotonic() - begun:.0f} s")

@@ -1,26 +1,17 @@
 """Refuses single calls the growths that they ask for, one after another, and looks at what remains after each refusal.
 
-    checks/run refused_calls [PROGRAM]
+    checks/run refused_calls [REFUSED_CALLS]
 
-PROGRAM is crates/refused_calls/out/refused_calls of this repository if none is given. It makes one call between two
-lines of output, and only what is asked for in between is refused (checks/refusals/refuse.c). So a C compiler `cc` is
-needed, and `nm` for names of functions. checks/refused_calls/jobs.py has what must be printed. docs/RELIABILITY.md says
-what is promised, and checks/README.md what is tried. The last line is 'N passed, M failed'; the status is 0 if
-something was tried and nothing failed.
+The program of crates/refused_calls makes one call between two lines of output, and only what is asked for in between is
+refused (checks/refusals/refuse.c). So a C compiler `cc` is needed, and `nm` for names of functions. What must be
+printed is in checks/refused_calls/jobs.py. docs/RELIABILITY.md says what is promised, and checks/README.md what is
+tried. A run that is refused something is a case.
 """
 
-import argparse
-import os
-import sys
-import tempfile
-import time
-from concurrent.futures import ThreadPoolExecutor
-
-from checks.refusals.refusal_runs import LAST_RUNS, TOP, Runner, Tally, compile_shim, show, stop
+from checks.lib.harness import run_main
+from checks.refusals.refusal_runs import LAST_RUNS, Part, run_parts
 from checks.refused_calls.jobs import CALLS
 
-PROGRAM = os.path.join(TOP, "crates", "refused_calls", "out", "refused_calls")
-AT_ONCE = 2
 # A call that asks so often has run away.
 MOST = 20000
 # So often are growths counted that only start threads.
@@ -51,25 +42,25 @@ def refusal(call, run, variable, whole):
 
 def refuse_each(runner, call, variable, refuse_on):
     """Refuses a call the first, the second and so on, until runs end without a refusal."""
-    tally = Tally(f"{call.name}: the Nth {WHAT[variable]}{' and all after it' if refuse_on else ''} refused")
+    tally = Part(f"{call.name}: the Nth {WHAT[variable]}{' and all after it' if refuse_on else ''} refused")
     on = {"REFUSE_ON": 1} if refuse_on else {}
     whole = runner.run(call, REFUSE_WITHIN=1)
     number, without = 1, 0
     while without < LAST_RUNS and not runner.gives_up(tally):
         if number > MOST:
-            tally.failures.append(f"{call.name}: {variable}={number} is refused still")
+            tally.add(False, f"{call.name}: {variable}={number} is refused still")
             break
         run = runner.run(call, REFUSE_WITHIN=1, **{variable: number}, **on)
         if run.counts["refused"]:
             without, tally.last = 0, number
             kind = refusal(call, run, variable, whole)
-            tally.add(kind is not None, kind, f"{call.name}, {variable}={number}: {run}")
+            tally.seen(kind is not None, kind, f"{call.name}, {variable}={number}: {run}")
         else:
             without += 1
-            tally.add(is_whole(call, run), "nothing refused", f"{call.name}, {variable}={number}: {run}")
+            tally.seen(is_whole(call, run), "nothing refused", f"{call.name}, {variable}={number}: {run}")
         number += 1
     if not tally.last:
-        tally.failures.append(f"{call.name}: {variable} refused nothing, so nothing was tried")
+        tally.add(False, f"{call.name}: {variable} refused nothing, so nothing was tried")
     tally.title += f", N to {tally.last}"
     return tally
 
@@ -83,22 +74,23 @@ def refuse(runner, call, variable, refuse_on):
     for _ in range(COUNTS):
         tally = refuse_each(runner, call, variable, refuse_on)
         came = tally.kinds["Thread"]
-        if tally.failures or came == call.thread_growths:
+        if tally.failed or came == call.thread_growths:
             break
+        print(f"  {call.name}: counted again, since {came} growths only started threads", flush=True)
     due = f"{call.thread_growths} growths that only start threads"
-    tally.add(came == call.thread_growths, due, f"{call.name}: Thread for {came} growths, not for {due}")
+    tally.seen(came == call.thread_growths, due, f"{call.name}: Thread for {came} growths, not for {due}")
     return tally
 
 
 def plainly(runner, call):
     """A run with nothing between it and the C library."""
-    tally = Tally(f"{call.name}: nothing refused")
+    tally = Part(f"{call.name}: nothing refused")
     run = runner.run(call)
-    tally.add(is_whole(call, run), "whole", f"{call.name}: {run}")
+    tally.seen(is_whole(call, run), "whole", f"{call.name}: {run}")
     return tally
 
 
-def parts():
+def parts(_):
     for call in CALLS:
         yield plainly, call
         for variable in WHAT if call.has_threads else ["REFUSE_GROWTH"]:
@@ -106,31 +98,9 @@ def parts():
             yield refuse, call, variable, True
 
 
-def arguments():
-    parser = argparse.ArgumentParser(description=__doc__.splitlines()[0])
-    parser.add_argument("program", nargs="?", default=PROGRAM, help="the built program of crates/refused_calls")
-    return parser.parse_args()
-
-
-def main():
-    given = arguments()
-    program = os.path.abspath(given.program)
-    if not os.access(program, os.X_OK):
-        stop(f"there is no program {program}; rt run, in crates/refused_calls, builds it")
-    begun = time.monotonic()
-    passed = failed = 0
-    with tempfile.TemporaryDirectory() as folder:
-        runner = Runner(program, folder, compile_shim(folder))
-        with ThreadPoolExecutor(AT_ONCE) as pool:
-            for begun_part in [pool.submit(part, runner, *rest) for part, *rest in parts()]:
-                tally = begun_part.result()
-                show(tally)
-                passed += tally.passed
-                failed += len(tally.failures)
-    print(f"{runner.runs['refused']} runs that could be refused something, {time.monotonic() - begun:.0f} s")
-    print(f"{passed} passed, {failed} failed")
-    return 0 if passed and not failed else 1
+def check(tally, given):
+    run_parts(tally, given.refused_calls, lambda _: None, parts)
 
 
 if __name__ == "__main__":
-    sys.exit(main())
+    run_main(check, __doc__, "refused_calls")

@@ -1,16 +1,15 @@
 """Migrates a process by an engine that is not precopy's, examples/c/sender.c, and checks its migrations under load.
 
-    checks/run sending [PROGRAM]
+    checks/run sending [PRECOPY]
 
-PROGRAM is crates/precopy/out/precopy of this repository if none is given. The memory that the sender had at the stop
-shows that its trace is true: the library and the program make the same of it. The destination must have this memory
+The memory that the sender had at the stop shows that its trace is true: the library and the program make the same of
+it. The destination must have this memory
 too, and nothing is wrong in its streams by checks/lib/stream_model.py. Then five bugs are planted in the engine
 (checks/sending/bugs.py), and each must be found by its own sign, in every run. Four migrations run at a time, with up
 to eight threads that write.
 
-Protections of pages are taken away by the kernel, or by a thread. What this kernel does not offer is left out, and a
-line says so. It needs `cc`; `make lib` builds the library if need be. The last line is 'N passed, M failed'; the status
-is 0 if something was tried and nothing failed.
+Protections of pages are taken away by the kernel, or by a thread. What this kernel does not offer is left out. It needs
+`cc`; `make lib` builds the library if need be. A migration is a case.
 """
 
 import errno
@@ -18,16 +17,17 @@ import multiprocessing
 import os
 import re
 import subprocess
-import sys
 import tempfile
+import traceback
 from concurrent.futures import ProcessPoolExecutor
 from dataclasses import dataclass
 from typing import NamedTuple
 
 from checks.lib import stream_rows
+from checks.lib.harness import run_main
 from checks.lib.library_runs import is_done, program_says, read, run
 from checks.lib.stream_model import Guest, WrongFrame, WrongPage, first_wrong, frames
-from checks.lib.tally import Tally, left_out
+from checks.lib.tally import left_out, why_not
 from checks.sending import bugs
 from precopy_dev.tree import TOP
 
@@ -88,7 +88,7 @@ class Failed(Exception):
 
 
 def build(tally, folder, how, edits=()):
-    """Builds both processes in a folder, the engine with some edits."""
+    """Builds both processes in a folder, the engine with some edits. Tells whether that was done."""
     os.makedirs(folder)
     for name in ("sender", "destination"):
         source = read(f"examples/c/{name}.c", "r")
@@ -96,8 +96,8 @@ def build(tally, folder, how, edits=()):
         with open(path, "w", encoding="utf-8") as file:
             file.write(bugs.planted(source, edits) if name == "sender" else source)
         done = run("cc", *WARNINGS, *how, "-o", os.path.join(folder, name), path)
-        if not is_done(tally, done, f"{name}.c is compiled with {' '.join(how)} and {edits}"):
-            return False
+        if done.returncode:
+            return is_done(tally, done, f"{name}.c is compiled with {' '.join(how)} and {edits}")
     return True
 
 
@@ -181,10 +181,9 @@ def trials_of_check(done, wrong):
     """The library's own check of the streams tells the same as the model."""
     import precopy
 
-    if hasattr(precopy, "check_streams"):
-        found = precopy.check_streams(done.trace, done.stop, done.streams)
-        told = found and tuple(getattr(found, name) for name in TOLD_BY_LIBRARY)
-        yield told == as_library_tells(wrong), f"the library tells {found}, and the model {wrong}"
+    found = precopy.check_streams(done.trace, done.stop, done.streams)
+    told = found and tuple(getattr(found, name) for name in TOLD_BY_LIBRARY)
+    yield told == as_library_tells(wrong), f"the library tells {found}, and the model {wrong}"
 
 
 def trials_of_right(done, guest):
@@ -217,16 +216,16 @@ def trials_of_bug(done, guest, bug):
 
 
 def trials(programs, load, way, bug, program):
-    """All trials of one migration, with what it was."""
+    """What one migration was, and what of it does not hold, of how much that must."""
     what = f"{load}, the {way} takes protections away, bug {bug}"
     try:
         done = migrate(programs, load, way)
         guest = Guest(done.trace)
         found = [(done.way == way, f"the {done.way} does"), *trials_of_trace(done, load, guest, program)]
         found += trials_of_bug(done, guest, bug) if bug else trials_of_right(done, guest)
-        return [(good, f"{what}: {told}") for good, told in found]
-    except Failed as failure:
-        return [(False, f"{what}: {failure}")]
+        return what, [told for good, told in found if not good]
+    except Exception:
+        return what, [traceback.format_exc()]
 
 
 def runs(tally, folder, ways, program):
@@ -253,34 +252,25 @@ def check_not_offered(tally, folder):
             tally.add(good, f"without userfaultfd: {done}")
 
 
-def check(tally, folder, program):
+def migrations(tally, folder, program):
     check_not_offered(tally, folder)
     first = os.path.join(folder, "first")
     ways = list(ways_offered(first)) if build(tally, first, ["-O2"]) else []
-    if not ways:
-        left_out("all migrations", "this kernel has no userfaultfd that protects pages from writes")
-        return
-    import precopy
-
-    if not hasattr(precopy, "check_streams"):
-        left_out("the library's own check of streams", "it has none")
     asked = list(zip(*runs(tally, folder, ways, program)))
     with ProcessPoolExecutor(AT_ONCE, multiprocessing.get_context("fork")) as processes:
-        for found in processes.map(trials, *asked):
-            for good, told in found:
-                tally.add(good, told)
+        for what, wrong in processes.map(trials, *asked) if asked else ():
+            tally.add(not wrong, f"{what}: {wrong}")
 
 
-def main(words):
-    program = os.path.abspath(words[0] if words else os.path.join(TOP, "crates", "precopy", "out", "precopy"))
-    tally = Tally()
-    stream_rows.check(tally)
-    if is_done(tally, run("make", "-s", "-C", TOP, "lib", timeout=3 * 3600), "make lib"):
+def check(tally, given):
+    with tally.case("the model of streams, by worked examples") as case:
+        stream_rows.check(case)
+    if why := why_not("cc"):
+        left_out("all migrations", why)
+    elif is_done(tally, run("make", "-s", "-C", TOP, "lib", timeout=3 * 3600), "make lib"):
         with tempfile.TemporaryDirectory() as folder:
-            check(tally, folder, program)
-    print(tally)
-    return 0 if tally.passed and not tally.failed else 1
+            migrations(tally, folder, given.precopy)
 
 
 if __name__ == "__main__":
-    sys.exit(main(sys.argv[1:]))
+    run_main(check, __doc__, "precopy")

@@ -1,36 +1,36 @@
-"""Compares what the built program precopy-view writes with what precopy writes of the same traces.
+"""Compares what the built program precopy-view writes with a plain model, and with what precopy writes.
 
-    checks/run view [PROGRAM [PRECOPY]]
+    checks/run view [--seed N] [PRECOPY_VIEW [PRECOPY]]
 
-The programs are those below crates/ of this repository if none are given. The traces are examples/*.pcwt. Each JSON
-document must have the facts of the text of `precopy report` or `precopy sweep`, under the names of that text, and keep
-its schema in docs/. Tables for a terminal must have the same numbers, in lines that are no wider than asked. A picture
-must have its bars and texts inside, and no text over another, also with 1, 30 and 10,000 windows; 200 random pictures
-of reports and starts are read back, each mark to the numbers that it may stand for. For advice, the cases of the grid
-that it prints are planned by `precopy sweep`, and the choice is made again from those lines. What `predict` and `when`
-say is computed again from `precopy report` and `precopy sweep` with the settings that limits make by the rules of
-docs/COMMANDS.md, over 1,000 random cases; so are the times and bytes of `json report`, `json sweep` and `advise`. Words
-of limits are tried at the ends of their ranges, and with misspellings; times, rates and sizes as words are those of
-checks/view/quantities.tsv and random decimals, for the program and for the tools. The last line is 'N passed, M
-failed'; the status is 0 if something was tried and nothing failed.
+The traces are examples/*.pcwt, and some that are made. Each JSON document must have the facts of the text of `precopy
+report` or `precopy sweep`, under the names of that text; both must be what a model makes of the trace
+(checks/lib/migration_model.py), and keep its schema in docs/. Tables for a terminal must have the same numbers, in
+lines that are no wider than asked. A picture must have its bars and texts inside, and no text over another, also with
+1, 30 and 10,000 windows; 200 random pictures of reports and starts are read back, each mark to the numbers that it may
+stand for. Random questions in time and bytes are asked of `json report`, `when`, `json when`, `advise` and `json
+sweep`; at most a fifth of them may be refused, and then by the words of the model. Words of limits are tried at the
+ends of their ranges, and with misspellings; times, rates and sizes as words are those of checks/view/quantities.tsv
+and random decimals, for the program and for the tools.
 """
 
-import glob
+import collections
 import itertools
 import os
 import re
-import struct
-import subprocess
-import sys
 import tempfile
 import xml.etree.ElementTree
 
-from checks.lib.view_texts import TOP, Failure, document_of, report_facts, sweep_facts, told
-from checks.view.advice_cases import advice_tries, measured_tries
-from checks.view.limit_cases import limit_tries, start_tries, word_tries
+from checks.lib.harness import expect, run_main
+from checks.lib.migration_model import Question, report_of, sweep_of
+from checks.lib.tally import Failure
+from checks.lib.traces import EXAMPLES, Trace, made
+from checks.lib.view_texts import document_of, report_facts, sweep_facts, told
+from checks.view.advice_cases import advice_tries
+from checks.view.limit_cases import report_tries, start_tries, word_tries
 from checks.view.nearest_cases import nearest_tries
 from checks.view.picture_cases import picture_tries
 from checks.view.quantity_cases import quantity_tries
+from precopy_dev.models import redrawn
 
 SVG = "{http://www.w3.org/2000/svg}"
 SETTINGS = [
@@ -41,6 +41,7 @@ SETTINGS = [
     ["--min=500", "--max=4000", "--threshold=6", "--base=1480", "--start=1500"],
     ["--base=0", "--threshold=1"],
 ]
+DEFAULTS = {"min": 1000, "max": 5000, "inc": 500, "threshold": 64, "rounds": 30, "start": 0, "window": 1000, "hot": 2}
 CASES = [
     ["2,4,1,1,8,0", "2,2,1,1,8,0", "2,4,1,3,8,0"],
     ["500,4000,500,10,30,0", "500,4000,500,10,30,1", "--start=3", "--workers=3"],
@@ -50,11 +51,32 @@ CASES = [
 ]
 
 
+def asked_by(words):
+    """The settings that options of precopy ask for, the length of a window, and how many make a page hot."""
+    given = dict(word[2:].split("=") for word in words if "=" in word)
+    numbers = {name: int(given.get(name, default)) for name, default in DEFAULTS.items()}
+    base = int(given["base"]) if "base" in given else None
+    window, hot = numbers.pop("window"), numbers.pop("hot")
+    return redrawn.Settings(*numbers.values(), "--skip" in words, base), window, hot
+
+
+def case_asked(word, words):
+    *numbers, skip = map(int, word.split(","))
+    shared, _, _ = asked_by(words)
+    return redrawn.Settings(*numbers, shared.start, bool(skip), shared.base)
+
+
 def check_document(view, precopy, name, words, trace):
-    document = document_of(name, told(view, ["json", name, *words], trace))
-    wanted = {"report": report_facts, "sweep": sweep_facts}[name](told(precopy, [name, *words], trace))
-    if document != wanted:
-        raise Failure(f"{document} in place of {wanted}")
+    """A document and a text of the same facts, which are those of the model."""
+    if name == "report":
+        wanted, text_facts = report_of(trace, *asked_by(words)), report_facts
+    else:
+        cases = [case_asked(word, [it for it in words if it[:2] == "--"]) for word in words if word[:2] != "--"]
+        wanted, text_facts = sweep_of(trace, cases), sweep_facts
+    found = text_facts(told(precopy, [name, *words], trace.path))
+    expect(found == wanted, f"the text {found} in place of {wanted}")
+    document = document_of(name, told(view, ["json", name, *words], trace.path))
+    expect(document == wanted, f"{document} in place of {wanted}")
 
 
 # ---- Tables for a terminal.
@@ -85,11 +107,14 @@ def check_hot(lines, width, pages, hot):
             raise Failure(f"the strip {below[-1]!r} of {hot}")
 
 
-def check_screen(view, precopy, words, trace):
-    wanted = report_facts(told(precopy, ["report", *words], trace))
+def check_screen(view, _, words, trace):
+    wanted = report_of(trace, *asked_by(words))
     for width in 72, 80, 200:
-        text = told(view, ["show", f"--width={width}", *words], trace)
-        if re.sub("\x1b\\[[0-9]+m", "", told(view, ["show", f"--width={width}", "--color", *words], trace)) != text:
+        text = told(view, ["show", f"--width={width}", *words], trace.path)
+        if (
+            re.sub("\x1b\\[[0-9]+m", "", told(view, ["show", f"--width={width}", "--color", *words], trace.path))
+            != text
+        ):
             raise Failure("colors change the text")
         lines = text.splitlines()
         if max(map(len, lines)) > width or rows_below(lines, "round") != wanted["rounds"]:
@@ -105,9 +130,9 @@ def check_screen(view, precopy, words, trace):
 # ---- Pictures.
 
 
-def check_picture(view, precopy, words, trace):
-    wanted = report_facts(told(precopy, ["report", *words], trace))
-    root = xml.etree.ElementTree.fromstring(told(view, ["chart", *words], trace))
+def check_picture(view, _, words, trace):
+    wanted = report_of(trace, *asked_by(words))
+    root = xml.etree.ElementTree.fromstring(told(view, ["chart", *words], trace.path))
     _, _, width, height = map(int, root.get("viewBox").split())
     bars = {}
     for rect in root.iter(SVG + "rect"):
@@ -132,47 +157,52 @@ def check_picture(view, precopy, words, trace):
 
 def windows_trace(folder, windows, step):
     """Writes a trace whose writes fall into a number of windows, of pages that come again and of new ones."""
-    path = os.path.join(folder, f"{windows}.pcwt")
+    path = os.path.join(folder, f"{windows}-{step}.pcwt")
     writes = [(j * step, (j * j + k * 7) % (j % 40 + 3)) for j in range(windows) for k in range(3)]
     with open(path, "wb") as file:
-        file.write(b"PCWT" + bytes([1, 4, 0, 0]) + struct.pack("<II", 64, len(writes)))
-        for tick, page in writes:
-            file.write(struct.pack("<QIHH", tick, page, 0, 1) + b"\x01")
-    return path
+        file.write(made(64, writes))
+    return Trace.at(path)
 
 
-def passed_of(tries, view, precopy):
-    passed = 0
-    for check, *more in tries:
-        try:
-            check(view, precopy, *more)
-            passed += 1
-        except (Failure, ValueError, KeyError, IndexError, OSError, subprocess.TimeoutExpired) as error:
-            print(f"{more}: {error}")
-    return passed
+def tries_of(folder):
+    examples = [Trace.at(path) for path in EXAMPLES]
+    windows = [windows_trace(folder, *some) for some in ((1, 1000), (30, 1000), (10_000, 1000), (30, 10**10))]
+    known, gzip = examples + windows[:3], next(it for it in examples if f"{it}" == "gzip.pcwt")
+    for trace in examples:
+        yield from ((check_document, "report", words, trace) for words in SETTINGS)
+        yield from ((check_document, "sweep", words, trace) for words in CASES)
+        yield from ((check_screen, words, trace) for words in SETTINGS)
+    yield from ((check_picture, words, trace) for trace in examples + windows for words in SETTINGS)
+    for tries in (report_tries, start_tries):
+        yield from tries(known)
+    yield from advice_tries(examples, known)
+    for tries in (word_tries, nearest_tries, quantity_tries):
+        yield from tries(gzip)
+    yield from picture_tries(folder)
 
 
-def main():
-    built = [os.path.join(TOP, "crates", name, "out", name) for name in ("precopy_view", "precopy")]
-    view, precopy = [os.path.abspath(word) for word in sys.argv[1:3]] + built[len(sys.argv) - 1 :]
-    tries = []
-    for trace in sorted(glob.glob(os.path.join(TOP, "examples", "*.pcwt"))):
-        tries += [(check_document, "report", words, trace) for words in SETTINGS]
-        tries += [(check_document, "sweep", words, trace) for words in CASES]
-        tries += advice_tries(trace)
-        tries += [(check, words, trace) for check in (check_screen, check_picture) for words in SETTINGS]
+def expect_few_refused(asked):
+    """Of the random questions of each kind at most a fifth is refused."""
+    for name, refused in asked.items():
+        told = f"{name}: {refused[True]} of {refused.total()} are refused"
+        expect(refused[False] and 5 * refused[True] <= refused.total(), told)
+        print(told)
+    expect(len(asked) == 3, f"{sorted(asked)}")
+
+
+def check(tally, given):
+    counts, asked = collections.Counter(), collections.defaultdict(collections.Counter)
     with tempfile.TemporaryDirectory() as folder:
-        made = [windows_trace(folder, *some) for some in ((1, 1000), (30, 1000), (10_000, 1000), (30, 10**10))]
-        tries += [(check_picture, words, trace) for trace in made for words in SETTINGS]
-        known = sorted(glob.glob(os.path.join(TOP, "examples", "*.pcwt"))) + made[:3]
-        tries += [*limit_tries(known), *start_tries(known), *measured_tries(known)]
-        gzip = os.path.join(TOP, "examples", "gzip.pcwt")
-        tries += word_tries(gzip) + quantity_tries(gzip) + nearest_tries(gzip)
-        tries += picture_tries(folder)
-        passed = passed_of(tries, view, precopy)
-    print(f"{passed} passed, {len(tries) - passed} failed")
-    return 0 if passed and passed == len(tries) else 1
+        for act, *words in tries_of(folder):
+            tally.tries(f"{act.__name__} {words}", act, given.precopy_view, given.precopy, *words)
+            counts[act.__name__] += 1
+            if isinstance(words[0], Question) and act.__name__ in MAY_BE_REFUSED:
+                asked[act.__name__][words[0].refusal(words[-1]) is not None] += 1
+    tally.tries("refused questions", expect_few_refused, asked)
+    print(", ".join(f"{name} {count}" for name, count in counts.items()))
 
+
+MAY_BE_REFUSED = ("check_measured", "check_starts", "check_measured_advice")
 
 if __name__ == "__main__":
-    sys.exit(main())
+    run_main(check, __doc__, "precopy_view", "precopy")

@@ -1,14 +1,14 @@
-"""Cases of checks/view about advice, in ticks and in time: the choice is made again from the lines of `precopy sweep`.
-
-Also sweeps as documents in times and bytes.
-"""
+"""Cases of checks/view about advice, in ticks and in time, and about sweeps: worked out again by a plain model."""
 
 import itertools
-import random
 
+from checks.lib import migration_model
 from checks.lib.amount_texts import size_text, time_text
-from checks.lib.view_texts import Failure, document_of, facts, ran, sweep_facts, told
-from checks.view.limit_cases import Known, Limits, costs_of, ran_in_range
+from checks.lib.harness import draws
+from checks.lib.tally import expect
+from checks.lib.view_texts import facts, parsed, ran
+from checks.view.limit_cases import in_range, is_refused, some
+from precopy_dev.models import redrawn
 
 BUDGETS = [
     ["--down=0", "--max=4"],
@@ -17,28 +17,34 @@ BUDGETS = [
     ["--down=100000", "--total=1", "--start=5"],
     ["--down=3", "--max=4000", "--base=1200", "--start=1500"],
 ]
-CASES_OF_ADVICE = 60
-CASES_OF_SWEEPS = 40
+ADVICE, SWEEPS = 60, 60
 
 
 def part(whole, count):
     return max(whole // count, 1)
 
 
-def cases_round(asked, down):
-    """Returns the words of the cases round some settings, for a most downtime: the rule of docs/COMMANDS.md."""
-    least, most, inc, threshold, rounds = asked
+def grid_of(asked, down):
+    """The values that are combined round some settings, for a most downtime: the rule of docs/COMMANDS.md."""
+    most = asked.greatest
     allowed = min(down * most // 1_000, 65_535) + 1
-    cases = [f"{least},{most},{inc},{threshold},{rounds},0"]
-    for values in itertools.product(
-        [most, part(most, 2), part(most, 4), part(most, 8)],
-        [most // 20, most // 5],
-        [allowed, part(allowed, 2), part(allowed, 4), part(allowed, 8), 1],
-        [2, 8, 30],
-        [0, 1],
-    ):
-        cases.append(f"{values[0]},{most},{','.join(map(str, values[1:]))}")
-    return cases
+    return {
+        "max": [most],
+        "min": [most, part(most, 2), part(most, 4), part(most, 8)],
+        "inc": [most // 20, most // 5],
+        "threshold": [allowed, part(allowed, 2), part(allowed, 4), part(allowed, 8), 1],
+        "limit": [2, 8, 30],
+        "skip": [0, 1],
+    }
+
+
+def cases_round(asked, grid):
+    _, *values = grid.values()
+    cases = itertools.product(*values)
+    made = [
+        redrawn.Settings(least, asked.greatest, *it, asked.start, bool(skip), asked.base) for least, *it, skip in cases
+    ]
+    return [asked, *made]
 
 
 def choice_of(plans, down, total):
@@ -59,120 +65,99 @@ def choice_of(plans, down, total):
     return nearest, f"{head}none within down {down} nearest {nearest}"
 
 
-def live_line(case, start, base):
-    names = [("min", "min"), ("max", "max"), ("inc", "inc"), ("threshold", "threshold"), ("rounds", "limit")]
-    live = [f"--{name} {case[key]}" for name, key in names] + [f"--start {start}"]
-    warm = [] if base is None else [f"--base {base}"]
-    return " ".join(["precopy live", *live, *warm, *["--skip"] * case["skip"]])
+def live_line(settings):
+    names = {"least": "min", "greatest": "max", "increment": "inc"}
+    given = {names.get(name, name): it for name, it in settings._asdict().items() if name != "skip" and it is not None}
+    return " ".join(["precopy live", *(f"--{name} {it}" for name, it in given.items()), *["--skip"] * settings.skip])
 
 
-def advised_lines(precopy, trace, asked, budget, words, limits=None):
-    """Returns the last lines of advice: why, what the case costs if limits are known, the case, and its words."""
-    given = facts([part for word in words for part in word[2:].split("=")])
-    start, base, down = given.get("start", 0), given.get("base"), budget["down"]
-    cases = cases_round(asked, down)
-    options = [f"--start={start}", *([f"--base={base}"] if base is not None else [])]
-    swept = told(precopy, ["sweep", *options, *cases], trace).splitlines()
-    plans = sweep_facts("\n".join(swept))["cases"]
-    chosen, reason = choice_of(plans, down, budget.get("total"))
-    lines = [reason]
-    if limits:
-        time, downtime, sent = costs_of(limits, start, plans[chosen])
+def advised(trace, asked, down, total, question=None):
+    """All lines of advice round some settings: budget, grid, why, what it costs in time, the case, and its words."""
+    grid = grid_of(asked, down)
+    cases = cases_round(asked, grid)
+    outcomes = [redrawn.planned(trace.guest, it) for it in cases]
+    plans = [migration_model.case_of(number, *it) for number, it in enumerate(zip(cases, outcomes))]
+    chosen, reason = choice_of(plans, down, total)
+    shared = {"start": [asked.start], **grid}
+    lines = [f"budget down {down}" + ("" if total is None else f" total {total}")]
+    lines += [" ".join(map(str, ["grid", name, *values])) for name, values in shared.items()]
+    lines.append(reason)
+    if question:
+        time, downtime, sent = question.cost(asked.start, outcomes[chosen])
         lines.append(f"time {time_text(time)}, sent {size_text(sent)}, downtime {time_text(downtime)}")
-    return [*lines, swept[chosen], live_line(plans[chosen], start, base)]
+    return [*lines, migration_model.case_line(plans[chosen]), live_line(cases[chosen])]
 
 
-def check_advice(view, precopy, words, trace):
-    lines = told(view, ["advise", *words], trace).splitlines()
+def expect_advice(view, words, trace, wanted):
+    status, text, faults = ran(view, ["advise", *words], trace.path)
+    found = status, text.splitlines(), faults
+    expect(found == (0, wanted, ""), f"{words}: {found} in place of {wanted}")
+
+
+def check_advice(view, _, words, trace):
     given = facts([part for word in words for part in word[2:].split("=")])
     most = given.get("max", 5000)
-    asked = min(1000, most), most, 500, 64, 30
-    wanted = advised_lines(precopy, trace, asked, given, words)
-    if lines[-3:] != wanted:
-        raise Failure(f"{lines[-3:]} in place of {wanted}")
+    asked = redrawn.Settings(min(1000, most), most, 500, 64, 30, given.get("start", 0), False, given.get("base"))
+    expect_advice(view, words, trace, advised(trace, asked, given["down"], given.get("total")))
 
 
-def check_measured_advice(view, precopy, limits, more, known):
-    words = [*limits.words, *more]
-    status, text = ran_in_range(view, "advise", words, limits, known)
-    if status is None:
-        return
-    least, most, inc, threshold = [int(word.split("=")[1]) for word in limits.settings()]
-    given = facts([part for word in more for part in word[2:].split("=")])
-    budget = {**given, "down": (limits.downtime - limits.reserve) // limits.tick}
-    wanted = advised_lines(precopy, known.path, (least, most, inc, threshold, 30), budget, more, limits)
-    if status or text.splitlines()[-4:] != wanted:
-        raise Failure(f"{words}: {text.splitlines()[-4:]} in place of {wanted}")
+def check_measured_advice(view, _, asked, total, trace):
+    words = [*asked.limits(), f"--start={asked.start}"] + ([] if asked.base is None else [f"--base={asked.base}"])
+    words += [] if total is None else [f"--total={total}"]
+    if not is_refused(view, ["advise"], asked, words, trace):
+        down = (asked.downtime - asked.reserve) // asked.tick
+        expect_advice(view, words, trace, advised(trace, asked.settings(), down, total, asked))
 
 
-def check_refused_advice(view, _, words, line, known):
-    found = ran(view, ["advise", *words], known.path)
-    if found != (2, "", f"precopy-view: {line}\n"):
-        raise Failure(f"{words}: {found}")
+def check_refused_advice(view, _, words, line, trace):
+    found = ran(view, ["advise", *words], trace.path)
+    expect(found == (2, "", f"precopy-view: {line}\n"), f"{words}: {found}")
 
 
-def check_measured_sweep(view, precopy, limits, cases, known):
-    """Compares a document of a sweep that has times and bytes with the lines in ticks and pages."""
-    words = [word for word in limits.words if word.split("=")[0] in ("--tick", "--page", "--sampled")]
-    found = document_of("sweep", told(view, ["json", "sweep", *words, *cases], known.path))
-    wanted = sweep_facts(told(precopy, ["sweep", *cases], known.path))
-    wanted["units"] = {
-        "tick_seconds": limits.tick / 1e6,
-        "page_bytes": limits.page,
-        "sampled_pages": limits.sampled,
-        "guest_pages": limits.guest,
-    }
+def check_measured_sweep(view, _, asked, cases, trace):
+    """A document of a sweep that has times and bytes."""
+    words = [*asked.units(), *map(migration_model.case_word, cases)]
+    status, text, faults = ran(view, ["json", "sweep", *words], trace.path)
+    expect(status == 0 and not faults, f"{words}: status {status}, {faults!r}")
+    wanted = {**migration_model.sweep_of(trace, cases), "units": migration_model.units_member(asked)}
     for case in wanted["cases"]:
-        case["at_seconds"], case["down_seconds"] = case["at"] * limits.tick / 1e6, case["down"] * limits.tick / 1e6
-        case["total_bytes"] = limits.bytes(case["total"])
-    if found != wanted:
-        raise Failure(f"{found} in place of {wanted}")
-
-
-def advice_tries(trace):
-    """Returns the tries of advice in ticks over a trace."""
-    return [(check_advice, words, trace) for words in BUDGETS]
+        for name in ("at", "down"):
+            case[f"{name}_seconds"] = migration_model.seconds(case[name] * asked.tick)
+        case["total_bytes"] = asked.bytes_of(case["total"])
+    found = parsed("sweep", text)
+    expect(found == wanted, f"{words}: {found} in place of {wanted}")
 
 
 def random_case(draw):
     least = draw.randrange(1, 5000)
-    return ",".join(
-        map(
-            str,
-            [
-                least,
-                draw.randrange(least, 10_000),
-                draw.randrange(1000),
-                draw.randrange(1, 100),
-                draw.randrange(1, 31),
-                draw.randrange(2),
-            ],
-        )
-    )
+    most, increment, threshold = draw.randrange(least, 10_000), draw.randrange(1000), draw.randrange(1, 100)
+    return redrawn.Settings(least, most, increment, threshold, draw.randrange(1, 31), skip=bool(draw.randrange(2)))
 
 
-def measured_tries(paths):
-    """Returns the tries of advice in time, and of sweeps in times and bytes, over some traces."""
-    draw = random.Random(23)
-    known = [Known(path) for path in paths]
-    tries = []
-    for _ in range(CASES_OF_ADVICE):
-        some = draw.choice(known)
-        more = draw.choice([[], [f"--start={draw.randrange(some.last + 1)}"], [f"--total={draw.randrange(200)}"]])
-        tries.append((check_measured_advice, Limits(draw, some), more, some))
-    for _ in range(CASES_OF_SWEEPS):
-        some = draw.choice(known)
-        cases = [random_case(draw) for _ in range(draw.randrange(1, 6))]
-        tries.append((check_measured_sweep, Limits(draw, some), cases, some))
-    limits = ["--link=10Gbit", "--downtime=300ms"]
-    for words, line in [
-        ([], "--down is needed, or --link and --downtime, as in --link 10Gbit --downtime 300ms"),
-        (["--max=4"], "--down is needed, or --link and --downtime, as in --link 10Gbit --downtime 300ms"),
-        (["--down=3", *limits], "--down cannot be used with --link and --downtime"),
-        (["--max=3", *limits], "--min, --max and --threshold cannot be used with --link and --downtime"),
-        (["--tick=1ms"], "--link and --downtime are needed, as in --link 10Gbit --downtime 300ms"),
-        (["--down=3", "--tick=1ms"], "--down cannot be used with --link and --downtime"),
-        (limits[:1], "--link and --downtime go together, and --first and --reserve need them"),
-    ]:
-        tries.append((check_refused_advice, words, line, known[0]))
-    return tries
+REFUSED = [
+    ([], "--down is needed, or --link and --downtime, as in --link 10Gbit --downtime 300ms"),
+    (["--max=4"], "--down is needed, or --link and --downtime, as in --link 10Gbit --downtime 300ms"),
+    (["--down=3", "--link"], "--down cannot be used with --link and --downtime"),
+    (["--max=3", "--link"], "--min, --max and --threshold cannot be used with --link and --downtime"),
+    (["--tick=1ms"], "--link and --downtime are needed, as in --link 10Gbit --downtime 300ms"),
+    (["--down=3", "--tick=1ms"], "--down cannot be used with --link and --downtime"),
+    (["--link=10Gbit"], "--link and --downtime go together, and --first and --reserve need them"),
+]
+
+
+def advice_tries(examples, traces):
+    """The tries of advice, and of sweeps in times and bytes."""
+    draw = draws("advice")
+    yield from ((check_advice, words, trace) for trace in examples for words in BUDGETS)
+    for trace, asked in some(draw, traces, ADVICE, rounds=30, skip=False, increment=None):
+        yield check_measured_advice, asked, draw.choice([None, None, draw.randrange(200)]), trace
+    for _ in range(SWEEPS):
+        trace = draw.choice(traces)
+        yield check_measured_sweep, in_range(draw, trace), [
+            random_case(draw) for _ in range(draw.randrange(1, 6))
+        ], trace
+    for words, line in REFUSED:
+        words = [
+            more for word in words for more in (["--link=10Gbit", "--downtime=300ms"] if word == "--link" else [word])
+        ]
+        yield check_refused_advice, words, line, traces[0]

@@ -2,13 +2,17 @@
 
 import collections
 import os
-import random
-import struct
 import xml.etree.ElementTree
+from dataclasses import replace
 
 from checks.lib.amount_texts import moment_text, size_text, time_text
-from checks.lib.view_texts import Failure, document_of, ran, report_facts, told
-from checks.view.limit_cases import Known, Limits
+from checks.lib.harness import draws
+from checks.lib.migration_model import Cost, options_of, report_of, windows_of
+from checks.lib.tally import expect
+from checks.lib.traces import Trace, made
+from checks.lib.view_texts import ran, told
+from checks.view.limit_cases import in_range, told_of
+from precopy_dev.models import redrawn
 
 SVG = "{http://www.w3.org/2000/svg}"
 LEFT, SPAN = 90, 800
@@ -17,11 +21,6 @@ UNITS = {"us": 1, "ms": 1_000, "s": 1_000_000}
 
 Mark = collections.namedtuple("Mark", "x y width height")
 Label = collections.namedtuple("Label", "x y words")
-
-
-def expect(holds, said):
-    if not holds:
-        raise Failure(said)
 
 
 class Scale:
@@ -207,24 +206,20 @@ def report_lines(report, length, limits):
     if limits:
         at, down = moment_text(stop["at"] * limits.tick), time_text(stop["down"] * limits.tick)
         feet.append(
-            f"Stop at {at}; downtime {down} for {size_text(limits.bytes(stop['pages']))}; "
-            f"{size_text(limits.bytes(stop['total']))} sent in all"
+            f"Stop at {at}; downtime {down} for {size_text(limits.bytes_of(stop['pages']))}; "
+            f"{size_text(limits.bytes_of(stop['total']))} sent in all"
         )
     return [head], feet
 
 
-def check_report_marks(view, precopy, words, limits, known):
-    """Reads the picture of a report back, and compares it with the report of precopy."""
-    settings = limits.settings() if limits else words["pace"]
-    if settings is None:
-        return
-    start, length = words["start"], words["window"]
-    common = [f"--start={start}", f"--window={length}"]
-    report = report_facts(told(precopy, ["report", *settings, *common], known.path))
-    picture = Picture(told(view, ["chart", *(limits.words if limits else settings), *common], known.path))
+def check_report_marks(view, _, limits, settings, length, trace):
+    """Reads the picture of a report back, and compares it with the report of the model."""
+    report = report_of(trace, settings, length)
+    words = limits.words() if limits else options_of(settings)
+    picture = Picture(told(view, ["chart", *words, f"--window={length}"], trace.path))
     windows, pages, rates = picture.panels
     stop = report["stop"]
-    ends = start, stop["at"] + stop["down"]
+    ends = settings.start, stop["at"] + stop["down"]
     axis, rounds_axis = axis_over(ends, length, report["windows"]), Axis(*ends)
     read_windows(windows, axis, length, report["windows"])
     [(begin, end)], [(at, _)] = windows.whole("span"), windows.whole("stop")
@@ -241,43 +236,33 @@ def check_report_marks(view, precopy, words, limits, known):
 # ---- Starts.
 
 
-def micros(number):
-    return round(number * 1_000_000)
-
-
-QUANTITIES = [
-    lambda at: micros(at["down_seconds"]) // 1_000,
-    lambda at: micros(at["time_seconds"]) // 1_000,
-    lambda at: at["sent_bytes"] >> 20,
-]
+QUANTITIES = [lambda cost: cost.down // 1_000, lambda cost: cost.time // 1_000, lambda cost: cost.sent >> 20]
 
 
 def read_curve(panel, axis, points, starts, number_of):
     """Reads the points of a curve for the starts that are within the trace, or for the others."""
     expect(len(points) == len(starts), f"{len(points)} points for {len(starts)} starts")
-    for (x, y), at in zip(points, starts):
-        expect(axis.shows(x, at["start"]), f"the start {at['start']} at {x}")
-        expect(panel.scale.has(panel.bottom - y, number_of(at)), f"{number_of(at)} of start {at['start']} at {y}")
+    for (x, y), cost in zip(points, starts):
+        expect(axis.shows(x, cost.start), f"the start {cost.start} at {x}")
+        expect(panel.scale.has(panel.bottom - y, number_of(cost)), f"{number_of(cost)} of start {cost.start} at {y}")
 
 
-def start_line(name, at, tick):
-    down, time = time_text(micros(at["down_seconds"])), time_text(micros(at["time_seconds"]))
+def start_line(name, cost, tick):
+    down, time = time_text(cost.down), time_text(cost.time)
     return (
-        f"{name} start at {moment_text(at['start'] * tick)}: downtime {down}, time {time}, "
-        f"{size_text(at['sent_bytes'])} sent"
+        f"{name} start at {moment_text(cost.start * tick)}: downtime {down}, time {time}, {size_text(cost.sent)} sent"
     )
 
 
-def read_starts(picture, axis, document, limit):
-    starts = document["starts"]
+def read_starts(picture, axis, costs, chosen, limit):
     for number, (panel, number_of) in enumerate(zip(picture.panels[1:], QUANTITIES)):
         least = limit if number == 0 else 1
-        expect(panel.most == max([1, least, *map(number_of, starts)]), f"{panel.most} at the top of panel {number}")
-        for name, within in (("late", False), ("known", True)):
-            some = [at for at in starts if (at["kept"] != "unknown") == within]
+        expect(panel.most == max([1, least, *map(number_of, costs)]), f"{panel.most} at the top of panel {number}")
+        for name, is_known in (("late", False), ("known", True)):
+            some = [cost for cost in costs if cost.is_known == is_known]
             read_curve(panel, axis, picture.lines[name][number], some, number_of)
         for name in ("best", "worst"):
-            wanted = [document[name]["start"]] if name in document else []
+            wanted = [chosen[name]["start"]] if name in chosen else []
             found = [begin for begin, _ in panel.whole(name)]
             expect(len(found) == len(wanted), f"{name} starts at {found}")
             expect(all(map(axis.shows, found, wanted)), f"the {name} start at {found} in place of {wanted}")
@@ -286,23 +271,25 @@ def read_starts(picture, axis, document, limit):
     expect(line.x == LEFT and panel.scale.has(panel.bottom - line.y, limit), f"the limit {limit} at {line}")
 
 
-def check_start_marks(view, precopy, words, limits, known):
-    """Reads the picture of some starts back, and compares it with their document."""
-    if limits.settings() is None:
-        return
-    length = words["window"]
-    asked = [*limits.words, *words["starts"]]
-    document = document_of("when", ran(view, ["json", "when", *asked], known.path)[1])
-    picture = Picture(ran(view, ["when", "--chart", *asked, f"--window={length}"], known.path)[1])
-    report = report_facts(told(precopy, ["report", f"--window={length}"], known.path))
-    axis = axis_over([at["start"] for at in document["starts"]], length, report["windows"])
-    read_windows(picture.panels[0], axis, length, report["windows"])
-    read_starts(picture, axis, document, limits.downtime // 1_000)
+def check_start_marks(view, _, limits, ticks, length, trace):
+    """Reads the picture of some starts back, and compares it with what the model makes of them."""
+    starts = [f"--from={ticks[0]}", f"--to={ticks.stop - 1}", f"--every={ticks.step}"]
+    plan = [f"--rounds={limits.rounds}", *["--skip"] * limits.skip]
+    plan += [] if limits.increment is None else [f"--inc={limits.increment}"]
+    costs = [Cost.of(limits, trace, tick) for tick in ticks]
+    status, _, document = told_of(limits, costs)
+    found, text, _ = ran(view, ["when", "--chart", *limits.limits(), *plan, *starts, f"--window={length}"], trace.path)
+    expect(found == status, f"status {found} in place of {status}")
+    picture, (windows, _) = Picture(text), windows_of(trace, length, 2)
+    axis = axis_over(list(ticks), length, windows)
+    read_windows(picture.panels[0], axis, length, windows)
+    read_starts(picture, axis, costs, document, limits.downtime // 1_000)
     read_axis(picture, axis, picture.panels[-1].bottom, limits.tick)
-    chosen = [name for name in ("best", "worst") if name in document]
-    feet = [start_line(name.capitalize(), document[name], limits.tick) for name in chosen]
-    found = picture.texts("head"), picture.texts("foot")
-    expect(found == (["When to migrate"], feet), f"the lines {found} in place of {feet}")
+    by_start = {cost.start: cost for cost in costs}
+    chosen = [(name, by_start[document[name]["start"]]) for name in ("best", "worst") if name in document]
+    feet = [start_line(name.capitalize(), cost, limits.tick) for name, cost in chosen]
+    texts = picture.texts("head"), picture.texts("foot")
+    expect(texts == (["When to migrate"], feet), f"the lines {texts} in place of {feet}")
 
 
 # ---- Random traces and words.
@@ -319,51 +306,35 @@ def random_trace(draw, folder, number):
         for _ in range(draw.choice([1, 2, 40, 1_500]))
     )
     with open(path, "wb") as file:
-        file.write(b"PCWT" + bytes([1, 12, 0, 0]) + struct.pack("<II", pages, len(writes)))
-        for tick, page in writes:
-            file.write(struct.pack("<QIHH", tick, page, 0, 1) + b"\x01")
-    return path
+        file.write(made(pages, writes, 12))
+    return Trace.at(path)
 
 
 def random_window(draw, last):
     return max(1, (last + 1) // draw.choice([1, 7, 60, 1_000]), last // 3_000)
 
 
-def random_pace(draw):
+def random_settings(draw, last):
     least = draw.choice([1, 20, 700, 40_000])
     most = draw.choice([least, min(1_000_000, least * draw.choice([2, 9, 100]))])
-    return [
-        f"--min={least}",
-        f"--max={most}",
-        f"--inc={draw.randrange(most)}",
-        f"--threshold={draw.randrange(1, 80)}",
-        f"--rounds={draw.choice([1, 2, 8, 64])}",
-        *draw.choice([[], ["--skip"]]),
-    ]
-
-
-def random_starts(draw, last):
-    first = draw.randrange(last + 2)
-    every = max(1, (last - first) // draw.choice([1, 5, 90]))
-    return [f"--from={first}", f"--to={max(first, last)}", f"--every={every}"]
+    start = draw.choice([0, last, draw.randrange(last + 2)])
+    increment, threshold, rounds = draw.randrange(most), draw.randrange(1, 80), draw.choice([1, 2, 8, 64])
+    return redrawn.Settings(least, most, increment, threshold, rounds, start, bool(draw.randrange(2)))
 
 
 def picture_tries(folder):
-    """Returns the tries of 200 random pictures over random traces."""
-    draw = random.Random(4_800)
-    known = [Known(random_trace(draw, folder, number)) for number in range(40)]
+    """The tries of 200 random pictures over random traces."""
+    draw = draws("pictures")
+    traces = [random_trace(draw, folder, number) for number in range(40)]
     for number in range(REPORTS + STARTS):
-        some = draw.choice(known)
-        words = {
-            "start": draw.choice([0, some.last, draw.randrange(some.last + 2)]),
-            "pace": random_pace(draw),
-            "window": random_window(draw, some.last),
-            "starts": random_starts(draw, some.last),
-        }
-        limits = Limits(draw, some)
-        while limits.settings() is None:
-            limits = Limits(draw, some)
+        trace = draw.choice(traces)
+        limits, length = in_range(draw, trace), random_window(draw, trace.last)
         if number < REPORTS:
-            yield check_report_marks, words, draw.choice([None, limits]), some
+            limits = draw.choice([None, limits])
+            settings = limits.settings() if limits else random_settings(draw, trace.last)
+            yield check_report_marks, limits, settings, length, trace
         else:
-            yield check_start_marks, words, limits, some
+            first = draw.randrange(trace.last + 2)
+            every = max(1, (trace.last - first) // draw.choice([1, 5, 90]))
+            limits = replace(limits, start=0, base=None)
+            yield check_start_marks, limits, range(first, max(first, trace.last) + 1, every), length, trace

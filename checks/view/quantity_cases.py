@@ -2,24 +2,27 @@
 
 And amounts as texts: the tools and the page write them as checks/lib/amount_texts.py does."""
 
-import json
 import math
 import os
-import random
-import re
+from dataclasses import replace
 from fractions import Fraction
 
 from checks.lib.amount_texts import error_text, moment_text, size_text, time_text
-from checks.lib.view_texts import TOP, Failure, ran
-from checks.view.limit_cases import RATES, TIMES
+from checks.lib.harness import draws
+from checks.lib.tally import Failure, expect
+from checks.lib.view_texts import TOP, parsed, ran
+from checks.view.limit_cases import PLAIN, RATES, TIMES
 from precopy_tools import quantities as tool_texts
 from precopy_tools import words as tool_words
 
 UNITS = {"time": {**TIMES, "m": 60 * TIMES["s"], "h": 3_600 * TIMES["s"]}, "rate": RATES}
 DRAWN = 60
 PAGE_BYTES = 4_096
-MISSPELLED = "a number and its unit, "
-TOO_MUCH = 1 << 53
+UNITS_OF_RATES = "Kbit, Mbit, Gbit, KB, MB, GB, KiB, MiB or GiB, per second, as in 10Gbit"
+MISSPELLED = {
+    "time": (2, "", "precopy-view: --downtime: a number and its unit, us, ms, s, m or h, as in 300ms or 0.3s\n"),
+    "rate": (2, "", f"precopy-view: --link: a number and its unit, {UNITS_OF_RATES}\n"),
+}
 
 
 def table():
@@ -32,7 +35,7 @@ def table():
 
 def drawn():
     """Random decimals in each unit: what they come to is worked out by fractions."""
-    draw = random.Random(645)
+    draw = draws("quantities")
     for kind, units in UNITS.items():
         for _ in range(DRAWN):
             unit, places = draw.choice(sorted(units)), draw.randrange(7)
@@ -47,7 +50,7 @@ def quantities():
 
 def amounts():
     """Amounts on both sides of those at which a form changes, and random ones."""
-    draw = random.Random(646)
+    draw = draws("amounts")
     edges = [*(10**power for power in range(10)), *(1 << power for power in (10, 20, 30, 40))]
     some = (int(10 ** (draw.random() * 13)) for _ in range(DRAWN))
     return sorted({*(edge + step for edge in edges for step in (-1, 0, 1)), *some})
@@ -58,35 +61,35 @@ def texts_of(amount):
     return [time_text(amount), error_text(amount), moment_text(amount), size_text(amount)]
 
 
-def words_for(kind, word, amount):
-    """Options that say a word where its amount, if it has one, is in its range."""
+def asked_for(kind, word, amount):
+    """Options that say a word, where its amount is in its range if there is such a place; and the question that they
+    ask."""
     if kind == "time":
-        return ["--link=0.005KB", f"--downtime={word}", "--tick=1s"]
+        return ["--link=0.005KB", f"--downtime={word}", "--tick=1s"], replace(
+            PLAIN, link=5, downtime=amount or 0, tick=10**6
+        )
     fits = (name for name, tick in TIMES.items() if 1 <= (amount or 0) * tick // (1_000 * PAGE_BYTES) <= 1_000_000)
-    return [f"--link={word}", "--downtime=0s", f"--tick=1{next(fits, 'ms')}"]
+    unit = next(fits, "ms")
+    asked = replace(PLAIN, link=amount or 0, downtime=0, tick=TIMES[unit])
+    return [f"--link={word}", "--downtime=0s", f"--tick=1{unit}"], asked
 
 
 def check_program(view, _, kind, word, amount, trace):
-    status, text, faults = ran(view, ["json", "predict", *words_for(kind, word, amount)], trace)
+    words, asked = asked_for(kind, word, amount)
+    found = status, text, faults = ran(view, ["json", "predict", *words], trace.path)
     if amount is None:
-        option = {"time": "--downtime", "rate": "--link"}[kind]
-        if status != 2 or text or not faults.startswith(f"precopy-view: {option}: {MISSPELLED}"):
-            raise Failure(f"{word!r}: status {status}, {text[:80]!r}, {faults!r}")
+        expect(found == MISSPELLED[kind], f"{word!r}: {found}")
         return
-    if amount >= TOO_MUCH:
-        if status != 2 or MISSPELLED in faults:
-            raise Failure(f"{word!r}: status {status}, {faults!r}")
+    if refusal := asked.limit_refusal():
+        expect(list(found) == refusal.of_view(), f"{word!r}: {found} in place of {refusal}")
         return
-    if status not in (0, 3, 4):
-        raise Failure(f"{word!r}: status {status}, {faults!r}")
-    limits = json.loads(text)["limits"]
-    said = re.search(r'"down_seconds":([0-9]+)\.([0-9]{6})', text)
-    found = limits["link_bytes"] if kind == "rate" else int(said[1] + said[2])
-    if found != amount:
-        raise Failure(f"{word!r}: {found} in place of {amount}")
+    expect(status in (0, 3, 4) and not faults, f"{word!r}: status {status}, {faults!r}")
+    limits = parsed("predict", text)["limits"]
+    amounts_told = limits["link_bytes"], limits["down_seconds"] * 1_000_000
+    expect(amounts_told == (asked.link, asked.downtime), f"{word!r}: {amounts_told} in place of {amount}")
 
 
-def check_tool(_, __, kind, word, amount, ___):
+def check_tool(_, __, kind, word, amount):
     units = {"time": tool_words.TIMES, "rate": tool_words.RATES, "size": tool_words.SIZES}[kind]
     found = tool_words.amount(word, units)
     if found != amount:
@@ -103,5 +106,5 @@ def check_texts(_, __, amount):
 def quantity_tries(trace):
     """Returns the tries of amounts, and those of words over a trace with pages of 4,096 bytes."""
     tries = [(check_texts, amount) for amount in amounts()]
-    tries += [(check_tool, *row, trace) for row in quantities()]
+    tries += [(check_tool, *row) for row in quantities()]
     return tries + [(check_program, *row, trace) for row in quantities() if row[0] != "size"]

@@ -1,27 +1,24 @@
 """Tries the command line of the built program from outside: words in; output, standard error and status out.
 
-    checks/run words [PROGRAM]
+    checks/run words [PRECOPY]
 
-PROGRAM is crates/precopy/out/precopy of this repository if none is given. What each run must write is from
-docs/COMMANDS.md and docs/FORMATS.md by hand, and in clap's form if the words themselves are wrong. Standard input
-is the trace of 102 bytes in docs/FORMATS.md, one that releases a page, or a damaged one; how far it was read is tested
-too. The last line is 'N passed, M failed'; the status is 0 if something was tried and
-nothing failed.
+What each run must write is from docs/COMMANDS.md and docs/FORMATS.md by hand, and in clap's form if the words
+themselves are wrong. Standard input is the trace of 102 bytes in docs/FORMATS.md, one that releases a page, or a
+damaged one; how far it was read is tested too. A run is a case.
 """
 
-import argparse
 import os
 import re
 import select
 import subprocess
-import sys
 import tempfile
-import time
+from dataclasses import dataclass
 
-from checks.lib.worked import A_AT_2000, A_IMAGE, A_REPORT, RECORDS, A, header, record
+from checks.lib import harness
+from checks.lib.traces import header, record
+from checks.lib.worked import A_AT_2000, A_IMAGE, A_REPORT, RECORDS, A
 from precopy_dev.tree import TOP
 
-PROGRAM = os.path.join(TOP, "crates", "precopy", "out", "precopy")
 SECONDS = 20
 
 # In version 2, with page 1 released in place of its last write.
@@ -40,22 +37,19 @@ USAGE = {
 # ---- One run.
 
 
-class Run:
-    """What came of a run: its status, output and standard error, and how many bytes of standard input it took."""
+@dataclass
+class Run(harness.Run):
+    """What came of a run, and how many bytes of standard input it took."""
 
-    def __init__(self, status, output, faults, taken):
-        self.status, self.output, self.faults, self.taken = status, output, faults, taken
+    taken: int | None = None
 
     def __str__(self):
-        ended = "did not end" if self.status is None else f"status {self.status}"
-        told = f"{len(self.output)} bytes of output {self.output[:80]!r}, standard error {self.faults[:300]!r}"
-        return f"{ended}, {told}, {self.taken} bytes read"
+        return f"{super().__str__()}, {self.taken} bytes read"
 
 
 class Words:
-    def __init__(self, program, folder):
-        self.program, self.folder = program, folder
-        self.passed, self.failures = 0, []
+    def __init__(self, tally, program, folder):
+        self.tally, self.program, self.folder = tally, program, folder
         self.traces = {}
 
     def file_of(self, trace):
@@ -77,21 +71,11 @@ class Words:
             close = f'exec "$@" {closed}{"<" if closed == 0 else ">"}&-'
             command, program = ["sh", "-c", close, "sh", self.program, *words], None
         with self.file_of(trace) as stdin:
-            how = {"executable": program, "stdin": stdin, "stdout": stdout}
-            how |= {"stderr": subprocess.PIPE, "timeout": SECONDS}
-            try:
-                done = subprocess.run(command, **how)
-            except subprocess.TimeoutExpired as late:
-                return Run(None, late.stdout or b"", late.stderr or b"", None)
-            taken = os.lseek(stdin.fileno(), 0, os.SEEK_CUR)
-        return Run(done.returncode, done.stdout or b"", done.stderr, taken)
+            done = harness.run(command, executable=program, stdin=stdin, stdout=stdout, seconds=SECONDS)
+            return Run(done.status, done.output, done.faults, os.lseek(stdin.fileno(), 0, os.SEEK_CUR))
 
     def add(self, good, told):
-        if good:
-            self.passed += 1
-        else:
-            self.failures.append(told)
-            print(f"  FAILED {told}", flush=True)
+        self.tally.add(good, told)
 
     def wants(self, words, status, output, faults, trace=A, taken=None, **how):
         """One run, and what must come of it. Of what may be taken of the trace, None says nothing."""
@@ -488,30 +472,17 @@ def descriptors(check):
     check.wants(["image"], 0, A_IMAGE, b"", closed=2)
 
 
-def arguments():
-    parser = argparse.ArgumentParser(description=__doc__.splitlines()[0])
-    parser.add_argument("program", nargs="?", default=PROGRAM, help="the built program; crates/precopy/out/precopy")
-    return parser.parse_args()
+GROUPS = [help_texts, wrong_words, numbers, ranges, cases, bytes_for_words, traces, releases, warm_starts, descriptors]
 
 
-def main():
-    given = arguments()
-    program = os.path.abspath(given.program)
-    if not os.access(program, os.X_OK):
-        raise SystemExit(f"checks/words: there is no program {program}; ./precopy builds it\n0 passed, 1 failed")
-    begun = time.monotonic()
+def check(tally, given):
     with tempfile.TemporaryDirectory() as folder:
-        check = Words(program, folder)
-        groups = [help_texts, wrong_words, numbers, ranges, cases, bytes_for_words, traces, releases, warm_starts]
-        for group in [*groups, descriptors]:
-            passed, failed = check.passed, len(check.failures)
-            group(check)
-            passed, failed = check.passed - passed, len(check.failures) - failed
-            print(f"{group.__name__}: {passed} passed, {failed} failed", flush=True)
-    print(f"{time.monotonic() - begun:.0f} s")
-    print(f"{check.passed} passed, {len(check.failures)} failed")
-    return 0 if check.passed and not check.failures else 1
+        for group in GROUPS:
+            part = harness.Tally()
+            group(Words(part, given.precopy, folder))
+            print(f"{group.__name__}: {part}", flush=True)
+            tally.add_all(part)
 
 
 if __name__ == "__main__":
-    sys.exit(main())
+    harness.run_main(check, __doc__, "precopy")

@@ -24,6 +24,17 @@ class Settings(NamedTuple):
     base: int | None = None
 
 
+class Round(NamedTuple):
+    """From one tick to another, with a rate: pages that are due, those of them that are sent, and pages written."""
+
+    start: int
+    end: int
+    rate: int
+    pages: int
+    sent: int
+    dirtied: int
+
+
 class Outcome(NamedTuple):
     """How many rounds there are, why they end and at which tick, the ticks of the downtime, the pages that are
     sent, and those of them that are left at the stop."""
@@ -58,26 +69,32 @@ def is_written(ticks: list[int], first: int, end: int) -> bool:
     return place < len(ticks) and ticks[place] < end
 
 
-def planned(guest: list[list[int]], asked: Settings) -> Outcome:
-    """The plan of a guest, by the ticks at which each of its pages is written."""
-    tick, rate, total = asked.start, asked.least, 0
+def rounds(guest: list[list[int]], asked: Settings) -> tuple[list[Round], str]:
+    """The rounds of a guest, by the ticks at which each of its pages is written, and why they end."""
+    tick, rate, found = asked.start, asked.least, []
     base = asked.base
     pages = [n for n, ticks in enumerate(guest) if base is None or is_written(ticks, base, tick)]
-    for rounds in range(1, asked.rounds + 1):
-        skips = asked.skip and rounds > 1
+    while True:
+        skips = asked.skip and found
         sent = 0 if skips else len(pages)
         for page in pages if skips else []:
             sent += not is_written(guest[page], tick, tick + 1000 * sent // rate)
         end = tick - -1000 * sent // rate if sent else tick
         dirtied = [n for n, ticks in enumerate(guest) if is_written(ticks, tick, end)]
-        total += sent
+        found.append(Round(tick, end, rate, len(pages), sent, len(dirtied)))
         following = -(-1000 * len(dirtied) // (end - tick)) + asked.increment if end > tick else 0
         reason = "few" if len(dirtied) < asked.threshold else "fast" if following > asked.greatest else "rounds"
-        if reason != "rounds" or rounds == asked.rounds:
-            down = -(-1000 * len(dirtied) // asked.greatest)
-            return Outcome(rounds, reason, end, down, total + len(dirtied), len(dirtied))
+        if reason != "rounds" or len(found) == asked.rounds:
+            return found, reason
         tick, rate, pages = end, max(following, asked.least), dirtied
-    raise AssertionError("a plan has a round")
+
+
+def planned(guest: list[list[int]], asked: Settings) -> Outcome:
+    """The plan of a guest."""
+    found, reason = rounds(guest, asked)
+    left = found[-1].dirtied
+    down, total = -(-1000 * left // asked.greatest), sum(each.sent for each in found) + left
+    return Outcome(len(found), reason, found[-1].end, down, total, left)
 
 
 def draws(sampled: int, pages: int) -> list[list[int]]:

@@ -1,0 +1,476 @@
+"""A plain model of what `precopy-view` and the library say of a migration: questions in time and bytes, the settings
+that they make, refusals, predictions, starts, reports and sweeps. Plans are made page by page, by
+python/precopy_dev/models/redrawn.py; all else is what docs/COMMANDS.md says. It shares no code with the programs."""
+
+from dataclasses import dataclass
+from fractions import Fraction
+from typing import NamedTuple, Optional
+
+from checks.lib import remedy_model
+from checks.lib.amount_texts import error_text, moment_text, size_text, time_text
+from checks.lib.host_words import host_lines, hosts_member
+from checks.lib.traces import Trace
+from precopy_dev.models import redrawn, remedies
+
+UNITS = (("Gbit", 125_000_000), ("Mbit", 125_000), ("Kbit", 125))
+REASONS = {
+    "few": ("yes, rounds: ", ""),
+    "fast": (
+        "no, the guest writes faster than the link sends; rounds: ",
+        "the plan ends with `fast`, so nothing bounds the downtime; give more of the link",
+    ),
+    "rounds": (
+        "no, all rounds that are allowed are done; rounds: ",
+        "the plan ends with `rounds`, so nothing bounds the downtime; allow more rounds",
+    ),
+}
+ERRORS = ("sent_bytes", "time_seconds", "down_seconds")
+STATUSES = {"yes": 0, "no": 3, "unknown": 4}
+
+
+# ---- Words.
+
+
+def rate_word(size: int) -> str:
+    """A rate as a refusal tells it: in the greatest unit of bits in which it is whole, or in KB."""
+    return next(
+        (f"{size // unit}{name}" for name, unit in UNITS if (size or unit == 125) and size % unit == 0),
+        f"{size // 1_000}.{size % 1_000:03}KB",
+    )
+
+
+def time_word(micros: int) -> str:
+    """A time as a refusal tells it."""
+    units = (("s", 1_000_000), ("ms", 1_000))
+    return next((f"{micros // unit}{name}" for name, unit in units if micros and micros % unit == 0), f"{micros}us")
+
+
+def seconds(micros: int) -> Fraction:
+    return Fraction(micros, 1_000_000)
+
+
+# ---- Questions.
+
+
+@dataclass(frozen=True)
+class Question:
+    """Rates in bytes a second, times in microseconds, a page in bytes, the start and the base in ticks."""
+
+    link: int
+    first: Optional[int]
+    downtime: int
+    reserve: int
+    tick: int
+    page: int
+    sampled: int
+    guest: int
+    increment: Optional[int]
+    rounds: int
+    start: int
+    base: Optional[int]
+    skip: bool
+
+    def millis_for_pages(self) -> int:
+        return (self.downtime - self.reserve) // 1_000
+
+    def units(self) -> list[str]:
+        return [f"--tick={self.tick}us", f"--page={self.page}", f"--sampled={self.sampled}/{self.guest}"]
+
+    def limits(self) -> list[str]:
+        """What the migration may take, as options of precopy-view."""
+        first = [] if self.first is None else [f"--first={rate_word(self.first)}"]
+        times = [f"--downtime={self.downtime}us", f"--reserve={self.reserve}us"]
+        return [f"--link={rate_word(self.link)}", *first, *times, *self.units()]
+
+    def plan(self) -> list[str]:
+        """The other options of a plan."""
+        given = {"rounds": self.rounds, "start": self.start, "inc": self.increment, "base": self.base}
+        return [f"--{name}={it}" for name, it in given.items() if it is not None] + ["--skip"] * self.skip
+
+    def words(self) -> list[str]:
+        return [*self.limits(), *self.plan()]
+
+    def rate(self, size: int) -> int:
+        """Pages in 1,000 ticks."""
+        return size * self.tick * self.sampled // (1000 * self.page * self.guest)
+
+    def rates(self) -> tuple[int, int]:
+        """The greatest rate, and that of the first round."""
+        return self.rate(self.link), self.rate(self.link if self.first is None else self.first)
+
+    def threshold(self) -> int:
+        return (self.downtime - self.reserve) // self.tick * self.rates()[0] // 1000 + 1
+
+    def bytes_of(self, pages: int) -> int:
+        return pages * self.page * self.guest // self.sampled
+
+    def most_bytes(self, rate: int) -> int:
+        """The most bytes a second that make no more than a rate."""
+        return ((rate + 1) * 1000 * self.page * self.guest - 1) // (self.tick * self.sampled)
+
+    def limit_refusal(self) -> Optional["Refusal"]:
+        """Which limit is refused, what was asked, and the nearest."""
+        (most, least), one = self.rates(), -(-1000 * self.page * self.guest // (self.tick * self.sampled))
+        if not 1 <= most <= 1_000_000:
+            nearest = min(max(self.link, one), self.most_bytes(1_000_000))
+            return _refused(84, "link", rate_word, self.link, "not 1 to 1,000,000 pages per 1,000 ticks", nearest)
+        if not 1 <= least <= most:
+            nearest = min(max(self.first, one), self.most_bytes(most))
+            return _refused(85, "first", rate_word, self.first, "not 1 page per 1,000 ticks to --link", nearest)
+        if self.reserve > self.downtime:
+            return _refused(86, "reserve", time_word, self.reserve, "longer than --downtime", self.downtime, "most")
+        if self.threshold() > 65_536:
+            ticks = (1000 * 65_536 - 1) // most + 1
+            longest = self.reserve + ticks * self.tick - 1
+            return _refused(87, "downtime", time_word, self.downtime, OVER_THE_LINK, longest, "most")
+        return None
+
+    def setting_refusal(self) -> Optional["Refusal"]:
+        is_late = self.base is not None and self.base > self.start
+        wrong = ((3, (self.increment or 0) > 1_000_000), (5, not 1 <= self.rounds <= 64))
+        wrong += ((8, self.start >= 1 << 40), (10, is_late))
+        return next((Refusal(20 + number, 2, f"settings S{number}") for number, holds in wrong if holds), None)
+
+    def refusal(self, trace: Trace, by_library: bool = False) -> Optional["Refusal"]:
+        """Why the question about a trace is refused, if it is. The library tests limits before other settings."""
+        tests = (self.limit_refusal, self.setting_refusal)
+        if told := next(filter(None, (test() for test in (tests if by_library else tests[::-1]))), None):
+            return told
+        if self.page != trace.size:
+            return Refusal(88, 1, f"a page of the trace has {trace.size} bytes; say so by --page")
+        if self.guest > self.sampled < trace.pages:
+            return Refusal(89, 1, f"the trace has {trace.pages} pages, more than --sampled says")
+        return None
+
+    def settings(self) -> redrawn.Settings:
+        """The settings that the limits make, if they are in range."""
+        most, least = self.rates()
+        increment = (most - least) // 10 if self.increment is None else self.increment
+        return redrawn.Settings(least, most, increment, self.threshold(), self.rounds, self.start, self.skip, self.base)
+
+    def scale(self) -> redrawn.Scale:
+        return redrawn.Scale(self.tick, self.page, self.sampled, self.guest)
+
+    def trial(self) -> remedies.Trial:
+        """The same as a migration whose limits are changed."""
+        limits = remedies.Limits(self.link, self.downtime, self.first, self.reserve)
+        others = remedies.Others(self.rounds, self.start, self.skip, self.base, self.increment)
+        return remedies.Trial(self.scale(), limits, others)
+
+    def cost(self, start: int, plan: redrawn.Outcome) -> tuple[int, int, int]:
+        """The time and the downtime of a plan, and what it sends."""
+        down = plan.down * self.tick + self.reserve
+        return (plan.stop - start) * self.tick + down, down, self.bytes_of(plan.total)
+
+
+OVER_THE_LINK = "more than 65,535 pages go over the link"
+
+
+class Refusal(NamedTuple):
+    """The library's status, and the status and the words of precopy-view."""
+
+    number: int
+    status: int
+    told: str
+
+    def of_view(self) -> list:
+        return [self.status, "", f"precopy-view: {self.told}\n"]
+
+
+def _refused(number, name, word, asked, why, nearest, which="nearest") -> Refusal:
+    return Refusal(number, 2, f"--{name} {word(asked)}: {why}; the {which} is {word(nearest)}")
+
+
+# ---- Predictions.
+
+
+class Answer(NamedTuple):
+    """What is predicted: times in microseconds. Errors are of bytes, time and downtime, if there are any. It is not
+    known what is enough if a migration ends late."""
+
+    converges: str
+    kept: str
+    why: str
+    rounds: int
+    time: int
+    sent: int
+    downtime: int
+    left: int
+    recorded: int
+    errors: Optional[tuple[int, int, int]]
+    enough: Optional[remedies.Remedies]
+
+
+def answer_of(asked: Question, trace: Trace) -> Optional[Answer]:
+    """The answer to a question about a trace, or None if it is refused."""
+    if asked.refusal(trace):
+        return None
+    settings = asked.settings()
+    plan = redrawn.planned(trace.guest, settings)
+    time, down, sent = asked.cost(asked.start, plan)
+    is_late = plan.stop > trace.last
+    has_errors = not is_late and 2 <= asked.sampled < asked.guest and asked.sampled <= 65_536
+    return Answer(
+        "unknown" if is_late else "yes" if plan.reason == "few" else "no",
+        "unknown" if is_late else "yes" if down <= asked.downtime else "no",
+        plan.reason,
+        plan.rounds,
+        time,
+        sent,
+        down,
+        plan.left,
+        max(0, trace.last - asked.start) * asked.tick,
+        redrawn.errors(trace.guest, settings, asked.scale()) if has_errors else None,
+        remedy_model.found_of(trace.guest, asked.trial(), is_late),
+    )
+
+
+def lines_of(asked: Question, told: Answer) -> list[str]:
+    """The first lines of `precopy-view predict`."""
+    if told.kept == "unknown":
+        return [
+            "converges: unknown, the trace ends before the migration does; record longer",
+            f"total time: more than {time_text(told.recorded)}",
+        ]
+    ends, warning = REASONS[told.why]
+    down = f"{time_text(told.downtime)}, limit: {time_text(asked.downtime)}"
+    lines = [
+        f"converges: {ends}{told.rounds}",
+        f"total time: {time_text(told.time)}",
+        f"sent: {size_text(told.sent)}",
+        f"downtime: {down}, {'kept' if told.kept == 'yes' else 'not kept'}",
+    ]
+    if told.errors:
+        sent, time, down = told.errors
+        lines.append(f"standard errors: sent {size_text(sent)}, time {error_text(time)}, downtime {error_text(down)}")
+    lines += ["warning: fewer than 100 pages decided the stop; chance moves it"] * (told.left < 100)
+    return lines + [f"warning: {warning}"] * (told.why != "few")
+
+
+def all_lines(asked: Question, told: Answer, trace: Trace) -> list[str]:
+    """All lines of `precopy-view predict`."""
+    settings = asked.settings()
+    given = {"min": settings.least, "max": settings.greatest, "inc": settings.increment}
+    given |= {"threshold": settings.threshold, "rounds": settings.rounds, "start": settings.start}
+    given |= {} if settings.base is None else {"base": settings.base}
+    live = " ".join(["precopy live", *(f"--{name} {it}" for name, it in given.items()), *["--skip"] * settings.skip])
+    hosts = host_lines(asked.link, asked.millis_for_pages())
+    ranges = Starts(asked, trace).lines()
+    return [*lines_of(asked, told), *ranges, *remedy_model.enough_lines(told.enough), live, *hosts]
+
+
+def units_member(asked: Question) -> dict:
+    scale = {"page_bytes": asked.page, "sampled_pages": asked.sampled, "guest_pages": asked.guest}
+    return {"tick_seconds": seconds(asked.tick), **scale}
+
+
+def document_of(asked: Question, told: Answer, trace: Trace) -> dict:
+    """The document of `precopy-view json predict`, with times as fractions of a second."""
+    settings = asked.settings()
+    first = {} if asked.first is None else {"first_bytes": asked.first}
+    base = {} if asked.base is None else {"base": asked.base}
+    times = {"down_seconds": seconds(asked.downtime), "reserve_seconds": seconds(asked.reserve)}
+    document = {
+        "units": units_member(asked),
+        "limits": {"link_bytes": asked.link, **first, **times},
+        "settings": {
+            "min": settings.least,
+            "max": settings.greatest,
+            "inc": settings.increment,
+            "threshold": settings.threshold,
+            "limit": settings.rounds,
+            "skip": settings.skip,
+            "start": settings.start,
+            **base,
+        },
+        "converges": told.converges,
+        "kept": told.kept,
+        "recorded_seconds": seconds(told.recorded),
+        **Starts(asked, trace).member(),
+        "enough": remedy_model.enough_member(told.enough, seconds),
+        "hosts": hosts_member(asked.link, asked.millis_for_pages()),
+    }
+    if told.kept == "unknown":
+        return document
+    migration = {
+        "why": told.why,
+        "rounds": told.rounds,
+        "time_seconds": seconds(told.time),
+        "sent_bytes": told.sent,
+        "down_seconds": seconds(told.downtime),
+        "left_pages": told.left,
+    }
+    if told.errors:
+        sent, time_error, down_error = told.errors
+        migration["errors"] = dict(zip(ERRORS, (sent, seconds(time_error), seconds(down_error))))
+    return {**document, "migration": migration}
+
+
+class Starts:
+    """What a migration costs from each of at most 21 starts."""
+
+    def __init__(self, asked: Question, trace: Trace):
+        first = asked.base or 0
+        last = max(first, trace.last)
+        ticks = range(first, last + 1, max(1, -(-(last - first) // 20)))
+        costs = [Cost.of(asked, trace, tick) for tick in ticks]
+        self.count, self.known = len(ticks), [cost for cost in costs if cost.is_known]
+        self.converging = sum(cost.reason == "few" for cost in self.known)
+        self.kept = sum(cost.is_kept for cost in self.known)
+
+    def spans(self):
+        """The least and the greatest bytes, time and downtime."""
+        return [(min(all_of), max(all_of)) for all_of in zip(*(it.prices() for it in self.known))]
+
+    def lines(self) -> list[str]:
+        if not self.known:
+            return []
+        sent, time, down = self.spans()
+        words = [
+            f"{text(low)} to {text(high)}"
+            for text, (low, high) in zip((size_text, time_text, time_text), (sent, time, down))
+        ]
+        counts = f"starts: {self.count}, known: {len(self.known)}, converging: {self.converging}"
+        return [
+            f"{counts}, limit kept: {self.kept}",
+            f"over known starts: sent {words[0]}, time {words[1]}, downtime {words[2]}",
+        ]
+
+    def member(self) -> dict:
+        if not self.known:
+            return {}
+        ends = zip(("least", "greatest"), zip(*self.spans()))
+        costs = {
+            name: {"time_seconds": seconds(time), "sent_bytes": sent, "down_seconds": seconds(down)}
+            for name, (sent, time, down) in ends
+        }
+        counts = {"count": self.count, "known": len(self.known), "converging": self.converging, "kept": self.kept}
+        return {"starts": {**counts, **costs}}
+
+
+# ---- Starts.
+
+
+class Cost(NamedTuple):
+    """What a migration from a start costs."""
+
+    start: int
+    reason: str
+    rounds: int
+    time: int
+    sent: int
+    down: int
+    is_kept: bool
+    is_known: bool
+
+    @staticmethod
+    def of(asked: Question, trace: Trace, start: int) -> "Cost":
+        plan = redrawn.planned(trace.guest, asked.settings()._replace(start=start))
+        time, down, sent = asked.cost(start, plan)
+        is_known = plan.stop <= trace.last
+        return Cost(start, plan.reason, plan.rounds, time, sent, down, down <= asked.downtime, is_known)
+
+    def prices(self) -> tuple[int, int, int]:
+        return self.sent, self.time, self.down
+
+    def preference(self):
+        """The numbers by which the least of some starts is the best, and the greatest the worst."""
+        prices = (self.sent, self.down) if self.is_kept else (self.down, self.sent)
+        return not self.is_kept, *prices, self.time
+
+    def verdict(self) -> str:
+        return "unknown" if not self.is_known else "yes" if self.is_kept else "no"
+
+    def row(self, tick: int) -> str:
+        mark = {"unknown": "unknown", "yes": "kept", "no": "not kept"}[self.verdict()]
+        cells = [str(self.start), moment_text(self.start * tick), time_text(self.time), size_text(self.sent)]
+        return "".join(f" {cell:>13}" for cell in [*cells, time_text(self.down)]) + f"  {mark}"
+
+    def member(self, tick: int) -> dict:
+        return {
+            "start": self.start,
+            "start_seconds": seconds(self.start * tick),
+            "rounds": self.rounds,
+            "time_seconds": seconds(self.time),
+            "sent_bytes": self.sent,
+            "down_seconds": seconds(self.down),
+            "kept": self.verdict(),
+        }
+
+    def choice(self, name: str, tick: int) -> str:
+        mark = "kept" if self.is_kept else "not kept"
+        costs = f"time {time_text(self.time)}, sent {size_text(self.sent)}, downtime {time_text(self.down)}, {mark}"
+        return f"{name} {moment_text(self.start * tick)}, --start {self.start}: {costs}"
+
+
+def chosen(costs: list[Cost]) -> tuple[Optional[Cost], Optional[Cost]]:
+    """The best and the worst start of those that are known."""
+    within = [cost for cost in costs if cost.is_known]
+    return min(within, key=Cost.preference, default=None), max(within, key=Cost.preference, default=None)
+
+
+# ---- Reports and sweeps, in ticks and pages.
+
+
+def windows_of(trace: Trace, length: int, hot: int) -> tuple[list[dict], dict]:
+    """The windows of a trace in which something is written, and the pages that are written in so many of them."""
+    pages: dict[int, set] = {}
+    counts: dict[int, int] = {}
+    for tick, page in trace.writes:
+        pages.setdefault(tick // length, set()).add(page)
+        counts[tick // length] = counts.get(tick // length, 0) + 1
+    seen, rows, times = set(), [], [0] * trace.pages
+    for number, written in sorted(pages.items()):
+        again = len(written & pages.get(number - 1, set()))
+        sizes = {"writes": counts[number], "pages": len(written), "again": again, "fresh": len(written - seen)}
+        rows.append({"window": number, **sizes})
+        seen |= written
+        for page in written:
+            times[page] += 1
+    return rows, {"windows": hot, "pages": [page for page, count in enumerate(times) if count >= hot]}
+
+
+def report_of(trace: Trace, settings: redrawn.Settings, length: int = 1_000, hot: int = 2) -> dict:
+    """The facts of a report."""
+    windows, hot_pages = windows_of(trace, length, hot)
+    rounds, reason = redrawn.rounds(trace.guest, settings)
+    plan = redrawn.planned(trace.guest, settings)
+    names = ("from", "to", "rate", "pages", "sent", "dirtied")
+    return {
+        "trace": {"pages": trace.pages, "size": trace.size, "writes": len(trace.records)},
+        "windows": windows,
+        "hot": hot_pages,
+        "rounds": [{"round": number, **dict(zip(names, it))} for number, it in enumerate(rounds)],
+        "stop": {"why": reason, "at": plan.stop, "pages": plan.left, "down": plan.down, "total": plan.total},
+    }
+
+
+def case_of(number: int, settings: redrawn.Settings, plan: redrawn.Outcome) -> dict:
+    """The facts of a case of a sweep."""
+    least, most, inc, threshold, rounds = settings[:5]
+    asked = {"min": least, "max": most, "inc": inc, "threshold": threshold, "limit": rounds, "skip": settings.skip}
+    ends = {"stop": plan.reason, "at": plan.stop, "down": plan.down, "total": plan.total}
+    return {"case": number, **asked, "rounds": plan.rounds, **ends}
+
+
+def case_line(case: dict) -> str:
+    return " ".join(f"{name} {int(it) if name == 'skip' else it}" for name, it in case.items())
+
+
+def sweep_of(trace: Trace, cases: list[redrawn.Settings]) -> dict:
+    """The facts of a sweep."""
+    found = [case_of(number, it, redrawn.planned(trace.guest, it)) for number, it in enumerate(cases)]
+    best = min(found, key=lambda case: (case["down"], case["total"], case["case"]))["case"]
+    return {"cases": found, "best": best}
+
+
+def options_of(settings: redrawn.Settings) -> list[str]:
+    """Settings as options of precopy."""
+    names = {"least": "min", "greatest": "max", "increment": "inc"}
+    given = {names.get(name, name): it for name, it in settings._asdict().items() if name != "skip" and it is not None}
+    return [f"--{name}={it}" for name, it in given.items()] + ["--skip"] * settings.skip
+
+
+def case_word(settings: redrawn.Settings) -> str:
+    """Settings as a case of a sweep, without the start and the base."""
+    return ",".join(map(str, [*settings[:5], int(settings.skip)]))

@@ -1,0 +1,102 @@
+"""Traces by docs/FORMATS.md: made, taken apart, drawn at random, and damaged. It shares no code with the programs."""
+
+import glob
+import os
+import struct
+from functools import cached_property
+
+from precopy_dev.models import redrawn
+from precopy_dev.tree import TOP
+
+MAGIC = b"PCWT"
+EXAMPLES = sorted(glob.glob(os.path.join(TOP, "examples", "*.pcwt")))
+
+
+def header(pages, writes, shift=4, magic=MAGIC, version=1, reserved=b"\0\0"):
+    return magic + bytes([version, shift]) + reserved + struct.pack("<II", pages, writes)
+
+
+def record(tick, page, offset, data, length=None):
+    return struct.pack("<QIHH", tick, page, offset, len(data) if length is None else length) + data
+
+
+def made(pages, writes, shift=4, version=1):
+    """A trace of writes of one byte, or of releases, by their ticks and pages."""
+    data = b"\1" if version == 1 else b""
+    return header(pages, len(writes), shift, version=version) + b"".join(record(*it, 0, data) for it in writes)
+
+
+class Trace:
+    """A trace that is accepted: the bytes of a page, the pages, the writes as (tick, page, offset, bytes), and the last
+    tick. A write without bytes releases its page, which becomes zeros."""
+
+    def __init__(self, text: bytes, path: str = ""):
+        self.text, self.path, self.size = text, path, 1 << text[5]
+        self.pages, count = struct.unpack_from("<II", text, 8)
+        self.records, at = [], 16
+        for _ in range(count):
+            tick, page, offset, length = struct.unpack_from("<QIHH", text, at)
+            self.records.append((tick, page, offset, text[at + 16 : at + 16 + length]))
+            at += 16 + length
+        self.last = self.records[-1][0] if self.records else 0
+
+    @classmethod
+    def at(cls, path: str) -> "Trace":
+        with open(path, "rb") as file:
+            return cls(file.read(), path)
+
+    def __repr__(self):
+        return os.path.basename(self.path)
+
+    @cached_property
+    def writes(self) -> list[tuple[int, int]]:
+        return [it[:2] for it in self.records]
+
+    @cached_property
+    def guest(self) -> list[list[int]]:
+        """The ticks at which each page is written."""
+        return redrawn.by_page(self.pages, self.writes)
+
+    def memory(self, before: int | None = None) -> bytes:
+        """The memory that the writes leave, or those before a tick."""
+        memory = bytearray(self.pages * self.size)
+        for tick, page, offset, data in self.records:
+            if before is None or tick < before:
+                data, at = data or bytes(self.size), page * self.size + offset
+                memory[at : at + len(data)] = data
+        return bytes(memory)
+
+    def cut(self, before: int) -> bytes:
+        """The trace without the writes from a tick on."""
+        kept = [record(*it) for it in self.records if it[0] < before]
+        return self.text[:12] + struct.pack("<I", len(kept)) + b"".join(kept)
+
+
+def generated(chosen) -> bytes:
+    """A trace of a small guest, in both versions of the format."""
+    version, shift, pages = chosen.choice([1, 2]), chosen.randint(4, 6), chosen.choice([1, 2, 5, 64, 65, 70])
+    ticks = sorted(chosen.randrange(chosen.choice([3, 500, 5000])) for _ in range(chosen.choice([0, 1, 10, 60])))
+    text = header(pages, len(ticks), shift, version=version)
+    for tick in ticks:
+        offset = chosen.randrange(1 << shift)
+        data = chosen.randbytes(chosen.randint(1, (1 << shift) - offset))
+        if version == 2 and chosen.random() < 0.2:
+            offset, data = 0, b""
+        text += record(tick, chosen.randrange(pages), offset, data)
+    return text
+
+
+def damaged(chosen, trace: bytes) -> bytes:
+    """A trace with some bytes changed, cut off, or with more bytes after it; some of these are still traces."""
+    text = bytearray(trace)
+    for _ in range(chosen.randint(1, 3)):
+        kind = chosen.randrange(4)
+        if kind == 0 and text:
+            text[chosen.randrange(len(text))] = chosen.choice([0, 1, 3, 255])
+        elif kind == 1 and text:
+            text[chosen.randrange(min(16, len(text)))] = chosen.randrange(256)
+        elif kind == 2:
+            del text[chosen.randint(0, len(text)) :]
+        elif kind == 3:
+            text += bytes(chosen.randint(1, 20))
+    return bytes(text)
