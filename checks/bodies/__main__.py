@@ -2,8 +2,8 @@
 
     checks/run bodies [--list] [--seconds N] [WORD ...]
 
-A wrong body is a file crates/NAME/test-edits/*.edit: a must-fail edit (docs/EDITS.md) with lines 'tests: CRATE TEST
-..', which name the tests of one crate that fail on it. A test that does not end within N seconds, 40 if none are
+A wrong body of crates/NAME/wrong-bodies (CONTRIBUTING.md) that tests refuse has lines 'tests: CRATE TEST ..', which
+name the tests of one crate that fail on it. A test that does not end within N seconds, 40 if none are
 given, fails. WORD picks the bodies whose names contain it; if none is given, all are tried. Nothing is proved, and
 nothing in this folder changes: the tests run in a copy elsewhere. Each line is about the tests of a crate, or a body.
 The last line is 'N passed, M failed'; the status is 0 if something was tried and nothing failed.
@@ -16,7 +16,7 @@ import subprocess
 import sys
 import tempfile
 
-from precopy_dev.edits.files import TESTED, TOP, BadEdit, files_in, read_edit, text_of
+from precopy_dev.edits.files import TESTS, TOP, BadEdit, crates, read_edits, text_of
 
 SECONDS = 40
 # How many of its last lines are shown if the tests did not run.
@@ -29,12 +29,11 @@ class Failure(Exception):
 
 def read_bodies(words):
     """Returns the bodies whose names contain a word, or all if there is none, in order of their tests' crates."""
-    bodies = []
-    for crate, folder, name in files_in([TESTED]):
-        try:
-            bodies.append(read_edit(crate, folder, name))
-        except BadEdit as bad:
-            raise SystemExit(f"checks/bodies: crates/{crate}/{folder}/{name}: {bad}\n0 passed, 1 failed") from None
+
+    def stop(name, why):
+        raise SystemExit(f"checks/bodies: {name}: {why}\n0 passed, 1 failed")
+
+    bodies = [edit for crate in crates() for edit in read_edits(crate, stop) if edit.kind == TESTS]
     chosen = [body for body in bodies if not words or any(word in str(body) for word in words)]
     return sorted(chosen, key=lambda body: (body.tested, str(body)))
 
@@ -43,7 +42,7 @@ def copy_sources(room):
     """Copies what the tests are compiled from."""
     for name in ("crates.txt", "HANDLES"):
         shutil.copy2(f"{TOP}/{name}", room)
-    skip = shutil.ignore_patterns("out", "must-fail", "more-edits", "test-edits")
+    skip = shutil.ignore_patterns("out", "must-fail")
     shutil.copytree(f"{TOP}/crates", f"{room}/crates", ignore=skip)
 
 

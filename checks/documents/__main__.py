@@ -7,8 +7,8 @@ lines. Its status is 0, unless what it prints tells of another. The commands of 
 one after another in a folder of their own, with the repository's files. Those of LEFT_OUT need a running guest; those
 of GNU parallel are left out if there is none. A block of code that is headed by the path of a file occurs in that file.
 What docs/PROOF.md, the theorem's table in README.md and the recipes of docs/ARCHITECTURE.md name exists, and that page
-has each crate once. What docs/DECISIONS.md and README.md tell of differences and proof has lost no head. The index that
-dev/index makes has each clause that README.md and docs/PROOF.md name. A refused trace has one sentence in programs and
+has each crate once. docs/PROOF.md lists the calls that contracts leave open. What docs/DECISIONS.md and README.md tell
+of differences and proof has lost no head. The index that dev/index makes has each clause that README.md and docs/PROOF.md name. A refused trace has one sentence in programs and
 pages. A sentence has at most 40 words, unless it is quoted; a line has at most 120 characters. README.md is short, and
 all of docs/ has a bound. What is tested of a page is a case.
 """
@@ -255,6 +255,8 @@ PARTS = [
     quotations,
     all_of("what docs/PROOF.md and the theorem's table name", names.named),
     all_of("what docs/ARCHITECTURE.md names", names.in_architecture),
+    all_of("the calls that docs/PROOF.md leaves open", names.left_open),
+    all_of("the laws that contracts name", names.laws),
     all_of("heads of what differs and what is proved", heads.compared),
     all_of("the sentences of refusals", refusal_words.compared),
     index,

@@ -4,7 +4,8 @@
 call is one that it ensures, or a fact of a relation that it ensures. Every other word is a crate, a public call, a
 definition, a clause, a fact, a type, a refusal, a path from the top or from crates/, or whole words of the name of a
 wrong body. docs/ARCHITECTURE.md has each crate once; its recipes also name functions, types and constants within
-crates, tools, checks, the planner and bindings."""
+crates, tools, checks, the planner and bindings. A section of docs/PROOF.md lists exactly the calls that contracts do
+not determine, as `crate` (`call`, ..)."""
 
 import functools
 import glob
@@ -13,6 +14,9 @@ import re
 
 from checks.lib.pages import INDEX, TOP, read
 from precopy_dev import contracts
+from precopy_dev.determined import table as determined
+from precopy_dev.determined.laws import named_in
+from precopy_dev.edits.files import texts_in
 
 PAIR = re.compile(r"`([\w:]+)`: (`\w+`(?:(?:,| and) `\w+`(?!:))*)")
 CODE = re.compile(r"`([^`]+)`")
@@ -20,7 +24,6 @@ CODE = re.compile(r"`([^`]+)`")
 OTHER = re.compile(r"[CEFLS]\d{1,2}|\[.*\)|main")
 # A name of the sources: with an underscore, or in capitals.
 IDENTIFIER = re.compile(r"[a-z]\w*_\w*[a-z]|[A-Z]\w+(?:::\w+)?")
-EDITS = ("must-fail", "more-edits", "test-edits")
 
 
 @functools.lru_cache(maxsize=None)
@@ -50,8 +53,7 @@ def facts():
 
 @functools.lru_cache(maxsize=None)
 def wrong_bodies():
-    paths = [os.path.join(TOP, "crates", crate, folder) for crate in contracts.crates() for folder in EDITS]
-    return {name.removesuffix(".edit") for path in paths if os.path.isdir(path) for name in os.listdir(path)}
+    return {name for crate in contracts.crates() for name, *_ in texts_in(crate)}
 
 
 @functools.lru_cache(maxsize=None)
@@ -140,6 +142,38 @@ def named():
         yield bool(is_known(word)), f"docs/PROOF.md names {word}, which is not there"
     for code in CODE.findall(table):
         yield bool(is_known(code)), f"README.md names {code}, which is not there"
+
+
+def left_open():
+    """Yields whether each call that contracts leave open stands in the list of these, and each of that is one."""
+    section = read("docs/PROOF.md").partition("\n## What contracts leave open\n")[2].partition("\n## ")[0]
+    listed = [
+        f"{crate}: {name}"
+        for crate, names in re.findall(r"`(\w+)` \(([^()]*)\)", " ".join(section.split()))
+        for name in CODE.findall(names)
+    ]
+    found = [name for name, row in determined.rows().items() if row.how() == determined.NOT]
+    for name in found:
+        left = ", ".join(determined.rows()[name].open())
+        yield name in listed, f"docs/PROOF.md does not list {name}, whose contract leaves open: {left}"
+    for one in listed:
+        yield one in found, f"docs/PROOF.md lists {one}, which contracts do not leave open"
+
+
+def laws():
+    """Yields whether each file of contracts that a law makes determine something names that law, and no other law."""
+    used = {}
+    for row in determined.rows().values():
+        path = os.path.join(TOP, "crates", row.call.crate, "src", row.call.path)
+        used.setdefault(path, set()).update(row.laws())
+    for crate in contracts.crates():
+        for path in contracts.sources(crate, "src", ".rt"):
+            named = {law for names in named_in(path).values() for law in names}
+            where = os.path.relpath(path, TOP)
+            for law in sorted(named ^ used.get(path, set())):
+                yield False, f"{where} names the law {law} in no line, or needlessly"
+            for _ in named & used.get(path, set()):
+                yield True, ""
 
 
 def in_architecture():

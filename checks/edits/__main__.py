@@ -2,10 +2,10 @@
 
     checks/run edits [--text] [WORD ...]
 
-A wrong body is an edit of must-fail/, more-edits/ or test-edits/ of a crate (docs/EDITS.md). It is well formed, its
-name is the only one of its crate, each text that it replaces stands once in its file, and the file changes. must-fail/
-has the bodies that are listed here, and no others. WORD picks the bodies whose names, as collector/last_frame_wins,
-contain it. Edits of different lines are compiled together, and those near a refusal then one by one.
+A wrong body stands in must-fail/ or in the file wrong-bodies of a crate (CONTRIBUTING.md). It is well formed, its name
+is the only one of its crate, each text that it replaces stands once in its file, and the file changes. must-fail/ has
+the bodies that are listed here, and no others. WORD picks the bodies whose names, as collector/last_frame_wins, contain
+it. Edits of different lines are compiled together, and those near a refusal then one by one.
 Compiling is the toolchain's pass over types and borrows, with no proof; an edited definition is parsed.
 With --text nothing is compiled. It works in a copy elsewhere, and needs nothing that an earlier run built.
 It says how many bodies the prover refused as they stand, by the record that `dev/edits --record` keeps.
@@ -21,7 +21,7 @@ import sys
 import tempfile
 
 from checks.lib.tally import Tally
-from precopy_dev.edits.files import PROVED, TESTED, TOP, BadEdit, files_in, read_edit, text_of
+from precopy_dev.edits.files import GATE, PROVER, TESTS, TOP, TWIN, BadEdit, crates, read_edits, text_of
 
 # The bodies that the gate tries.
 NAMED = {
@@ -30,8 +30,7 @@ NAMED = {
     "dirty_words": "close_drops_one_store close_gives_opening_back harvest_clears_and_answers_nothing "
     "harvest_without_clearing invented_page invented_place mark_before_store one_lock_round_the_table "
     "seats_answer_from_views",
-    "guest_log": "release_taken_for_a_write_of_no_bytes",
-    "live_engine": "base_ignored_all_marked base_image_with_later_stamps end_image_given_as_stop_image",
+    "live_engine": "end_image_given_as_stop_image",
     "live_tasks": "latest_bytes_under_old_place nothing_sent_live skipped_page_dropped",
     "migration_jobs": "always_write_error image_writes_its_input report_in_part_then_memory",
     "page_message": "zero_data_frame_accepted",
@@ -51,25 +50,26 @@ LAST = "#![tactic(auto)]\n\npub struct Once;\n\npub fn twice(once: Once) -> (Onc
 TOLD = re.compile(r"^(\S+?):(\d+):\d+: error\[([\w-]+)\]: (.*)")
 
 
-def read_edits(tally):
-    """Returns the well formed edits, and counts those that are not."""
-    edits, names = [], set()
-    for crate, folder, name in files_in((*PROVED, TESTED)):
+def applied_edits(tally):
+    """Returns the well formed edits that apply, and counts those that are not, or do not."""
+
+    def bad(name, why):
+        tally.add(False, f"{name}: {why}")
+
+    edits = []
+    for edit in [edit for crate in crates() for edit in read_edits(crate, bad)]:
         try:
-            edit = read_edit(crate, folder, name)
-            if str(edit) in names:
-                raise BadEdit("another folder of the crate has an edit of this name")
-            if folder == "must-fail" and edit.name not in NAMED.get(crate, "").split():
-                raise BadEdit("it is not listed in checks/edits")
             edit.put_in(TOP)
-            names.add(str(edit))
             edits.append(edit)
-        except BadEdit as bad:
-            tally.add(False, f"crates/{crate}/{folder}/{name}: {bad}")
-    there = {str(edit) for edit in edits if edit.folder == "must-fail"}
+        except BadEdit as why:
+            bad(str(edit), why)
+    names = {str(edit) for edit in edits}
+    for edit in (edit for edit in edits if edit.kind == TWIN):
+        tally.add(f"{edit.crate}/{edit.twin_of()}" in names, f"{edit}: the crate has no such wrong body")
+    there = {str(edit) for edit in edits if edit.kind == GATE}
     listed = {f"{crate}/{name}" for crate, names in NAMED.items() for name in names.split()}
-    for name in sorted(listed - there):
-        tally.add(False, f"{name}: must-fail/ has no such edit that applies")
+    for name in sorted(listed ^ there):
+        tally.add(False, f"{name}: must-fail/ and the list in checks/edits differ, or it does not apply")
     return edits
 
 
@@ -81,7 +81,7 @@ def dependencies():
 
 def make_room(room):
     """Copies the sources. Programs and libraries for C become libraries, so that one crate can stand on all."""
-    skip = shutil.ignore_patterns("out", "must-fail", "more-edits", "test-edits", "data")
+    skip = shutil.ignore_patterns("out", "must-fail", "data")
     shutil.copytree(f"{TOP}/crates", f"{room}/crates", ignore=skip)
     shutil.copy2(f"{TOP}/HANDLES", room)
     for name in os.listdir(f"{room}/crates"):
@@ -196,8 +196,8 @@ def compile_all(edits, tally):
     bodies = [edit for edit in edits if edit not in definitions]
     with tempfile.TemporaryDirectory(prefix="edits-") as room:
         compiler = Compiler(os.path.realpath(room))
-        tested = [edit for edit in bodies if edit.folder == TESTED]
-        groups = groups_of(tested) + groups_of([edit for edit in bodies if edit.folder != TESTED])
+        tested = [edit for edit in bodies if edit.kind == TESTS]
+        groups = groups_of(tested) + groups_of([edit for edit in bodies if edit.kind != TESTS])
         for number, group in enumerate(groups, 1):
             refused = compiler.refused(group)
             for edit in group:
@@ -210,7 +210,7 @@ def compile_all(edits, tally):
 
 def compare_record(edits, tally):
     """Counts the lines of the record of tries, each of which has to be of an edit that was refused."""
-    names, current = {str(edit): edit for edit in edits if edit.folder != TESTED}, {}
+    names, current = {str(edit): edit for edit in edits if edit.kind in (GATE, PROVER)}, {}
     for line in text_of(TOP, RECORD).splitlines():
         name, digest, _, how, _ = line.split("\t")
         tally.add(name in names and how in KINDS, f"{RECORD}: {name} is no edit here, or was not refused")
@@ -229,7 +229,7 @@ def arguments():
 
 def main():
     given, tally = arguments(), Tally()
-    edits = read_edits(tally)
+    edits = applied_edits(tally)
     compare_record(edits, tally)
     edits = [it for it in edits if not given.word or any(word in str(it) for word in given.word)]
     if given.text:

@@ -4,8 +4,18 @@ import json
 
 from checks.lib.view_texts import Failure
 
-PLAIN = {"trace": "sqlite", "link": "1Gbit", "downtime": "300ms", "first": "10", "reserve": "0ms", "start": "1000",
-         "rounds": "30", "tick": "1ms", "base": "none", "window": "500"}
+PLAIN = {
+    "trace": "sqlite",
+    "link": "1Gbit",
+    "downtime": "300ms",
+    "first": "10",
+    "reserve": "0ms",
+    "start": "1000",
+    "rounds": "30",
+    "tick": "1ms",
+    "base": "none",
+    "window": "500",
+}
 
 
 def require(holds, words):
@@ -20,5 +30,7 @@ def asked(page, **more):
 
 def typed(page, name, text):
     """Types into a field, and returns what the page shows then."""
-    return page.after(f"const field = document.getElementById('control-{name}'); field.value = {json.dumps(text)};"
-                      "field.dispatchEvent(new Event('input'));")
+    return page.after(
+        f"const field = document.getElementById('control-{name}'); field.value = {json.dumps(text)};"
+        "field.dispatchEvent(new Event('input'));"
+    )

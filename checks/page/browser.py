@@ -12,10 +12,21 @@ import time
 
 SECONDS = 60
 WIDER_THAN_PHONES = 560
-WORDS = ["--headless=new", "--remote-debugging-pipe", "--no-first-run", "--no-default-browser-check", "--disable-gpu",
-         "--disable-background-networking", "--disable-component-update", "--disable-sync", "--hide-scrollbars",
-         # Else more than 200 changes of the address in 10 seconds are passed over.
-         "--disable-ipc-flooding-protection", "--force-color-profile=srgb", "about:blank"]
+WORDS = [
+    "--headless=new",
+    "--remote-debugging-pipe",
+    "--no-first-run",
+    "--no-default-browser-check",
+    "--disable-gpu",
+    "--disable-background-networking",
+    "--disable-component-update",
+    "--disable-sync",
+    "--hide-scrollbars",
+    # Else more than 200 changes of the address in 10 seconds are passed over.
+    "--disable-ipc-flooding-protection",
+    "--force-color-profile=srgb",
+    "about:blank",
+]
 
 
 class BrowserError(Exception):
@@ -153,8 +164,10 @@ class Browser(Driven):
         self.call("Emulation.setTouchEmulationEnabled", enabled=width < WIDER_THAN_PHONES, maxTouchPoints=1)
         sizes = {"width": width, "height": height, "deviceScaleFactor": 1, "mobile": False}
         self.call("Emulation.setDeviceMetricsOverride", **sizes)
-        features = [{"name": "prefers-color-scheme", "value": "dark" if is_dark else "light"},
-                    {"name": "prefers-reduced-motion", "value": "reduce" if is_still else "no-preference"}]
+        features = [
+            {"name": "prefers-color-scheme", "value": "dark" if is_dark else "light"},
+            {"name": "prefers-reduced-motion", "value": "reduce" if is_still else "no-preference"},
+        ]
         self.call("Emulation.setEmulatedMedia", features=features)
 
     def longest_task(self, act):
@@ -167,11 +180,18 @@ class Browser(Driven):
         self.call("Tracing.end")
         while not any(event["method"] == "Tracing.tracingComplete" for event in self.events):
             self.value("0")
-        told = [some for event in self.events if event["method"] == "Tracing.dataCollected"
-                for some in event["params"]["value"]]
+        told = [
+            some
+            for event in self.events
+            if event["method"] == "Tracing.dataCollected"
+            for some in event["params"]["value"]
+        ]
         self.events = [event for event in self.events if not event["method"].startswith("Tracing.")]
-        threads = {(some["pid"], some["tid"]) for some in told
-                   if some["name"] == "thread_name" and some["args"]["name"] == "CrRendererMain"}
+        threads = {
+            (some["pid"], some["tid"])
+            for some in told
+            if some["name"] == "thread_name" and some["args"]["name"] == "CrRendererMain"
+        }
         tasks = [some["tdur"] for some in told if "tdur" in some and (some["pid"], some["tid"]) in threads]
         if not tasks:
             raise BrowserError("the browser tells no task of a page")

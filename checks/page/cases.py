@@ -27,7 +27,7 @@ def example(name):
 
 
 def changed(text, at, new):
-    return text[:at] + bytes(new) + text[at + len(new):]
+    return text[:at] + bytes(new) + text[at + len(new) :]
 
 
 def damages():
@@ -36,17 +36,30 @@ def damages():
         text = file.read()
     records = [16, 33, 50, 67, 85]
     return [
-        ("E1", text[:15]), ("E1", b""), ("E2", changed(text, 0, [0x51])), ("E3", changed(text, 4, [3])),
-        ("E3", changed(text, 4, [0])), ("E4", changed(text, 5, [3])), ("E4", changed(text, 5, [13])),
-        ("E5", changed(text, 6, [1])), ("E5", changed(text, 7, [1])), ("E6", changed(text, 8, [0, 0, 0, 0])),
-        ("E6", changed(text, 8, [1, 0, 1, 0])), ("E7", changed(text, 12, [1, 0, 16, 0])),
-        ("E8 record 5", changed(text, 12, [6])), ("E14", changed(text, 12, [4])), ("E14", text + b"\0"),
-        ("E8 record 4", changed(text, records[4] + 14, [255, 255])), ("E8 record 4", text[:-1]),
+        ("E1", text[:15]),
+        ("E1", b""),
+        ("E2", changed(text, 0, [0x51])),
+        ("E3", changed(text, 4, [3])),
+        ("E3", changed(text, 4, [0])),
+        ("E4", changed(text, 5, [3])),
+        ("E4", changed(text, 5, [13])),
+        ("E5", changed(text, 6, [1])),
+        ("E5", changed(text, 7, [1])),
+        ("E6", changed(text, 8, [0, 0, 0, 0])),
+        ("E6", changed(text, 8, [1, 0, 1, 0])),
+        ("E7", changed(text, 12, [1, 0, 16, 0])),
+        ("E8 record 5", changed(text, 12, [6])),
+        ("E14", changed(text, 12, [4])),
+        ("E14", text + b"\0"),
+        ("E8 record 4", changed(text, records[4] + 14, [255, 255])),
+        ("E8 record 4", text[:-1]),
         ("E9 record 1", changed(changed(text, records[0], [6]), records[1], [5])),
         ("E9 record 4", changed(text, records[4], [0])),
         ("E10 record 4", changed(text, records[4], [0, 0, 0, 0, 0, 1, 0, 0])),
-        ("E11 record 3", changed(text, records[3] + 8, [4])), ("E12 record 0", changed(text, records[0] + 14, [0, 0])),
-        ("E13 record 1", changed(text, records[1] + 12, [16, 0])), ("E2", changed(changed(text, 0, [0x51]), 4, [2])),
+        ("E11 record 3", changed(text, records[3] + 8, [4])),
+        ("E12 record 0", changed(text, records[0] + 14, [0, 0])),
+        ("E13 record 1", changed(text, records[1] + 12, [16, 0])),
+        ("E2", changed(changed(text, 0, [0x51]), 4, [2])),
         ("E12 record 4", changed(changed(text, 4, [2])[:-1], records[4] + 12, [1, 0, 0, 0])),
     ]
 
@@ -92,11 +105,23 @@ class Asked:
 
     def fragment(self):
         sample = "all" if self.guest == self.sampled else f"{self.sampled}/{self.guest}"
-        return "&".join([
-            f"link={self.link[1]}", f"first={self.first}", f"increase={self.increase}", f"downtime={self.downtime}us",
-            f"reserve={self.reserve}us", f"start={self.start}", f"rounds={self.rounds}", f"skip={self.skip}",
-            f"base={'none' if self.base is None else self.base}", f"tick={self.tick}us", f"sample={sample}",
-            f"window={self.window}", f"ticks={self.ticks}"])
+        return "&".join(
+            [
+                f"link={self.link[1]}",
+                f"first={self.first}",
+                f"increase={self.increase}",
+                f"downtime={self.downtime}us",
+                f"reserve={self.reserve}us",
+                f"start={self.start}",
+                f"rounds={self.rounds}",
+                f"skip={self.skip}",
+                f"base={'none' if self.base is None else self.base}",
+                f"tick={self.tick}us",
+                f"sample={sample}",
+                f"window={self.window}",
+                f"ticks={self.ticks}",
+            ]
+        )
 
     def limits(self):
         """The link and the first round in bytes a second, the downtime and the reserve in microseconds."""
@@ -110,11 +135,15 @@ class Asked:
         link, first, downtime, reserve = self.limits()
         most, least = self.rate(link), self.rate(first)
         tests = [
-            ("sample", self.guest > 1 << 32), ("link", not 1 <= most <= 1_000_000), ("first", least < 1),
+            ("sample", self.guest > 1 << 32),
+            ("link", not 1 <= most <= 1_000_000),
+            ("first", least < 1),
             ("reserve", reserve > downtime),
             ("downtime", (downtime - reserve) // self.tick * most // 1_000 + 1 > 65_536),
-            ("rounds", not 1 <= self.rounds <= 64), ("window", not 1 <= self.window <= 1 << 40),
-            ("base", self.base is not None and self.base > self.start)]
+            ("rounds", not 1 <= self.rounds <= 64),
+            ("window", not 1 <= self.window <= 1 << 40),
+            ("base", self.base is not None and self.base > self.start),
+        ]
         return next((name for name, is_refused in tests if is_refused), None)
 
     def settings(self):
@@ -126,8 +155,16 @@ class Asked:
     def words(self):
         """The options of `precopy report`."""
         least, most, increment, threshold = self.settings()
-        return [f"--min={least}", f"--max={most}", f"--inc={increment}", f"--threshold={threshold}",
-                f"--rounds={self.rounds}", f"--window={self.window}", *self.place(), *["--skip"] * self.skip]
+        return [
+            f"--min={least}",
+            f"--max={most}",
+            f"--inc={increment}",
+            f"--threshold={threshold}",
+            f"--rounds={self.rounds}",
+            f"--window={self.window}",
+            *self.place(),
+            *["--skip"] * self.skip,
+        ]
 
     def place(self):
         return [f"--start={self.start}", *([] if self.base is None else [f"--base={self.base}"])]
@@ -188,9 +225,14 @@ def figures(asked, report):
     def answer(holds):
         return "unknown" if not is_known else "yes" if holds else "no"
 
-    return {"converges": answer(stop["why"] == "few"), "kept": answer(down <= limit),
-            "recorded": max(0, known.last - asked.start) * asked.tick,
-            "time": (stop["at"] - asked.start) * asked.tick + down, "sent": asked.bytes(stop["total"]), "down": down}
+    return {
+        "converges": answer(stop["why"] == "few"),
+        "kept": answer(down <= limit),
+        "recorded": max(0, known.last - asked.start) * asked.tick,
+        "time": (stop["at"] - asked.start) * asked.tick + down,
+        "sent": asked.bytes(stop["total"]),
+        "down": down,
+    }
 
 
 def drawn_errors(asked):
@@ -198,8 +240,9 @@ def drawn_errors(asked):
     if not 2 <= asked.sampled < asked.guest:
         return None
     least, most, increment, threshold = asked.settings()
-    settings = redrawn.Settings(least, most, increment, threshold, asked.rounds, asked.start, bool(asked.skip),
-                                asked.base)
+    settings = redrawn.Settings(
+        least, most, increment, threshold, asked.rounds, asked.start, bool(asked.skip), asked.base
+    )
     scale = redrawn.Scale(asked.tick, asked.page, asked.sampled, asked.guest)
     return redrawn.errors(asked.known.guest, settings, scale)
 
@@ -228,8 +271,11 @@ def errors(asked, document):
 def reason(asked, report):
     threshold, of_sample = asked.settings()[3], " of the sample" * (asked.guest > asked.sampled)
     few = "no page was left" if threshold == 1 else f"fewer than {threshold:,} pages{of_sample} were left"
-    return {"few": few, "fast": "the guest writes faster than the link sends",
-            "rounds": f"all {plural(asked.rounds, 'round')} that are allowed are done"}[report["stop"]["why"]]
+    return {
+        "few": few,
+        "fast": "the guest writes faster than the link sends",
+        "rounds": f"all {plural(asked.rounds, 'round')} that are allowed are done",
+    }[report["stop"]["why"]]
 
 
 def comparison(asked, report, document):
@@ -237,8 +283,10 @@ def comparison(asked, report, document):
     stop, found = report["stop"], figures(asked, report)
     if found["kept"] == "unknown":
         least = f"more than {time_text(found['recorded'])}" if found["recorded"] else "unknown"
-        return {**{name: ["unknown", ""] for name in ("downtime", "sent", "rounds", "left", "stop")},
-                "time": [least, ""]}
+        return {
+            **{name: ["unknown", ""] for name in ("downtime", "sent", "rounds", "left", "stop")},
+            "time": [least, ""],
+        }
     drawn = errors(asked, document)
     sent, time, down = drawn or (0, 0, 0)
 
@@ -254,11 +302,18 @@ def comparison(asked, report, document):
     guest = [f"{plural(stop['total'] * asked.guest // asked.sampled, 'page')} of the guest"] * bool(of_sample)
     pages = f"{plural(stop['total'], 'page')}{of_sample}"
     return {
-        "downtime": [time_text(found["down"]),
-                     more(error_text(down), "kept" if found["kept"] == "yes" else "not kept",
-                          *ticks(f"{plural(stop['down'], 'tick')} for pages"))],
-        "time": [time_text(found["time"]),
-                 more(error_text(time), *ticks(f"{plural(stop['at'] - asked.start, 'tick')} of pre-copy"))],
+        "downtime": [
+            time_text(found["down"]),
+            more(
+                error_text(down),
+                "kept" if found["kept"] == "yes" else "not kept",
+                *ticks(f"{plural(stop['down'], 'tick')} for pages"),
+            ),
+        ],
+        "time": [
+            time_text(found["time"]),
+            more(error_text(time), *ticks(f"{plural(stop['at'] - asked.start, 'tick')} of pre-copy")),
+        ],
         "sent": [size_text(found["sent"]), more(size_text(sent), *guest, pages)],
         "rounds": [f"{len(report['rounds']):,}", reason(asked, report)],
         "left": [plural(stop["pages"], "page") + of_sample, few],
@@ -294,12 +349,19 @@ def check_facts(precopy, asked, found, document):
     line = sweep_facts(told(precopy, ["sweep", *asked.place(), asked.case()], asked.known.path))["cases"][0]
     stop = report["stop"]
     if (line["rounds"], line["stop"], line["at"], line["down"], line["total"]) != (
-            len(report["rounds"]), stop["why"], stop["at"], stop["down"], stop["total"]):
+        len(report["rounds"]),
+        stop["why"],
+        stop["at"],
+        stop["down"],
+        stop["total"],
+    ):
         raise Failure(f"report and sweep differ: {line}, {stop}")
     check_notes(asked, found["notes"])
     wanted = {
-        "rounds": round_texts(asked, report["rounds"]), "windows": window_texts(asked, report["windows"]),
-        "comparison": comparison(asked, report, document), "warnings": warnings(asked, report),
+        "rounds": round_texts(asked, report["rounds"]),
+        "windows": window_texts(asked, report["windows"]),
+        "comparison": comparison(asked, report, document),
+        "warnings": warnings(asked, report),
         "commands": commands(asked),
     }
     for key, value in wanted.items():
@@ -318,8 +380,11 @@ def check_document(document, wanted):
     told["recorded"] = micros(document["recorded_seconds"])
     if document["kept"] != "unknown":
         migration = document["migration"]
-        told |= {"time": micros(migration["time_seconds"]), "sent": migration["sent_bytes"],
-                 "down": micros(migration["down_seconds"])}
+        told |= {
+            "time": micros(migration["time_seconds"]),
+            "sent": migration["sent_bytes"],
+            "down": micros(migration["down_seconds"]),
+        }
     if told != {name: wanted[name] for name in told}:
         raise Failure(f"json predict tells {told} in place of {wanted}")
 

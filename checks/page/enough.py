@@ -37,8 +37,12 @@ def enough_in(lines):
     slowed = [re.fullmatch(r"the guest slowed to (\d+) % of its speed, by a throttle of \d+ %", line) for line in lines]
     speeds = [int(found[1]) for found in slowed if found]
     is_kept = lines[0].startswith("Enough for the limit: these settings.")
-    return Remedies(is_kept, amount_in(lines, "link rate ", RATES), amount_in(lines, "downtime limit ", TIMES),
-                    speeds[0] if speeds else None)
+    return Remedies(
+        is_kept,
+        amount_in(lines, "link rate ", RATES),
+        amount_in(lines, "downtime limit ", TIMES),
+        speeds[0] if speeds else None,
+    )
 
 
 def enough_of(document):
@@ -47,18 +51,27 @@ def enough_of(document):
     if not told:
         return None
     down = told.get("down_seconds")
-    return Remedies(told["answer"] == "asked", told.get("link_bytes"), down if down is None else micros(down),
-                    told.get("guest_percent"))
+    return Remedies(
+        told["answer"] == "asked",
+        told.get("link_bytes"),
+        down if down is None else micros(down),
+        told.get("guest_percent"),
+    )
 
 
 def check_shown(asked, lines, found):
     """An amount is shown with few digits: it is the next of these above the last that was tried before the one that was
     found, which is told in full. What is less than the link or the downtime that is set is shown to be less."""
     shown, (link, _, downtime, _) = enough_in(lines), asked.limits()
-    for some, exact, set_one, grain in ((shown.link, found.link, link, RATES["Kbit"]),
-                                        (shown.downtime, found.downtime, downtime, 1)):
-        if exact is not None and some != exact and not (
-                exact - grain < some <= exact + max(1, exact // 100) and (some < set_one) == (exact < set_one)):
+    for some, exact, set_one, grain in (
+        (shown.link, found.link, link, RATES["Kbit"]),
+        (shown.downtime, found.downtime, downtime, 1),
+    ):
+        if (
+            exact is not None
+            and some != exact
+            and not (exact - grain < some <= exact + max(1, exact // 100) and (some < set_one) == (exact < set_one))
+        ):
             raise Failure(f"{some} is shown for {exact}, where {set_one} is set: {lines}")
 
 

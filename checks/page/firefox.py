@@ -13,9 +13,14 @@ import time
 from checks.page.browser import SECONDS, BrowserError, Driven, NoAnswer
 
 LISTENING = re.compile(rb"WebDriver BiDi listening on ws://([\d.]+):(\d+)")
-PREFERENCES = {"remote.active-protocols": 1, "datareporting.policy.dataSubmissionEnabled": False,
-               "toolkit.telemetry.enabled": False, "app.update.disabledForTesting": True,
-               "browser.shell.checkDefaultBrowser": False, "security.fileuri.strict_origin_policy": True}
+PREFERENCES = {
+    "remote.active-protocols": 1,
+    "datareporting.policy.dataSubmissionEnabled": False,
+    "toolkit.telemetry.enabled": False,
+    "app.update.disabledForTesting": True,
+    "browser.shell.checkDefaultBrowser": False,
+    "security.fileuri.strict_origin_policy": True,
+}
 
 
 def plain(value):
@@ -33,8 +38,16 @@ class WebSocket:
     def __init__(self, host, port, path):
         self.socket = socket.create_connection((host, port), SECONDS)
         key = base64.b64encode(os.urandom(16)).decode()
-        head = [f"GET {path} HTTP/1.1", f"Host: {host}:{port}", "Upgrade: websocket", "Connection: Upgrade",
-                f"Sec-WebSocket-Key: {key}", "Sec-WebSocket-Version: 13", "", ""]
+        head = [
+            f"GET {path} HTTP/1.1",
+            f"Host: {host}:{port}",
+            "Upgrade: websocket",
+            "Connection: Upgrade",
+            f"Sec-WebSocket-Key: {key}",
+            "Sec-WebSocket-Version: 13",
+            "",
+            "",
+        ]
         self.socket.sendall("\r\n".join(head).encode())
         self.rest = b""
         while b"\r\n\r\n" not in self.rest:
@@ -61,8 +74,13 @@ class WebSocket:
     def send(self, text):
         data, mask = text.encode(), os.urandom(4)
         length = len(data)
-        head = bytes([0x81]) + (bytes([0x80 | length]) if length < 126 else struct.pack(">BH", 0xFE, length)
-                                if length < 1 << 16 else struct.pack(">BQ", 0xFF, length))
+        head = bytes([0x81]) + (
+            bytes([0x80 | length])
+            if length < 126
+            else struct.pack(">BH", 0xFE, length)
+            if length < 1 << 16
+            else struct.pack(">BQ", 0xFF, length)
+        )
         whole = int.from_bytes(data, "big") ^ int.from_bytes((mask * (length // 4 + 1))[:length], "big")
         self.socket.sendall(head + mask + whole.to_bytes(length, "big"))
 
@@ -74,7 +92,7 @@ class WebSocket:
             length = second & 0x7F
             if length > 125:
                 form, size = (">H", 2) if length == 126 else (">Q", 8)
-                length, = struct.unpack(form, self._take(size))
+                (length,) = struct.unpack(form, self._take(size))
             data = self._take(length)
             if first & 0x0F in (0, 1):
                 parts.append(data)
@@ -88,8 +106,18 @@ class Firefox(Driven):
         with open(os.path.join(self.profile, "user.js"), "w", encoding="utf-8") as file:
             for name, value in PREFERENCES.items():
                 file.write(f"user_pref({json.dumps(name)}, {json.dumps(value)});\n")
-        words = ["nice", "-n", "19", command, "--headless", "--no-remote", "--profile", self.profile,
-                 "--remote-debugging-port=0", "about:blank"]
+        words = [
+            "nice",
+            "-n",
+            "19",
+            command,
+            "--headless",
+            "--no-remote",
+            "--profile",
+            self.profile,
+            "--remote-debugging-port=0",
+            "about:blank",
+        ]
         quiet = {"stdin": subprocess.DEVNULL, "stdout": subprocess.DEVNULL}
         environment = {**os.environ, "HOME": self.profile, "MOZ_DISABLE_CONTENT_SANDBOX": "1"}
         self.process = subprocess.Popen(words, stderr=subprocess.PIPE, env=environment, **quiet)
@@ -126,8 +154,9 @@ class Firefox(Driven):
 
     def value(self, expression, seconds=SECONDS):
         """The value of an expression of JavaScript, waited for if it is a promise."""
-        found = self.call("script.evaluate", seconds, expression=expression, target={"context": self.tab},
-                          awaitPromise=True)
+        found = self.call(
+            "script.evaluate", seconds, expression=expression, target={"context": self.tab}, awaitPromise=True
+        )
         if found["type"] == "exception":
             raise BrowserError(found["exceptionDetails"]["text"])
         return plain(found["result"])

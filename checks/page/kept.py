@@ -14,8 +14,9 @@ def check_comparison(page):
     asked_rounds(page, "1")
     heads = "[...document.querySelectorAll('#comparison thead th')].map((cell) => cell.firstChild.textContent.trim())"
     require(page.browser.value(heads) == ["This plan", "Kept plan 1", "Kept plan 2"], page.browser.value(heads))
-    marks = page.browser.value("['better', 'worse'].map((name) => "
-                               "document.querySelectorAll(`#comparison .${name}`).length)")
+    marks = page.browser.value(
+        "['better', 'worse'].map((name) => " "document.querySelectorAll(`#comparison .${name}`).length)"
+    )
     require(min(marks) > 0, f"better and worse: {marks}")
     found = page.after("document.querySelector('[data-exchanges=\"1\"]').click()")
     require(found["comparison"] == first["comparison"], f"{found['comparison']} in place of {first['comparison']}")
@@ -52,8 +53,10 @@ def check_axes(page):
     page.rest()
     (words, stop, seconds), (others, far, long) = page.browser.value(ROUNDS)
     require(words == others and any("MiB/s" in text for text in words), f"{words} beside {others}")
-    require(seconds > 0 and abs((far - LEFT_OF_PLOT) / (stop - LEFT_OF_PLOT) * seconds / long - 1) < 0.02,
-            f"{seconds} s at {stop}, and {long} s at {far}")
+    require(
+        seconds > 0 and abs((far - LEFT_OF_PLOT) / (stop - LEFT_OF_PLOT) * seconds / long - 1) < 0.02,
+        f"{seconds} s at {stop}, and {long} s at {far}",
+    )
 
 
 # What is said of a link or a downtime that a hypervisor does not take.
@@ -64,19 +67,36 @@ NO_QEMU_DOWNTIME = sentence_of(host_lines(1 << 20, LONGEST_MILLIS + 1)[1])
 # Settings, what libvirt and QEMU are told of them, and words of what they are not told.
 HOSTS = [
     ("link=600KB&downtime=4ms", {"libvirt": "virsh migrate-setmaxdowntime DOMAIN 4"}, {"libvirt": NO_LINK}),
-    ("link=1.5MiB&downtime=2500us",
-     {"libvirt": "virsh migrate-setspeed DOMAIN 1\nvirsh migrate-setmaxdowntime DOMAIN 2"},
-     {"libvirt": "1.5 MiB/s", "qemu": "2.5 ms"}),
-    ("link=8MiB&downtime=2ms&reserve=1.5ms", {"libvirt": "virsh migrate-setspeed DOMAIN 8"},
-     {"libvirt": NO_LIBVIRT_DOWNTIME, "qemu": time_text(500)}),
-    ("link=600KB&downtime=2500us&reserve=2ms", {"libvirt": ""},
-     {"libvirt": f"{NO_LINK} {NO_LIBVIRT_DOWNTIME}", "qemu": time_text(500)}),
-    ("link=8MiB&downtime=4ms", {"libvirt": "virsh migrate-setspeed DOMAIN 8\n"
-                                "virsh migrate-setmaxdowntime DOMAIN 4"}, {}),
-    ("link=8KB&downtime=2001s", {"libvirt": "", "qemu": "migrate_set_parameter max-bandwidth 8000B"},
-     {"libvirt": f"{NO_LINK} {NO_LIBVIRT_DOWNTIME}", "qemu": NO_QEMU_DOWNTIME}),
-    ("link=10Gbit&downtime=4us&tick=1us", {"libvirt": "virsh migrate-setspeed DOMAIN 1192"},
-     {"libvirt": NO_LIBVIRT_DOWNTIME, "qemu": time_text(4)}),
+    (
+        "link=1.5MiB&downtime=2500us",
+        {"libvirt": "virsh migrate-setspeed DOMAIN 1\nvirsh migrate-setmaxdowntime DOMAIN 2"},
+        {"libvirt": "1.5 MiB/s", "qemu": "2.5 ms"},
+    ),
+    (
+        "link=8MiB&downtime=2ms&reserve=1.5ms",
+        {"libvirt": "virsh migrate-setspeed DOMAIN 8"},
+        {"libvirt": NO_LIBVIRT_DOWNTIME, "qemu": time_text(500)},
+    ),
+    (
+        "link=600KB&downtime=2500us&reserve=2ms",
+        {"libvirt": ""},
+        {"libvirt": f"{NO_LINK} {NO_LIBVIRT_DOWNTIME}", "qemu": time_text(500)},
+    ),
+    (
+        "link=8MiB&downtime=4ms",
+        {"libvirt": "virsh migrate-setspeed DOMAIN 8\n" "virsh migrate-setmaxdowntime DOMAIN 4"},
+        {},
+    ),
+    (
+        "link=8KB&downtime=2001s",
+        {"libvirt": "", "qemu": "migrate_set_parameter max-bandwidth 8000B"},
+        {"libvirt": f"{NO_LINK} {NO_LIBVIRT_DOWNTIME}", "qemu": NO_QEMU_DOWNTIME},
+    ),
+    (
+        "link=10Gbit&downtime=4us&tick=1us",
+        {"libvirt": "virsh migrate-setspeed DOMAIN 1192"},
+        {"libvirt": NO_LIBVIRT_DOWNTIME, "qemu": time_text(4)},
+    ),
 ]
 
 

@@ -13,7 +13,8 @@ from checks.view.limit_cases import RATES
 
 def saved_files(page, count):
     """Presses all buttons that save something, and returns the files by their names: so many."""
-    page.browser.value("""(() => {
+    page.browser.value(
+        """(() => {
       window.saved = [];
       const made = URL.createObjectURL;
       URL.createObjectURL = (blob) => { window.savedLast = blob; return made.call(URL, blob); };
@@ -21,13 +22,16 @@ def saved_files(page, count):
       for (const button of document.querySelectorAll(".saves button")) {
         if (button.offsetParent) { button.click(); }
       }
-    })()""")
+    })()"""
+    )
     page.browser.wait(f"saved.length === {count}", 20)
-    files = page.browser.value("""Promise.all(saved.map(([name, blob]) => new Promise((resume) => {
+    files = page.browser.value(
+        """Promise.all(saved.map(([name, blob]) => new Promise((resume) => {
       const reader = new FileReader();
       reader.onload = () => resume([name, reader.result.split(",")[1]]);
       reader.readAsDataURL(blob);
-    })))""")
+    })))"""
+    )
     return {name: base64.b64decode(text) for name, text in files}
 
 
@@ -35,12 +39,15 @@ def saved_files(page, count):
 HEADS = {
     "prediction": "plan,downtime_us,time_us,sent_bytes,rounds,left_pages,stop_us,start_us,reason,kept,converges",
     "rounds-this": "round,from_us,to_us,rate_bytes_per_second,pages,sent_pages,dirtied_pages,from_tick,to_tick,"
-                   "rate_pages_per_1000_ticks",
+    "rate_pages_per_1000_ticks",
     "working-set": "window,from_us,to_us,writes,pages,again_pages,fresh_pages",
     "starts": "tick,start_us,time_us,sent_bytes,downtime_us,kept",
 }
-LEGENDS = {"rounds-this": ["Rounds", "sent", "downtime"], "working-set": ["Working set", "never before", "stop"],
-           "starts": ["When to move", "by start", "worst"]}
+LEGENDS = {
+    "rounds-this": ["Rounds", "sent", "downtime"],
+    "working-set": ["Working set", "never before", "stop"],
+    "starts": ["When to move", "by start", "worst"],
+}
 
 
 def check_rounds(rows, shown):

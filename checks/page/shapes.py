@@ -20,20 +20,36 @@ def drawn(draw, shift, pages, count, last):
     """A trace of random writes up to a tick; a few pages take most of them."""
     hot, least = max(1, pages // 20), draw.choice([0, 1, 1, 1])
     ticks = sorted(draw.randrange(last + 1) for _ in range(count))
-    return trace(shift, pages, [(tick, draw.randrange(hot if draw.randrange(4) else pages),
-                                 draw.randrange(least, (1 << shift) + 1) if draw.randrange(2) else 1)
-                                for tick in ticks])
+    return trace(
+        shift,
+        pages,
+        [
+            (
+                tick,
+                draw.randrange(hot if draw.randrange(4) else pages),
+                draw.randrange(least, (1 << shift) + 1) if draw.randrange(2) else 1,
+            )
+            for tick in ticks
+        ],
+    )
 
 
 def corners():
     """Traces at the ends of what may be."""
     whole = [(tick, tick % MOST_PAGES, 1) for tick in range(3_000)]
     return [
-        trace(4, 1, []), trace(12, MOST_PAGES, []), trace(12, 1, [(0, 0, 1)]), trace(4, 1, [(MOST_TICK, 0, 16)]),
-        trace(12, MOST_PAGES, [(MOST_TICK, MOST_PAGES - 1, 4096)]), trace(4, MOST_PAGES, whole),
-        trace(12, 3, [(0, 0, 1), (MOST_TICK, 2, 1)]), trace(12, 100, [(0, page, 4096) for page in range(100)]),
-        trace(12, 100, [(tick, tick % 100, 1) for tick in range(10_000)]), trace(8, 2, [(1, 1, 256)] * 2_000),
-        trace(12, MOST_PAGES, [(1, page, 1) for page in range(0, MOST_PAGES, 3)]), trace(5, 17, [(7, 16, 32)]),
+        trace(4, 1, []),
+        trace(12, MOST_PAGES, []),
+        trace(12, 1, [(0, 0, 1)]),
+        trace(4, 1, [(MOST_TICK, 0, 16)]),
+        trace(12, MOST_PAGES, [(MOST_TICK, MOST_PAGES - 1, 4096)]),
+        trace(4, MOST_PAGES, whole),
+        trace(12, 3, [(0, 0, 1), (MOST_TICK, 2, 1)]),
+        trace(12, 100, [(0, page, 4096) for page in range(100)]),
+        trace(12, 100, [(tick, tick % 100, 1) for tick in range(10_000)]),
+        trace(8, 2, [(1, 1, 256)] * 2_000),
+        trace(12, MOST_PAGES, [(1, page, 1) for page in range(0, MOST_PAGES, 3)]),
+        trace(5, 17, [(7, 16, 32)]),
     ]
 
 

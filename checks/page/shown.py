@@ -117,8 +117,9 @@ class Page:
 
     def wait_for_plan(self):
         """Waits for the plan over the trace that the page opens by itself."""
-        self.browser.wait("document.querySelectorAll('#rounds-table-this tbody tr').length > 0 && opened > 0 "
-                          "&& isDrawn()", 20)
+        self.browser.wait(
+            "document.querySelectorAll('#rounds-table-this tbody tr').length > 0 && opened > 0 " "&& isDrawn()", 20
+        )
 
     def load(self, *paths):
         """Chooses files, and returns what is said of them, once the page has drawn them if they were taken."""
@@ -149,18 +150,22 @@ class Page:
     def enough(self):
         """What is said to be enough for the limit, a line each, once it is there."""
         self.browser.wait('isTold("limits-answer")', 60)
-        return self.browser.value("[...document.querySelectorAll('#limits-answer p, #limits-answer li')]"
-                                  ".map((line) => line.textContent.replace(/ Take it$/, ''))")
+        return self.browser.value(
+            "[...document.querySelectorAll('#limits-answer p, #limits-answer li')]"
+            ".map((line) => line.textContent.replace(/ Take it$/, ''))"
+        )
 
     def exact_enough(self):
         """The same with all digits, which the title of a rounded amount has."""
-        return self.browser.value("""[...document.querySelectorAll("#limits-answer :is(p, li)")].map((line) => {
+        return self.browser.value(
+            """[...document.querySelectorAll("#limits-answer :is(p, li)")].map((line) => {
           const copy = line.cloneNode(true);
           copy.querySelectorAll("b[title]").forEach((amount) => {
             amount.textContent = amount.title.replace("The search found ", "");
           });
           return copy.textContent.replace(/ Take it$/, "");
-        })""")
+        })"""
+        )
 
     def rest(self):
         """Waits until the page draws nothing anew, and its pictures are as wide as their places."""

@@ -47,6 +47,7 @@ def moment_texts(moments):
 
 def round_texts(asked, rounds):
     """The table of rounds, as the page writes it: rates are in a unit of the link's family that the link has one of."""
+
     def share(rate):
         return Fraction(rate * asked.page * asked.guest * 1_000, asked.sampled * asked.tick)
 
@@ -57,8 +58,10 @@ def round_texts(asked, rounds):
     columns = [moment_texts([(tick - asked.start) * asked.tick for tick in ticks]) for ticks in (begins, ends)]
     columns.append(rate_texts([share(rate) / RATES[unit] for rate in rates]))
     if asked.ticks:
-        columns = [[f"{text} {count:,}" for text, count in zip(texts, others)]
-                   for texts, others in zip(columns, (begins, ends, rates))]
+        columns = [
+            [f"{text} {count:,}" for text, count in zip(texts, others)]
+            for texts, others in zip(columns, (begins, ends, rates))
+        ]
     plain = [[f"{count:,}" for count in column] for column in (numbers, *counts)]
     return [list(row) for row in zip(plain[0], *columns, *plain[1:])]
 
@@ -67,5 +70,6 @@ def window_texts(asked, windows):
     """The table of windows, as the page writes it."""
     rows = [list(some.values()) for some in windows[:ROWS_SHOWN]]
     moments = moment_texts([number * asked.window * asked.tick for number, *_ in rows])
-    return [[f"{number:,}", moment, *(f"{count:,}" for count in counts)]
-            for (number, *counts), moment in zip(rows, moments)]
+    return [
+        [f"{number:,}", moment, *(f"{count:,}" for count in counts)] for (number, *counts), moment in zip(rows, moments)
+    ]

@@ -87,9 +87,13 @@ def check_files(page, folder):
     require("bad.pcwt is refused: E8 record" in said and "one.pcwt is still open." in said, said)
     require(page.shown() == before, "a bad file has changed the plan")
     require(page.browser.value("textOf('trace-state')").startswith("one.pcwt: 26,715 pages"), said)
-    require(not page.after("document.getElementById('control-rounds').value = '7';"
-                           "document.getElementById('control-rounds').dispatchEvent(new Event('input'))")["refused"],
-            "no plan after a bad file")
+    require(
+        not page.after(
+            "document.getElementById('control-rounds').value = '7';"
+            "document.getElementById('control-rounds').dispatchEvent(new Event('input'))"
+        )["refused"],
+        "no plan after a bad file",
+    )
     # One after another, without waiting: the worker and the page have the same trace open then.
     before = page.browser.value("opened")
     for name, text in (("three.pcwt", read(example("gzip.pcwt"))), ("bad.pcwt", good[:-1])):
@@ -109,11 +113,23 @@ def check_files(page, folder):
 
 # What is typed, and the value that is taken then: a number, and by how much it is further from what was typed than the
 # nearest that plans.
-REFUSED = [("link", "0.1", "Kbit", 1), ("link", "900000", "Gbit", 1), ("downtime", "90000", "s", 1),
-           ("reserve", "5", "s", 1), ("rounds", "0", None, 1), ("rounds", "99", None, 1), ("window", "0", None, 1),
-           ("window", str(1 << 41), None, 1), ("base", "999999", None, 1), ("tick", "0", "ms", 1),
-           ("tick", "5", "s", 1), ("start", str(1 << 41), None, 1), ("first", "0", None, None),
-           ("sample", "99999999", None, None), ("sample", "0.5", None, None)]
+REFUSED = [
+    ("link", "0.1", "Kbit", 1),
+    ("link", "900000", "Gbit", 1),
+    ("downtime", "90000", "s", 1),
+    ("reserve", "5", "s", 1),
+    ("rounds", "0", None, 1),
+    ("rounds", "99", None, 1),
+    ("window", "0", None, 1),
+    ("window", str(1 << 41), None, 1),
+    ("base", "999999", None, 1),
+    ("tick", "0", "ms", 1),
+    ("tick", "5", "s", 1),
+    ("start", str(1 << 41), None, 1),
+    ("first", "0", None, None),
+    ("sample", "99999999", None, None),
+    ("sample", "0.5", None, None),
+]
 
 
 def amount_in(word):
@@ -150,17 +166,21 @@ def check_refused(page, name, text, unit, grain):
     asked(page, **({"base": "500"} if name == "base" else {}))
     before = page.shown()
     if unit:
-        page.after(f"const unit = document.querySelector('[data-control={name}] select'); unit.value = '{unit}';"
-                   "unit.dispatchEvent(new Event('change'))")
+        page.after(
+            f"const unit = document.querySelector('[data-control={name}] select'); unit.value = '{unit}';"
+            "unit.dispatchEvent(new Event('change'))"
+        )
     page.browser.value(f"document.getElementById('control-{name}').focus()")
     found = typed(page, name, text)
     require(found["refused"] == name and found["stale"], f"{name} {text} {unit}: {found['refused']}, {found['fault']}")
     box = page.browser.value(FAULT_BOX.replace("NAME", name))
     require(box["least"] <= box["top"] and box["bottom"] <= box["most"], f"{name}: the fault is cut: {box}")
     require(found["rounds"] == before["rounds"], "the last plan does not stay")
-    enabled = page.browser.value("['#keep', '#ask', '[data-copies=command-predict]', '#zoom-plan',"
-                                 "'#outcome .saves button', '#plan-this .saves button']"
-                                 ".filter((each) => !document.querySelector(each).disabled)")
+    enabled = page.browser.value(
+        "['#keep', '#ask', '[data-copies=command-predict]', '#zoom-plan',"
+        "'#outcome .saves button', '#plan-this .saves button']"
+        ".filter((each) => !document.querySelector(each).disabled)"
+    )
     require(not page.enough(), f"enough without a plan: {page.enough()}")
     require(not enabled, f"enabled without a plan: {enabled}")
     label = page.browser.value(f"document.querySelector('label[for=control-{name}]').textContent")
@@ -200,14 +220,23 @@ def without_units(found):
 def check_units(page):
     """Another unit of a control is the same amount; a decimal is the amount that it says."""
     draw = random.Random(300)
-    for name, units, some in (("link", RATES, "64MiB"), ("downtime", TIMES, "300ms"), ("reserve", TIMES, "1500us"),
-                              ("link", RATES, "10Gbit"), ("tick", TIMES, "1ms")):
+    for name, units, some in (
+        ("link", RATES, "64MiB"),
+        ("downtime", TIMES, "300ms"),
+        ("reserve", TIMES, "1500us"),
+        ("link", RATES, "10Gbit"),
+        ("tick", TIMES, "1ms"),
+    ):
         page.ask(f"trace=sqlite&{name}={some}")
         before = without_units(page.shown())
         for _ in range(5):
             unit = draw.choice(sorted(units))
-            found = without_units(page.after(f"const unit = document.querySelector('[data-control={name}] select');"
-                                             f"unit.value = '{unit}'; unit.dispatchEvent(new Event('change'))"))
+            found = without_units(
+                page.after(
+                    f"const unit = document.querySelector('[data-control={name}] select');"
+                    f"unit.value = '{unit}'; unit.dispatchEvent(new Event('change'))"
+                )
+            )
             differing = [key for key in found if found[key] != before[key]]
             require(not differing, f"{name} {some} in {unit}: other {differing}")
         settled(page)
@@ -235,22 +264,26 @@ def check_back(page):
         page.browser.value(f"history.{act}()")
         page.browser.wait(f"{value} === '{wanted}' && location.hash.includes('rounds={wanted}&')", 5)
     start = page.browser.value("document.getElementById('control-start').value")
-    page.after("""
+    page.after(
+        """
       const plot = document.getElementById("windows-plot");
       const box = plot.getBoundingClientRect();
       const place = { clientX: box.left + box.width / 2, clientY: box.top + 50, bubbles: true };
       plot.dispatchEvent(new PointerEvent("click", { ...place, pointerType: "mouse" }));
-    """)
+    """
+    )
     moved = page.browser.value("document.getElementById('control-start').value")
     require(moved != start and "The start is moved" in page.browser.value("textOf('moved')"), f"{start}, {moved}")
     page.after("document.getElementById('undo-start').click()")
     require(page.browser.value("document.getElementById('control-start').value") == start, "Undo keeps the start")
-    page.browser.value("""(() => {
+    page.browser.value(
+        """(() => {
       const plot = document.getElementById("windows-plot");
       const box = plot.getBoundingClientRect();
       const place = { clientX: box.left + box.width / 2, clientY: box.top + 50, bubbles: true };
       plot.dispatchEvent(new PointerEvent("click", { ...place, pointerType: "touch" }));
-    })()""")
+    })()"""
+    )
     require(page.browser.value("document.getElementById('control-start').value") == start, "a finger takes a start")
     page.after("document.getElementById('windows-take').click()")
     require(page.browser.value("document.getElementById('control-start').value") != start, "a finger cannot take one")
@@ -261,25 +294,32 @@ def check_warm(page):
     for start in ("0", "1000", "20000"):
         page.ask(f"trace=sqlite&link=1Gbit&start={start}&base=none")
         found = page.after("document.getElementById('control-warm').click()")
-        base, at = page.browser.value("['base', 'start'].map((name) => Number(document.getElementById("
-                                      "`control-${name}`).value))")
+        base, at = page.browser.value(
+            "['base', 'start'].map((name) => Number(document.getElementById(" "`control-${name}`).value))"
+        )
         require(base < at and found["rounds"][0][4] != "0", f"start {start}: copy {base}, start {at}")
     page.browser.value("document.getElementById('ask').click()")
-    page.browser.wait("document.querySelector('#starts-choice p') !== null && !document.getElementById("
-                      "'starts-answer').hidden && document.getElementById('starts-progress').hidden")
+    page.browser.wait(
+        "document.querySelector('#starts-choice p') !== null && !document.getElementById("
+        "'starts-answer').hidden && document.getElementById('starts-progress').hidden"
+    )
     page.after("document.getElementById('take-best').click()")
     best = page.browser.value("Number(document.getElementById('control-start').value)")
     require(best > base, f"the best start is {best}, the copy {base}")
     found = page.ask(f"trace=sqlite&link=1Gbit&start={base}&base={base}")
-    require("Nothing to send" in found["verdict"] and not page.browser.value(
-        "document.querySelector('#verdict .good') !== null"), found["verdict"])
+    require(
+        "Nothing to send" in found["verdict"]
+        and not page.browser.value("document.querySelector('#verdict .good') !== null"),
+        found["verdict"],
+    )
 
 
 def check_looking(page):
     """The item at the cursor is told beside it. A stretch that is drawn over is taken nearer, and takes no start."""
     asked(page)
     start = page.browser.value("document.getElementById('control-start').value")
-    tip = page.browser.value("""(() => {
+    tip = page.browser.value(
+        """(() => {
       const plot = document.getElementById("windows-plot");
       const box = plot.getBoundingClientRect();
       const send = (to, kind, share) => to.dispatchEvent(new PointerEvent(kind, { pointerType: "mouse", bubbles: true,
@@ -291,18 +331,23 @@ def check_looking(page):
       send(window, "pointerup", 0.5);
       send(plot, "click", 0.5);
       return tip;
-    })()""")
+    })()"""
+    )
     require(tip.startswith("Window 18, 9.000 s to 9.500 s: "), f"at a quarter of 37.5 s: {tip}")
-    labels = page.browser.value("[...document.querySelectorAll('#windows-plot text')].map((text) => text.textContent)"
-                                ".filter((words) => /^[0-9.]+ s$/.test(words)).map(parseFloat)")
+    labels = page.browser.value(
+        "[...document.querySelectorAll('#windows-plot text')].map((text) => text.textContent)"
+        ".filter((words) => /^[0-9.]+ s$/.test(words)).map(parseFloat)"
+    )
     require(len(labels) > 3 and 9 <= min(labels) and max(labels) <= 19, f"of 9.4 to 18.8 s: {labels}")
     require(page.browser.value("document.getElementById('control-start').value") == start, "the brush takes a start")
-    page.browser.value("""(() => {
+    page.browser.value(
+        """(() => {
       const plot = document.getElementById("rounds-plot-this");
       const box = plot.getBoundingClientRect();
       plot.dispatchEvent(new PointerEvent("click", { pointerType: "touch", bubbles: true, clientX: box.left + 70,
         clientY: box.top + 60 }));
-    })()""")
+    })()"""
+    )
     said = page.browser.value("textOf('plan-this')")
     require("Round 0, 0.000 s to " in said, f"a finger on a round reads nothing: {said}")
     page.browser.value("document.getElementById('zoom-out').click()")
@@ -334,12 +379,14 @@ def check_worker(page):
     require(found["refused"] is None and not found["stale"], f"tried again: {found['verdict']}")
     require(typed(page, "rounds", "30") == before, "no plan after three ends")
     page.browser.value("workers.at(-1).terminate()")
-    page.browser.value("""(() => {
+    page.browser.value(
+        """(() => {
       const field = document.getElementById("control-rounds");
       field.value = "9";
       window.sinceEnd = performance.now();
       field.dispatchEvent(new Event("input"));
-    })()""")
+    })()"""
+    )
     # A clock that ticks in whole milliseconds may say the same of both.
     page.browser.wait("begun >= sinceEnd", SECONDS_OF_SILENCE)
     require(not page.shown()["refused"], "no plan after a silence")
@@ -421,9 +468,18 @@ def check_uses(tally, page, folder):
     page.wait_for_plan()
     for case in REFUSED:
         tried(tally, f"refused: {case}", check_refused, page, *case)
-    for words, check in (("what is no number", check_unread), ("units", check_units), ("warm starts", check_warm),
-                         ("back", check_back), ("limits", check_limits), ("the best start", check_saving),
-                         ("kept plans", kept.check_comparison), ("shared axes", kept.check_axes),
-                         ("hypervisors", kept.check_hosts), ("saved files", saves.check_files_saved),
-                         ("looking", check_looking), ("the worker", check_worker)):
+    for words, check in (
+        ("what is no number", check_unread),
+        ("units", check_units),
+        ("warm starts", check_warm),
+        ("back", check_back),
+        ("limits", check_limits),
+        ("the best start", check_saving),
+        ("kept plans", kept.check_comparison),
+        ("shared axes", kept.check_axes),
+        ("hypervisors", kept.check_hosts),
+        ("saved files", saves.check_files_saved),
+        ("looking", check_looking),
+        ("the worker", check_worker),
+    ):
         tried(tally, words, check, page)

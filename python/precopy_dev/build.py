@@ -177,7 +177,7 @@ def copy_sources(lane):
     os.makedirs(f"{lane}/crates", exist_ok=True)
     for file in ("crates.txt", "HANDLES"):
         shutil.copy2(f"{TOP}/{file}", lane)
-    skip = shutil.ignore_patterns("out", "must-fail", "more-edits", "test-edits")
+    skip = shutil.ignore_patterns("out", "must-fail")
     for name in os.listdir(f"{TOP}/crates"):
         shutil.copytree(f"{TOP}/crates/{name}", f"{lane}/crates/{name}", ignore=skip)
 

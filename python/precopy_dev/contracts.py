@@ -10,7 +10,7 @@ from precopy_dev.tree import TOP
 
 # Crates that only tests use, and programs of tests: nobody builds on their calls.
 OF_TESTS = re.compile(r"\w+_rows|live_schedules|worked_guest|refused_calls|live_counts")
-CALL = re.compile(r"^ *(?P<pub>pub )?(?:const )?(?P<c>extern \"C\" )?fn (?P<name>\w+)", re.M)
+CALL = re.compile(r"^ *(?P<pub>pub(?P<inner>\(crate\))? )?(?:const )?(?P<c>extern \"C\" )?fn (?P<name>\w+)", re.M)
 OWNER = re.compile(r"^(?P<pub>pub )?(?P<kind>impl|trait)\b(?P<head>[^{;]*)\{", re.M)
 DEFINITION = re.compile(
     r"^(?:  )?(?:abbrev|unfoldable) pub (\w+)(?= |$)|^pub (?:(record|data) )?(?!mod |record |data )(\w+)", re.M
@@ -121,12 +121,21 @@ def given_by(path):
     return names
 
 
+def used_by_main(crate):
+    """The names that the root of a program takes from its modules."""
+    text = read(os.path.join(TOP, "crates", crate, "src", "main.rt"))
+    return set(re.findall(r"\w+", " ".join(re.findall(r"^use crate::([^;]*);", text, re.M))))
+
+
 def calls_in(crate, path):
     text, names = read(path), exported(crate)
     owners = list(owners_in(text))
     for found in CALL.finditer(text):
         owner = next((one for one in owners if one[0] <= found.start() < one[1]), None)
         if not found["pub"] and not (owner and owner[3]):
+            continue
+        # A program's `start` is the door to it, whether or not it is public.
+        if found["inner"] and (names is not None or owner or found["name"] not in used_by_main(crate)):
             continue
         clauses, end = contract_from(text, found.start())
         # Nobody calls a law, so a library for C need not pass it on.

@@ -1,4 +1,6 @@
-"""Makes docs/INDEX.md from the sources: public calls with their clauses, and definitions, with their comments."""
+"""Makes docs/INDEX.md from the sources: public calls with their clauses, and definitions, with their comments.
+
+It also tells what the contracts of public calls determine (python/precopy_dev/determined/table.py)."""
 
 import argparse
 import os
@@ -7,6 +9,7 @@ import sys
 import textwrap
 
 from precopy_dev import contracts
+from precopy_dev.determined import table
 from precopy_dev.tree import TOP
 from precopy_tools import version
 
@@ -21,7 +24,10 @@ HEAD = """# Index
 the first sentence of the comment in the source.
 
 - **Calls**, by file of `src/`: what a caller outside of the crate sees. In brackets stand the clauses that a call
-  ensures; one without a name is `result`. An indented line is what a comment says of clauses.
+  ensures; one without a name is `result`. An indented line is what a comment says of clauses. Clauses determine by
+  their form what a call answers and leaves, but for want of memory. In square brackets stand the laws by which they do
+  so, and what they leave open (`PROOF.md`): the value, when it is answered, the error, and each `&mut`, where the call
+  succeeds (then) and where it does not (otherwise).
 - **Definitions**, by file of `specs/`: all of `migration_model`, and of other crates those that a public contract, the
   model of a public type or another crate cites. In brackets stand the facts of a relation, if a contract cites it: the
   contract then ensures each. The last line of a file has those that their names explain.
@@ -62,9 +68,18 @@ def filled(text, indent=""):
     return textwrap.fill(text, COLUMNS, initial_indent=indent, subsequent_indent=below, **options)
 
 
-def told(entry, facts):
+def bracket(call):
+    """The laws by which a call is determined, and what of it is not, or "" if it is by form."""
+    row = table.rows().get(f"{call.crate}: {call.name}")
+    laws = ", ".join(f"`{law}`" for law in row.laws()) if row else ""
+    rest = ", ".join(row.open()) if row else ""
+    parts = [*([f"by {laws}"] if laws else []), *([f"open: {rest}"] if rest else [])]
+    return f" [{'; '.join(parts)}]" if parts else ""
+
+
+def told(entry, facts, behind=""):
     names = ", ".join(f"`{name}`" for name, _ in facts)
-    head = f"- `{entry.name}`" + (f" ({names})" if names else "")
+    head = f"- `{entry.name}`" + (f" ({names})" if names else "") + behind
     yield filled(f"{head}: {first_sentence(entry.comment)}" if entry.comment else head)
     for comment in dict.fromkeys(comment for _, comment in facts if comment):
         about = ", ".join(f"`{name}`" for name, said in facts if said == comment)
@@ -87,7 +102,7 @@ def section(crate, contracts_say, others):
     for path, here in by_file(calls).items():
         yield f"Calls, `{path}`:\n"
         for call in here:
-            yield from told(call, call.facts)
+            yield from told(call, call.facts, bracket(call))
         yield ""
     for path, here in by_file(listed).items():
         yield f"Definitions, `{path}`:\n"
@@ -111,8 +126,15 @@ def page():
 def main():
     parser = argparse.ArgumentParser(prog="index", description="Makes docs/INDEX.md from the sources.")
     parser.add_argument("--print", action="store_true", dest="prints", help="print the page, and write nothing")
+    parser.add_argument(
+        "--determined", action="store_true", help="print what is determined of each call, and write nothing"
+    )
     version.add_to(parser)
-    if parser.parse_args().prints:
+    given = parser.parse_args()
+    if given.determined:
+        print("\n".join(table.table()))
+        return
+    if given.prints:
         sys.stdout.write(page())
         return
     with open(os.path.join(TOP, PATH), "w", encoding="utf-8") as file:

@@ -1,5 +1,8 @@
 //! Predictions: what a question about a migration comes to, and its answer over a trace.
 
+// `IsPlan` holds of one value alone: `one_plan`.
+// `Spells` holds of one value alone: `one_trace`.
+
 ghost use Rattle.std.specs.Prelude.{◌≡◌, ◌≢◌, ◌≤◌, IfErr, IfOk, IsOk, OnErr, length, take};
 ghost use Rattle.predictions.specs.declared.units.error.UnitsError.{UnitsError};
 ghost use Rattle.migration_model.specs.Trace.{GuestTrace, Spells, last_by, last_tick};

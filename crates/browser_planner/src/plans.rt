@@ -1,5 +1,8 @@
 //! The plan of a trace: its sums, and the numbers of its rounds.
 
+// `IsPlan` holds of one value alone: `one_plan`.
+// `Spells` holds of one value alone: `one_trace`.
+
 ghost use Rattle.std.specs.Prelude.{◌≡◌, ◌≢◌, IfErr, IfOk, IsOk, OnErr, length};
 ghost use Rattle.migration_model.specs.Rates.{AreSettings};
 ghost use Rattle.migration_model.specs.Trace.{GuestTrace, Spells};

@@ -1,5 +1,7 @@
 //! The windows of a trace.
 
+// `Spells` holds of one value alone: `one_trace`.
+
 ghost use Rattle.std.specs.Prelude.{◌≡◌, ◌≢◌, IfErr, IfOk, IsOk, OnErr, length};
 ghost use Rattle.migration_model.specs.Rates.{AreSettings};
 ghost use Rattle.migration_model.specs.Trace.{GuestTrace, Spells};

@@ -1,5 +1,7 @@
 //! A part of a guest's memory.
 
+// `SpellsStream` holds of one value alone: `one_frame`.
+
 ghost use Rattle.std.specs.Prelude.{◌≡◌, ◌≤◌, List, [], IfErr, IfOk, IfSome, MatchResult, None, OnErr, OnOk, drop};
 ghost use Rattle.std.specs.Prelude.{length, option_map};
 ghost use Rattle.migration_model.specs.Frames.{IsFrame, IsZeros, PageFrame, SpellsStream};

@@ -1,5 +1,8 @@
 //! Memory as the writes of a trace leave it.
 
+// `Refuses` holds of one value alone: `TraceView::parse: first`.
+// `Spells` holds of one value alone: `one_trace`.
+
 ghost use Rattle.std.specs.Prelude.{◌≡◌, ◌+◌, ◌*◌, ◌^◌, ◌≤◌, [], IfErr, IfOk, MatchResult, length, vec_len};
 ghost use Rattle.migration_model.specs.Memory.{bytes_put, image_before, image_of, put, zeros};
 ghost use Rattle.migration_model.specs.Trace.{GuestTrace, Spells};

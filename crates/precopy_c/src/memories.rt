@@ -1,5 +1,8 @@
 //! Memory as the writes of a trace leave it, in the caller's buffer.
 
+// `Refuses` holds of one value alone: `TraceView::parse: first`.
+// `Spells` holds of one value alone: `one_trace`.
+
 ghost use Rattle.std.specs.Prelude.{◌≡◌, ◌≢◌, ◌+◌, ◌*◌, ◌^◌, ◌<◌, ◌≤◌, ◌⊎◌, IfErr, OnErr, OnOk, length};
 ghost use Rattle.migration_model.specs.Memory.{bytes_put, image_after, image_before, image_of, put};
 ghost use Rattle.migration_model.specs.Trace.{GuestTrace, Spells};

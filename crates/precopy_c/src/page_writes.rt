@@ -1,5 +1,8 @@
 //! The writes to a page.
 
+// `Refuses` holds of one value alone: `TraceView::parse: first`.
+// `Spells` holds of one value alone: `one_trace`.
+
 ghost use Rattle.std.specs.Prelude.{◌≡◌, ◌≢◌, ◌<◌, ◌≤◌, ◌⊎◌, length};
 ghost use Rattle.migration_model.specs.Trace.{GuestTrace, Spells};
 ghost use Rattle.guest_log.specs.Writes.{shown};

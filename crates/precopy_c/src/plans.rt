@@ -1,5 +1,8 @@
 //! Plans: their sums and their rounds.
 
+// `IsPlan` holds of one value alone: `one_plan`.
+// `Spells` holds of one value alone: `one_trace`.
+
 ghost use Rattle.std.specs.Prelude.{◌≡◌, ◌≢◌, ◌<◌, ◌≤◌, ◌⊎◌, IfErr, IfOk, length, map};
 ghost use Rattle.migration_model.specs.Rounds.{MigrationPlan};
 ghost use Rattle.migration_model.specs.Sweeps.{outcome_of};

@@ -1,5 +1,8 @@
 //! Predictions: what a migration with given limits will be, in time and bytes, and how far a sample's draw moves that.
 
+// `IsPlan` holds of one value alone: `one_plan`.
+// `Spells` holds of one value alone: `one_trace`.
+
 ghost use Rattle.std.specs.Prelude.{◌≡◌, ◌≢◌, ◌⊎◌, IfErr, IfOk, OnOk};
 ghost use Rattle.migration_model.specs.Sweeps.{outcome_of};
 ghost use Rattle.migration_model.specs.Touches.{last_tick_of};

@@ -1,5 +1,8 @@
 //! Reports.
 
+// `IsPlan` holds of one value alone: `one_plan`.
+// `Spells` holds of one value alone: `one_trace`.
+
 ghost use Rattle.std.specs.Prelude.{◌≡◌, ◌≢◌, ◌<◌, ◌⊎◌, ℕ, List, IfErr, IfOk, length};
 ghost use Rattle.migration_model.specs.Trace.{GuestTrace, Spells};
 ghost use Rattle.precopy_c.specs.Answers.{IsToldBy, number_of};

@@ -1,5 +1,8 @@
 //! Sweeps: the sums of many plans of one trace, and the best of them.
 
+// `IsPlan` holds of one value alone: `one_plan`.
+// `Spells` holds of one value alone: `one_trace`.
+
 ghost use Rattle.std.specs.Prelude.{◌≡◌, ◌≢◌, ◌<◌, ◌≤◌, ◌⊎◌, List, IfErr, IfOk, IsOk, OnOk, length, map};
 ghost use Rattle.std.specs.List.{All};
 ghost use Rattle.migration_model.specs.Sweeps.{SweepLine, best_of};

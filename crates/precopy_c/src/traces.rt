@@ -1,5 +1,8 @@
 //! Tests of traces.
 
+// `Refuses` holds of one value alone: `TraceView::parse: first`.
+// `Spells` holds of one value alone: `one_trace`.
+
 ghost use Rattle.std.specs.Prelude.{◌≡◌, ◌≢◌};
 ghost use Rattle.migration_model.specs.Final.{shape_of_trace};
 ghost use Rattle.migration_model.specs.Trace.{GuestTrace, Spells};

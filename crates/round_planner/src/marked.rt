@@ -1,5 +1,7 @@
 //! A plan whose rounds are found by marks: its sums, and the numbers of its rounds, in memory that is lent.
 
+// `IsPlan` holds of one value alone: `one_plan`.
+
 ghost use Rattle.std.specs.Prelude.{◌≡◌, ◌≤◌, ◌&&◌, ℕ, List, Some, length, nat_le, take};
 ghost use Rattle.std.specs.List.{range_with_len};
 ghost use Rattle.migration_model.specs.Rounds.{IsSent, NextRound, pages_lacking};

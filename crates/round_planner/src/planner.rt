@@ -1,5 +1,7 @@
 //! Sums of the plans of many settings over one trace.
 
+// `IsPlan` holds of one value alone: `one_plan`.
+
 ghost use Rattle.std.specs.Prelude.{◌≡◌, IfErr, IfOk};
 ghost use Rattle.migration_model.specs.Sweeps.{IsOutcome};
 ghost use Rattle.round_planner.specs.Indexing.{IsRoundIndexOf};

@@ -1,5 +1,7 @@
 //! A plan, round by round.
 
+// `IsPlan` holds of one value alone: `one_plan`.
+
 ghost use Rattle.std.specs.Prelude.{◌≡◌, ◌≤◌, ◌&&◌, IfErr, IfOk, length, nat_le, take};
 ghost use Rattle.migration_model.specs.Rounds.{IsPlan, pages_lacking};
 ghost use Rattle.round_planner.specs.Indexing.{AreMarksOf, IsFirst};

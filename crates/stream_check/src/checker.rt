@@ -1,5 +1,7 @@
 //! The checker: what it knows of the streams that came, and how it takes more.
 
+// `SpellsStream` holds of one value alone: `one_frame`.
+
 ghost use Rattle.std.specs.Prelude.{◌≡◌, ◌≢◌, ◌<◌, ◌≤◌, ◌^◌, [], List, IfErr, IfOk, OnErr, OnOk, Some, drop, length};
 ghost use Rattle.std.specs.Prelude.{slice_set};
 ghost use Rattle.migration_model.specs.Final.{shape_of_trace};

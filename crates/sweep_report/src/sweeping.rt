@@ -1,5 +1,7 @@
 //! Lines of many cases, made by workers side by side.
 
+// `IsPlan` holds of one value alone: `one_plan`.
+
 ghost use Rattle.std.specs.Prelude.{◌≡◌, ◌<◌, ℕ, IfErr, IfOk, IfSome, OnOk, None, List, length, replicate};
 ghost use Rattle.std.specs.List.{All};
 ghost use Rattle.migration_model.specs.Rates.{MigrationSettings};

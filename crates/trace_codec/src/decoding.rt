@@ -1,5 +1,8 @@
 //! A trace from its bytes. No program runs it: it serves users of the library, and tests.
 
+// `Refuses` holds of one value alone: `TraceView::parse: first`.
+// `Spells` holds of one value alone: `one_trace`.
+
 ghost use Rattle.std.specs.Prelude.{◌≡◌, IfErr, IfOk, MatchResult};
 ghost use Rattle.migration_model.specs.Trace.{GuestTrace, Spells};
 ghost use Rattle.trace_codec.specs.Refusals.{RefusesUnlessMemory};

@@ -1,5 +1,7 @@
 //! A trace read write by write, each tested as the reader reaches it.
 
+// `Refuses` holds of one value alone: `TraceView::parse: first`.
+
 ghost use Rattle.std.specs.Prelude.{◌≡◌, ◌<◌, ◌++◌, ◌∷◌, [], IfErr, IfOk, OnErr, OnOk, drop, length};
 ghost use Rattle.migration_model.specs.Trace.{AreGuestWrites, IsGuestWrite, Spells, trace_with};
 ghost use Rattle.migration_model.specs.TraceReading.{writes_in};

@@ -1,5 +1,8 @@
 //! A trace that is read in place.
 
+// `Refuses` holds of one value alone: `TraceView::parse: first`.
+// `Spells` holds of one value alone: `one_trace`.
+
 ghost use Rattle.std.specs.Prelude.{◌≡◌, Err, IfErr, IfOk, Ok, OnOk, length};
 ghost use Rattle.migration_model.specs.Trace.{GuestTrace, IsTrace, Spells, trace_with};
 ghost use Rattle.migration_model.specs.TraceReading.{writes_in};

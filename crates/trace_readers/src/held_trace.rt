@@ -1,5 +1,8 @@
 //! A trace that is held as its bytes.
 
+// `Refuses` holds of one value alone: `TraceView::parse: first`.
+// `Spells` holds of one value alone: `one_trace`.
+
 ghost use Rattle.std.specs.Prelude.{◌≡◌, ◌↔◌, ◌+◌, ◌<◌, ◌≤◌, Err, IfErr, IfOk, List, MatchResult, Some, false, length};
 ghost use Rattle.std.specs.Prelude.{refl, slice_index_or, true, ℕ};
 ghost use Rattle.migration_model.specs.Touches.{touches_of};

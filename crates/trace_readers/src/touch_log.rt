@@ -1,5 +1,8 @@
 //! A trace without the bytes of its writes.
 
+// `Refuses` holds of one value alone: `TraceView::parse: first`.
+// `Spells` holds of one value alone: `one_trace`.
+
 ghost use Rattle.std.specs.Prelude.{◌≡◌, ◌↔◌, [], ℕ, List, Err, IfErr, IfOk, MatchResult, Some, false, length, nat_lt};
 ghost use Rattle.std.specs.Prelude.{◌++◌, map, true, ⊤};
 ghost use Rattle.migration_model.specs.Trace.{GuestTrace, Spells};

@@ -16,7 +16,6 @@ OF_BUILDERS = {
     "bindings/rust/README.md",
     "docs/ARCHITECTURE.md",
     "docs/DECISIONS.md",
-    "docs/EDITS.md",
     "docs/INDEX.md",
     "docs/MEASUREMENTS.md",
     "docs/PROOF.md",

@@ -1,5 +1,7 @@
 //! The sums of a plan of redrawn pages.
 
+// `IsPlan` holds of one value alone: `one_plan`.
+
 ghost use Rattle.std.specs.Prelude.{◌≡◌, ◌↔◌, ◌≤◌, ◌<◌, ◌+◌, ℕ, IsTrue, List, length, true};
 ghost use Rattle.std.specs.Prelude.{slice_index};
 ghost use Rattle.migration_model.specs.Rounds.{NextRound, first_round};
