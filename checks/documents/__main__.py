@@ -8,9 +8,10 @@ one after another in a folder of their own, with the repository's files. Those o
 of GNU parallel are left out if there is none. A block of code that is headed by the path of a file occurs in that file.
 What docs/PROOF.md, the theorem's table in README.md and the recipes of docs/ARCHITECTURE.md name exists, and that page
 has each crate once. docs/PROOF.md lists the calls that contracts leave open. What docs/DECISIONS.md and README.md tell
-of differences and proof has lost no head. The index that dev/index makes has each clause that README.md and docs/PROOF.md name. A refused trace has one sentence in programs and
-pages. A sentence has at most 40 words, unless it is quoted; a line has at most 120 characters. README.md is short, and
-all of docs/ has a bound. What is tested of a page is a case.
+of differences and proof has lost no head. The index that dev/index makes has each clause that README.md and
+docs/PROOF.md name. A refused trace has one sentence in programs and pages. A sentence has at most 40 words, unless it
+is quoted; a line has at most 120 characters. README.md is short, and all of docs/ has a bound. What is tested of a page
+is a case.
 """
 
 import fnmatch

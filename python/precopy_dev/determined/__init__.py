@@ -1,0 +1,1 @@
+"""What the contracts of public calls determine, read from the sources."""
