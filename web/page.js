@@ -1,40 +1,37 @@
 // The page: it holds the state, has each change planned by the worker, and has the sections drawn.
 
-import { ControlRefusal, takeRules } from "./asking.js";
-import { CommandsView } from "./commands-view.js";
-import { Controls } from "./controls.js";
-import { derivedWords } from "./derived.js";
-import { byId, oncePerFrame } from "./elements.js";
-import { fittedSettings } from "./fitting.js";
-import { nearestSettings } from "./nearest.js";
-import { momentText, unbroken } from "./numbers.js";
-import { WorkerEnded } from "./planner-client.js";
-import { LateAnswers } from "./late-answers.js";
-import { LimitsView } from "./limits-view.js";
-import { keptPredictions, PlanView } from "./plan-view.js";
-import { serve } from "./planner-worker.js";
-import { fixWidths, watchWidths } from "./plot.js";
-import { hasWideMemory, Planner, Refusal } from "./planner.js";
-import { predictionOf } from "./predictions.js";
-import { nextTask } from "./slices.js";
-import { StartsView } from "./starts-view.js";
-import { fragmentOf, MOST_KEPT, presetOf, stateIn, withoutPreset } from "./state.js";
-import { TraceDesk } from "./trace-desk.js";
-import { embeddedBytes } from "./trace-source.js";
-import { amountOf, microsOf } from "./units.js";
-import { WindowsView } from "./windows-view.js";
+import { ControlRefusal, refusalOf, takeRules } from "./model/asking.js";
+import { CommandsView } from "./views/commands-view.js";
+import { Controls } from "./views/controls.js";
+import { derivedWords } from "./model/derived.js";
+import { announce, byId, keepFocus, oncePerFrame } from "./views/elements.js";
+import { fittedSettings, withRecord } from "./model/fitting.js";
+import { KeptPlans } from "./model/kept-plans.js";
+import { nearestSettings } from "./model/nearest.js";
+import { momentText, unbroken } from "./model/numbers.js";
+import { WorkerEnded } from "./engine/planner-client.js";
+import { LateAnswers } from "./engine/late-answers.js";
+import { LimitsView } from "./views/limits-view.js";
+import { LinksView } from "./views/links-view.js";
+import { keptPredictions, PlanView } from "./views/plan-view.js";
+import { serve } from "./engine/planner-worker.js";
+import { listenToPrinting } from "./views/paper.js";
+import { Past } from "./views/past.js";
+import { watchWidths } from "./views/plot.js";
+import { hasWideMemory, Planner, Refusal } from "./engine/planner.js";
+import { isUnknown, predictionOf } from "./model/predictions.js";
+import { nextTask } from "./engine/slices.js";
+import { StartsView } from "./views/starts-view.js";
+import { fragmentOf, MOST_KEPT, presetOf, stateIn, withoutPreset } from "./model/state.js";
+import { suggestionsOf } from "./model/suggestions.js";
+import { TimePlots } from "./views/time-plots.js";
+import { TraceDesk } from "./views/trace-desk.js";
+import { embeddedBytes } from "./engine/trace-source.js";
+import { amountOf, microsOf } from "./model/units.js";
+import { WindowsView } from "./views/windows-view.js";
 
 /** How long the page waits for a change to be the last one until it announces it, in milliseconds. */
 const SETTLED = 400;
-
-/** How many pictures there are in a row on paper: of several plans all, and then one of all else; of one plan two. */
-function picturesAbreast(plot) {
-  const plans = Number(byId("plans").dataset.plans);
-  if (plans === 1) {
-    return 2;
-  }
-  return byId("plans").contains(plot) ? plans : 1;
-}
 
 /** The example that is shown if the address asks for nothing. */
 const FIRST_EXAMPLE = "sqlite";
@@ -57,17 +54,25 @@ class Page {
     this.ready = ready;
     this.state = stateIn(location.hash);
     this.isGiven = location.hash.length > 1;
+    // Whether the settings over the open trace came with an address, and the fingerprint of the trace that it names.
+    this.isAddressed = false;
+    this.addressed = this.state.print;
+    this.fitted = new Set();
     this.chosen = new Set();
-    this.keptFound = new Map();
-    this.found = null;
+    this.keptPlans = new KeptPlans((trace, settings) => foundBy(() => predictionOf(trace, settings)));
+    this.past = new Past(() => this.settle());
+    this.revision = 0;
+    this.isUntold = false;
     this.isPlanning = false;
     this.planSoon = oncePerFrame(() => this.plan());
     this.controls = new Controls(byId("controls"), (settings, names) => this.change(settings, names));
     this.desk = new TraceDesk((trace, wish) => this.take(trace, wish));
-    this.windows = new WindowsView((tick) => this.startAt(tick), () => this.draw());
-    this.plans = new PlanView((name) => this.controls.focus(name), () => this.fitAnew(), this.planSoon);
-    this.starts = new StartsView((tick) => this.startAt(tick), () => this.draw());
+    this.times = new TimePlots(() => this.draw());
+    this.windows = new WindowsView((tick) => this.startAt(tick), this.times);
+    this.plans = new PlanView((name) => this.controls.focus(name), () => this.fitAnew(), this.planSoon, this.times);
+    this.starts = new StartsView((tick) => this.startAt(tick), () => this.draw(), announce, this.times);
     this.limits = new LimitsView((settings, name) => this.controls.take(settings, [name]));
+    this.links = new LinksView((settings, name) => this.controls.take(settings, [name]));
     this.commands = new CommandsView();
     this.late = new LateAnswers((kind) => this.drawLate(kind));
     this.controls.show(this.state.settings);
@@ -87,9 +92,8 @@ class Page {
     byId("comparison").addEventListener("click", ({ target }) => this.pressed(target));
     this.listenToDrops();
     addEventListener("popstate", () => this.follow());
-    addEventListener("beforeprint", () => this.drawFor(picturesAbreast));
-    addEventListener("afterprint", () => this.drawFor(null));
-    watchWidths([byId("windows-plot"), byId("starts-plot")], this.planSoon);
+    listenToPrinting(() => this.draw());
+    watchWidths([byId("windows-plot"), byId("starts-plot"), byId("links-plot")], this.planSoon);
   }
 
   listenToDrops() {
@@ -128,30 +132,62 @@ class Page {
     }
   }
 
-  /**
-   * Takes a trace that is open now. Settings that came with an address stay as they are; an example has its own; else
-   * they are fitted to the trace and its record.
-   */
+  /** Takes a trace that is open now, with settings for it. */
   take(trace, { isGiven = false, isRecordOnly = false }) {
     const { example } = trace.source;
-    if (!isGiven) {
-      this.state.settings = example ? presetOf(example)
-        : fittedSettings(this.settingsToFit(), this.chosen, trace.sizes, trace.record);
+    this.isAddressed = isRecordOnly ? this.isAddressed : isGiven;
+    this.fitted = new Set();
+    this.state.settings = this.settingsBeside(this.settingsFor(trace), trace, isRecordOnly);
+    if (!isRecordOnly && this.shown) {
+      this.keptPlans.leave(this.shown, trace);
     }
     const kept = isGiven || isRecordOnly ? this.state.kept : [];
     const wanted = isGiven ? this.state.print : null;
     this.state = { ...this.state, kept, example, print: wanted ?? trace.print };
-    this.keptFound.clear();
+    this.keptPlans.forget();
     this.starts.take(trace);
     this.plans.forget();
-    this.windows.forget();
+    this.times.forget(trace.sizes.last);
     document.body.classList.add("loaded");
     byId("moved").hidden = true;
     this.controls.unread = null;
     this.controls.show(this.state.settings);
     this.controls.fit(trace.sizes, trace.record?.start ?? 0);
-    this.planSoon();
+    this.planAnew();
     this.settle();
+  }
+
+  /**
+   * The settings for a trace that is open now. An address of this very trace has all of them; of another, or of none,
+   * the record comes before the address, but the limits stay. An example has its own. Else they are fitted to the trace
+   * and its record.
+   */
+  settingsFor({ source: { example }, print, record, sizes }) {
+    const { settings } = this.state;
+    if (this.isAddressed) {
+      return example || !record || this.addressed === print ? settings : withRecord(settings, record, sizes);
+    }
+    if (example) {
+      return presetOf(example);
+    }
+    const found = fittedSettings(this.settingsToFit(), this.chosen, sizes, record);
+    this.fitted = new Set(found.fitted);
+    return found.settings;
+  }
+
+  /** Settings for another trace, but with the limits of before if a plan is kept to compare, and they make a plan. */
+  settingsBeside(settings, { sizes }, isRecordOnly) {
+    const { settings: before, kept } = this.state;
+    if (isRecordOnly || this.isAddressed || kept.length + this.keptPlans.others.length === 0) {
+      return settings;
+    }
+    const { link, first, increase, downtime, reserve, rounds } = before;
+    const same = { ...settings, link, first, increase, downtime, reserve, rounds };
+    if (refusalOf(same, sizes) !== null) {
+      return settings;
+    }
+    this.fitted = new Set();
+    return same;
   }
 
   /** The settings that are fitted to another trace. Those of an example go with it. */
@@ -163,13 +199,20 @@ class Page {
   /** Takes settings that the user has changed, with the names of those that were chosen. */
   change(settings, names) {
     names.forEach((name) => this.chosen.add(name));
+    this.fitted = new Set([...this.fitted].filter((name) => !names.includes(name)));
     byId("moved").hidden = true;
     this.state = { ...this.state, settings, print: this.desk.trace?.print ?? this.state.print };
     this.changed();
   }
 
-  changed() {
+  /** Has what is asked now planned soon: what was drawn before is of something else. */
+  planAnew() {
+    this.revision += 1;
     this.planSoon();
+  }
+
+  changed() {
+    this.planAnew();
     clearTimeout(this.settling);
     this.settling = setTimeout(() => this.settle(), SETTLED);
   }
@@ -182,6 +225,7 @@ class Page {
       return;
     }
     this.startBefore = before;
+    this.moved = document.activeElement;
     this.controls.set("start", start);
     const at = (ticks) => unbroken(momentText(microsOf({ tick: amountOf(before.tick) }, ticks)));
     byId("moved-words").textContent = `The start is moved from ${at(before.start)} to ${at(start)}.`;
@@ -190,18 +234,21 @@ class Page {
 
   undoStart() {
     const { start, base } = this.startBefore;
-    byId("moved").hidden = true;
+    keepFocus(() => { byId("moved").hidden = true; }, () => this.moved);
     this.controls.take({ ...this.state.settings, start, base }, []);
   }
 
   fitAnew() {
     const { sizes, record } = this.desk.trace;
     this.chosen.clear();
-    this.controls.take(fittedSettings(this.state.settings, this.chosen, sizes, record), []);
+    const { settings, fitted } = fittedSettings(this.state.settings, this.chosen, sizes, record);
+    this.fitted = new Set(fitted);
+    this.controls.take(settings, []);
   }
 
   keep() {
     const { settings, kept } = this.state;
+    this.keptPlans.makeRoom(kept);
     this.keepOnly([...kept, structuredClone(settings)].slice(-MOST_KEPT));
   }
 
@@ -214,9 +261,9 @@ class Page {
   pressed({ dataset }) {
     const { kept, settings } = this.state;
     if (dataset.drops !== undefined) {
-      this.keepOnly(kept.filter((_, place) => place !== Number(dataset.drops)));
+      this.keepOnly(this.keptPlans.without(Number(dataset.drops), kept));
     } else if (dataset.exchanges !== undefined) {
-      const place = Number(dataset.exchanges);
+      const place = Number(dataset.exchanges) - this.keptPlans.others.length;
       const other = { ...kept[place], window: settings.window, ticks: settings.ticks };
       this.state = { ...this.state, kept: kept.with(place, structuredClone(settings)) };
       this.controls.take(other, []);
@@ -227,8 +274,12 @@ class Page {
   follow() {
     const before = this.desk.trace?.source.example;
     this.state = stateIn(location.hash);
+    clearTimeout(this.settling);
     this.isGiven = true;
-    this.keptFound.clear();
+    this.isAddressed = true;
+    this.addressed = this.state.print;
+    this.fitted = new Set(this.past.follow().fitted ?? []);
+    this.keptPlans.forget();
     byId("moved").hidden = true;
     const { example, print } = this.state;
     if (example && example !== before) {
@@ -241,23 +292,9 @@ class Page {
     }
     this.controls.unread = null;
     this.controls.show(this.state.settings);
-    this.planSoon();
+    this.planAnew();
     this.tellAddress();
-  }
-
-  /** The kept plans over this trace. */
-  async kept(trace) {
-    const { kept, settings } = this.state;
-    const plans = [];
-    for (const some of kept) {
-      const key = JSON.stringify(some);
-      if (!this.keptFound.has(key)) {
-        const window = trace.sizes.last + 1;
-        this.keptFound.set(key, await foundBy(() => predictionOf(trace, { ...some, window })));
-      }
-      plans.push({ settings: { ...some, window: settings.window }, found: this.keptFound.get(key) });
-    }
-    return plans;
+    this.announce();
   }
 
   predicted(trace) {
@@ -286,16 +323,17 @@ class Page {
 
   async planOnce(trace) {
     const begun = performance.now();
-    const { settings } = this.state;
+    const { revision, state: { settings } } = this;
     const found = await foundBy(async () => this.predicted(trace));
     const planned = performance.now();
-    const kept = await this.kept(trace);
+    const kept = await this.keptPlans.all(trace, this.state);
     await foundBy(() => this.windows.count(trace, settings));
     if (trace !== this.desk.trace) {
       return;
     }
-    this.shown = { trace, settings, found, kept };
+    this.shown = { trace, settings, found, kept, revision };
     this.draw();
+    this.announceDrawn();
     // The table of windows has a task of its own, so that none takes long.
     await nextTask();
     this.windows.fill();
@@ -317,33 +355,28 @@ class Page {
     this.askLate();
     this.plans.draw(settings, found, kept);
     byId("keep").disabled = !found.value;
-    byId("keep").textContent = kept.length < MOST_KEPT ? "Keep this plan to compare"
-      : "Keep this plan in place of the first";
+    byId("keep").textContent = kept.length < MOST_KEPT ? "Keep to compare" : "Keep in place of the first";
     this.drawLimits();
+    this.drawLinks();
     this.starts.follow(found.value, this.controls.begin);
     this.starts.draw(this.windows.axis);
     this.commands.draw(found.value, trace.sizes, this.controls.begin);
     this.controls.derive(derivedWords(settings, found.value, trace.sizes));
+    this.controls.suggest(suggestionsOf(trace, settings, this.fitted));
     this.controls.refuse(found.refusal, nearest);
-    this.found = found;
-  }
-
-  /** Draws pictures as wide as they are on paper, so that their words can be read there; with null as on the screen. */
-  drawFor(abreastOf) {
-    fixWidths(abreastOf);
-    this.draw();
   }
 
   /** The predictions whose standard errors are shown: that of now, or else the last one, and the kept ones. */
   predictionsShown({ found, kept }) {
-    return [found.value ?? this.plans.last, ...keptPredictions(kept)].filter(Boolean);
+    return [found.value ?? this.plans.last, ...keptPredictions(kept.filter(({ name }) => !name))].filter(Boolean);
   }
 
   /** Asks for what takes long, and tells the predictions what is known of it. */
   askLate() {
     const { trace, found } = this.shown;
-    const predictions = this.predictionsShown(this.shown);
-    this.late.follow(trace, found.value ?? null, predictions);
+    const predictions = [...this.predictionsShown(this.shown), ...this.starts.chosen()];
+    this.links.follow(found.value ?? null, trace.sizes);
+    this.late.follow(trace, found.value ?? null, predictions, this.links.questions());
     predictions.forEach((some) => { some.errors = this.late.errorsOf(trace, some); });
   }
 
@@ -353,18 +386,33 @@ class Page {
       return;
     }
     const { settings, kept } = this.shown;
+    if (kind === "curve") {
+      this.drawLinks();
+      return;
+    }
     this.askLate();
     if (kind !== "errors") {
       this.drawLimits();
-    } else if (this.plans.last) {
+      return;
+    }
+    this.starts.tell();
+    if (this.plans.last) {
       this.plans.drawComparison(settings, kept);
     }
+  }
+
+  drawLinks() {
+    this.links.draw((question) => this.late.answerTo(this.shown.trace, question));
   }
 
   drawLimits() {
     const { trace, found } = this.shown;
     const prediction = found.value ?? null;
-    this.limits.show(trace, prediction, prediction && this.late.remediesOf(trace, prediction));
+    if (prediction && isUnknown(prediction)) {
+      this.limits.showWays(prediction, this.late.waysOf(trace, prediction));
+    } else {
+      this.limits.show(trace, prediction, prediction && this.late.remediesOf(trace, prediction));
+    }
   }
 
   nearest(refusal, settings, { sizes }) {
@@ -383,17 +431,21 @@ class Page {
   settle() {
     clearTimeout(this.settling);
     const fragment = `#${fragmentOf(this.state)}`;
-    if (location.hash !== fragment) {
-      if (this.isSettled) {
-        history.pushState(null, "", fragment);
-      } else {
-        history.replaceState(null, "", fragment);
-      }
-    }
-    this.isSettled = true;
+    this.past.add(fragment, { fitted: [...this.fitted] });
     this.tellAddress();
-    if (this.found) {
-      this.plans.tell(this.found);
+    this.announce();
+  }
+
+  /** Announces the plan of what is asked now: at once if it is drawn, else when it is. */
+  announce() {
+    this.isUntold = true;
+    this.announceDrawn();
+  }
+
+  announceDrawn() {
+    if (this.isUntold && this.shown?.revision === this.revision && this.shown.trace === this.desk.trace) {
+      this.isUntold = false;
+      announce(this.plans.wordsOf(this.shown.found));
     }
   }
 

@@ -2,6 +2,7 @@
 
     checks/run page [PRECOPY [MODULE]]
     checks/run page --pictures FOLDER [PRECOPY [MODULE]]
+    checks/run page --only PART [PRECOPY [MODULE]]
 
 PRECOPY is crates/precopy/out/precopy of this repository if none is given, and MODULE the WebAssembly module, by default
 out/browser_planner.wasm, which `make page` builds; if it is missing, dev/page-module builds it. The page is joined
@@ -11,28 +12,34 @@ for the limit keeps it. Each damage of the table in docs/FORMATS.md is refused b
 planned, or refused in a sentence. Fifty traces of all shapes plan at once. No task of the page's own thread works for
 more than 50 ms, however large the trace. The page opens no connection, fits widths from 360 to 1,920 pixels in each
 state, has contrasts of 4.5 for text and 3 for marks in light and in dark, and a name of its own for each control. In
-tables points are below each other, and no plan has a gap beside it, on paper neither. If Node is there, web/planner.js
-plans the same in it. Without Chromium all but sizes and Node are left out, and a line says so. The last line is 'N
-passed, M failed'; the status is 0 if something was tried and nothing failed.
+tables points are below each other, and no plan has a gap beside it, on paper neither. If Node is there,
+web/engine/planner.js plans the same in it, and the tests of checks/page/modules pass. Without Chromium all but sizes
+and Node are left out, and a line says so. The last line is 'N passed, M failed'; the status is 0 if something was tried
+and nothing failed.
 
 With --pictures only looks are tried, in Chromium, and FOLDER gets them for a reader's eye: a PNG of each state of the
-page at each width, in light and in dark; PDFs of what is printed; and the files that the page saves.
+page at each width, in light and in dark; PDFs of what is printed; and the files that the page saves. With --only one
+part is tried: `node`, `firefox`, or in Chromium `numbers`, `starts`, `damages`, `addresses`, `uses`, `states`, `looks`,
+`loads` or `silence`.
 """
 
 import argparse
+import copy
 import json
 import os
 import random
+import re
+import shutil
 import subprocess
 import sys
 import tempfile
 
-from checks.lib.amount_texts import moment_text, size_text, time_text
+from checks.lib.amount_texts import error_text, moment_text, size_text, time_text
 from checks.lib.tally import Tally, has, left_out
 from checks.lib.view_texts import TOP, Failure, ran, report_facts, sweep_facts, told
-from checks.page import cases, enough, loads
+from checks.page import addresses, cases, enough, loads
 from checks.page import looks as page_looks
-from checks.page import states, uses
+from checks.page import states, uses, worker
 from checks.page.browser import Browser
 from checks.page.firefox import Firefox
 from checks.page.node import node_command, put_web
@@ -40,8 +47,11 @@ from checks.page.shown import COLLECTOR, Page, tried
 from checks.view.limit_cases import Known
 from checks.view.quantity_cases import amounts, quantities, texts_of
 
-MOST_MODULE, MOST_PAGE = 65_536, 350_000
+MOST_MODULE, MOST_PAGE = 65_536, 400_000
 VIEW = os.path.join(TOP, "crates", "precopy_view", "out", "precopy_view")
+IN_CHROMIUM = ["numbers", "starts", "damages", "addresses", "uses", "states", "looks", "loads", "silence"]
+# The standard error of a start's downtime.
+ERROR = re.compile(" \u00b1 ([^,]+)")
 STARTS_OF, STARTS_TIMES = ["gzip.pcwt", "guests/sqlite.light.pcwt"], 4
 
 
@@ -108,12 +118,24 @@ def check_quantities(tally, command, web):
             tally.add(found == texts_of(amount), f"the page writes {amount} as {found}, not {texts_of(amount)}")
 
 
+def check_modules(tally, command):
+    """Runs the tests of web/model in Node: each of them counts."""
+    words = [*command, "--no-warnings", "--test", "--test-reporter=tap", os.path.join(TOP, "checks", "page", "modules")]
+    ran = subprocess.run(words, capture_output=True, text=True, check=False)
+    results = re.findall(r"^(not ok|ok) \d+ - (.*)$", ran.stdout, re.M)
+    tally.add(results and (ran.returncode == 0) == all(result == "ok" for result, _ in results),
+              f"{len(results)} tests of modules: {ran.stdout[-300:]}{ran.stderr[-300:]}")
+    for result, name in results:
+        tally.add(result == "ok", f"the modules: {name}")
+
+
 def check_node(tally, folder, module, precopy):
     """Plans in Node what `precopy report` plans."""
     command = node_command()
     if not command:
         left_out("the module in Node", "there is no node with 64-bit memory")
         return
+    check_modules(tally, command)
     web = put_web(folder, "plans.mjs", "words.mjs", "texts.mjs")
     check_quantities(tally, command, web)
     for known, some in cases.tries(folder):
@@ -189,6 +211,7 @@ def check_starts(page, precopy, name, seed):
     page.browser.value("document.getElementById('ask').click()")
     done = "!document.getElementById('starts-answer').hidden && document.getElementById('starts-progress').hidden"
     page.browser.wait(done)
+    page.browser.wait("isTold('starts-choice')")
     found = page.browser.value("[...document.querySelectorAll('#starts-choice p:not(#saving, .hint)')]"
                                ".map((line) => line.textContent.replaceAll('\\u00a0', ' '))")
     costs = []
@@ -207,12 +230,25 @@ def check_starts(page, precopy, name, seed):
         wanted.append(f"{title} start: {place}: {cost}")
     if len(set(chosen)) == 1:
         wanted = [f"Each start whose migration ends within the trace: {cost}"]
-    if found != (wanted or ["No migration ends within the trace: record longer."]):
+    if [ERROR.sub("", line) for line in found] != (wanted or ["No migration ends within the trace: record longer."]):
         raise Failure(f"{found} in place of {wanted}")
+    check_errors(asked, known, found, chosen)
     if words != f"Plan {cases.plural(len(ticks), 'start')}":
         raise Failure(f"{words!r} for {len(ticks)} starts")
     if os.access(VIEW, os.X_OK):
         check_when(page.browser.value("textOf('command-when')"), known.path, len(ticks), chosen)
+
+
+def check_errors(asked, known, found, chosen):
+    """The best and the worst start of a small sample have the standard errors of their downtimes."""
+    if known.pages > cases.SMALL:
+        return
+    for line, start in zip(found, chosen):
+        place = copy.copy(asked)
+        place.start = start
+        drawn, said = cases.drawn_errors(place), ERROR.search(line)
+        if (said and said[1]) != (drawn and error_text(drawn[2])):
+            raise Failure(f"{line}: the errors are {drawn}")
 
 
 def check_when(words, path, count, chosen):
@@ -257,7 +293,7 @@ def check_no_memory(page):
             return new Made(kind?.type === "text/javascript" ? [{json.dumps(code)}, ...parts] : parts, kind);
           }};
         }})()""")
-        uses.end_worker(page)
+        worker.end_worker(page)
         said = page.load(cases.example("guests/mid.light.pcwt"))
         if f"is refused: {name} " not in said:
             raise Failure(f"{said!r} in place of {name}")
@@ -274,20 +310,34 @@ def in_chromium(act, tally, path, *words):
         act(tally, Page(browser, path), *words)
 
 
-def all_uses(tally, page, folder, precopy):
-    page.open()
-    page.wait_for_plan()
-    check_numbers(tally, page, precopy, folder)
+def all_starts(tally, page, precopy):
     for name in STARTS_OF:
         for seed in range(STARTS_TIMES):
             tried(tally, f"starts of {name}, {seed}", check_starts, page, precopy, name, seed)
+
+
+def all_damages(tally, page, folder):
     check_damages(tally, page, folder)
     tried(tally, "no memory", check_no_memory, page)
-    uses.check_uses(tally, page, folder)
-    looks(tally, page)
-    page_looks.check_looks(tally, page, tried)
-    loads.check_loads(tally, page, folder)
-    page_looks.check_silence(tally, page)
+
+
+def all_uses(tally, page, folder, precopy, only):
+    parts = {
+        "numbers": lambda: check_numbers(tally, page, precopy, folder),
+        "starts": lambda: all_starts(tally, page, precopy),
+        "damages": lambda: all_damages(tally, page, folder),
+        "addresses": lambda: addresses.check_addresses(tally, page, tried),
+        "uses": lambda: uses.check_uses(tally, page, folder),
+        "states": lambda: looks(tally, page),
+        "looks": lambda: page_looks.check_looks(tally, page, tried),
+        "loads": lambda: loads.check_loads(tally, page, folder),
+        "silence": lambda: page_looks.check_silence(tally, page),
+    }
+    page.open()
+    page.wait_for_plan()
+    for name, act in parts.items():
+        if only in (None, name):
+            act()
 
 
 def looks(tally, page, pictures=None):
@@ -307,18 +357,20 @@ def check_pictures(tally, path, pictures):
         tried(tally, "the browser", in_chromium, looks, tally, path, pictures)
 
 
-def check_all(tally, folder, module, path, precopy):
+def check_all(tally, folder, module, path, precopy, only=None):
     check_sizes(tally, folder, module, path)
-    check_node(tally, folder, module, precopy)
-    if has("chromium", "chromium", "the page in a browser"):
-        tried(tally, "the browser", in_chromium, all_uses, tally, path, folder, precopy)
-    if has("firefox-esr", "firefox-esr", "what users do, in Firefox"):
+    if only in (None, "node"):
+        check_node(tally, folder, module, precopy)
+    if only in (None, *IN_CHROMIUM) and has("chromium", "chromium", "the page in a browser"):
+        tried(tally, "the browser", in_chromium, all_uses, tally, path, folder, precopy, only)
+    if only in (None, "firefox") and has("firefox-esr", "firefox-esr", "what users do, in Firefox"):
         tried(tally, "Firefox", in_firefox, tally, folder, path)
 
 
 def main():
     parser = argparse.ArgumentParser(description=__doc__, formatter_class=argparse.RawDescriptionHelpFormatter)
     parser.add_argument("--pictures", metavar="FOLDER")
+    parser.add_argument("--only", metavar="PART", choices=["node", "firefox", *IN_CHROMIUM])
     parser.add_argument("precopy", nargs="?", default=os.path.join(TOP, "crates", "precopy", "out", "precopy"))
     parser.add_argument("module", nargs="?")
     asked = parser.parse_args()
@@ -332,7 +384,7 @@ def main():
             if asked.pictures:
                 check_pictures(tally, path, asked.pictures)
             else:
-                check_all(tally, folder, module, path, precopy)
+                check_all(tally, folder, module, path, precopy, asked.only)
     print(tally)
     return 0 if tally.passed and not tally.failed else 1
 

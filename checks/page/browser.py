@@ -83,6 +83,13 @@ class Driven:
             time.sleep(0.02)
         raise BrowserError(f"after {seconds} s there is no {expression}")
 
+    def take_lines(self):
+        """The lines that the console has got since the last call."""
+        self.value("0")
+        lines = [self.line_of(event) for event in self.events]
+        self.events = [event for event, line in zip(self.events, lines) if line is None]
+        return [line for line in lines if line is not None]
+
     def keep_picture(self, path, found):
         with open(path, "wb") as file:
             file.write(base64.b64decode(found["data"]))
@@ -135,6 +142,19 @@ class Browser(Driven):
             details = found["exceptionDetails"]
             raise BrowserError(details.get("exception", {}).get("description", details["text"]))
         return found["result"].get("value")
+
+    @staticmethod
+    def line_of(event):
+        """The line of the console that an event tells of, or None."""
+        told = event["params"]
+        if event["method"] == "Log.entryAdded":
+            return told["entry"]["text"]
+        if event["method"] == "Runtime.exceptionThrown":
+            details = told["exceptionDetails"]
+            return details.get("exception", {}).get("description", details["text"])
+        if event["method"] == "Runtime.consoleAPICalled":
+            return " ".join(str(part.get("value", part.get("description"))) for part in told["args"])
+        return None
 
     def begin_with(self, script):
         """Runs a script in each page before its own."""

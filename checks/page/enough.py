@@ -10,6 +10,7 @@ from checks.page.cases import SMALL, micros
 from checks.view.limit_cases import RATES, TIMES, redrawn
 from precopy_dev.models.remedies import Limits, Others, Remedies, Trial, remedies
 
+UNKNOWN = "Enough for the limit: unknown, since the trace ends before the migration does."
 # The page takes smaller amounts than this.
 MOST_OF_PAGE = 1 << 53
 
@@ -78,7 +79,7 @@ def check_shown(asked, lines, found):
 def check_enough(asked, page, document):
     """Tests what is enough for the limit: beside the model if the trace is small, and beside the program."""
     lines, exact = page.enough(), page.exact_enough()
-    if lines == ["Enough for the limit: unknown, since the trace ends before the migration does."]:
+    if lines[0] == UNKNOWN:
         return
     found, wanted = enough_in(exact), [enough_of(document)]
     if asked.known.pages <= SMALL:
@@ -104,7 +105,7 @@ CONTROL = """(() => {
 def check_taken(asked, page, precopy):
     """What a click takes is what is shown, and keeps the limit: the page says so, and so does a plan of the program."""
     offers = page.browser.value(OFFERED)
-    if not offers:
+    if not offers or page.enough()[0] == UNKNOWN:
         return
     name, said = offers[asked.start % len(offers)]
     found = page.after(f"document.querySelector('[data-takes={name}]').click()")

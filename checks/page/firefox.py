@@ -125,6 +125,7 @@ class Firefox(Driven):
         self.socket = WebSocket(host, port, "/session")
         self.call("session.new", capabilities={"alwaysMatch": {"acceptInsecureCerts": False}})
         self.tab = self.call("browsingContext.getTree")["contexts"][0]["context"]
+        self.call("session.subscribe", events=["log.entryAdded"])
 
     def _address(self):
         """Where the browser listens, as it says itself."""
@@ -160,6 +161,11 @@ class Firefox(Driven):
         if found["type"] == "exception":
             raise BrowserError(found["exceptionDetails"]["text"])
         return plain(found["result"])
+
+    @staticmethod
+    def line_of(event):
+        """The line of the console that an event tells of, or None."""
+        return event["params"]["text"] if event["method"] == "log.entryAdded" else None
 
     def begin_with(self, script):
         """Runs a script in each page before its own."""

@@ -2,12 +2,14 @@
 
 from checks.lib.amount_texts import time_text
 from checks.lib.host_words import LONGEST_MILLIS, host_lines, sentence_of
-from checks.page.acts import asked, require, typed
+from checks.page.acts import asked, read, require, typed
+from checks.page.cases import example
 
 
 def check_comparison(page):
     """Of two kept plans each is compared; better and worse are marked, and one can be exchanged and dropped."""
     asked(page, link="5Gbit", downtime="20ms")
+    page.browser.value("unfold()")
     page.after("document.getElementById('keep').click()")
     first = asked_rounds(page, "2")
     page.after("document.getElementById('keep').click()")
@@ -25,6 +27,33 @@ def check_comparison(page):
     require(focused == "Kept plan 1: drop", f"after a drop the focus is on {focused!r}")
     page.after("document.activeElement.click()")
     require(page.browser.value(heads) == ["This plan"], page.browser.value(heads))
+
+
+HEADS = "[...document.querySelectorAll('#comparison thead th')].map((cell) => cell.textContent.replace(/\\s+/g, ' '))"
+
+
+def check_second_trace(page):
+    """A kept plan stays when another trace is opened, with the name of its own, beside a plan with the same limits."""
+    page.open("#trace=sqlite&link=64MiB&first=50&downtime=300ms&start=1000")
+    page.wait_for_plan()
+    page.after("document.getElementById('keep').click()")
+    before = page.shown()["comparison"]
+    page.drop(("mid.pcwt", read(example("guests/mid.light.pcwt"))))
+    page.rest()
+    heads = page.browser.value(HEADS)
+    require(heads == ["This plan", "Kept plan 1 Drop sqlite.light.pcwt"], f"heads: {heads}")
+    limits = page.browser.value("['link', 'downtime'].map((name) => document.getElementById(`control-${name}`).value)")
+    require(limits == ["64", "300"], f"the limits are {limits}, and were 64 MiB/s and 300 ms")
+    numbers = page.browser.value("[...document.querySelectorAll('#comparison tbody tr')].map((row) =>"
+                                 "row.children[2].querySelector('b').textContent)")
+    require(numbers == [words for words, _ in before.values()], f"{numbers} in place of {before}")
+    require(page.shown()["comparison"] != before, "the plan over another trace is the same")
+    page.after("document.getElementById('keep').click()")
+    require(len(page.browser.value(HEADS)) == 3, f"{page.browser.value(HEADS)}")
+    page.after("document.querySelector('[data-drops=\"0\"]').click()")
+    heads = page.browser.value(HEADS)
+    require(heads == ["This plan", "Kept plan 1 Exchange Drop"], f"heads after a drop: {heads}")
+    page.after("document.querySelector('[data-drops]').click()")
 
 
 def asked_rounds(page, rounds):

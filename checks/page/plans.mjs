@@ -2,7 +2,7 @@
 // each item the settings of a plan, and the question that they are made of.
 
 import { readFileSync } from "node:fs";
-import { Planner } from "./planner.js";
+import { Planner } from "./engine/planner.js";
 
 const [module, trace] = process.argv.slice(2).map((path) => readFileSync(path));
 const planner = await Planner.open(await WebAssembly.compile(module), trace.length, [trace]);

@@ -2,7 +2,7 @@
 // questions as JSON on standard input, whose numbers are words. One that is refused is answered by its number.
 
 import { readFileSync } from "node:fs";
-import { Planner, Refusal } from "./planner.js";
+import { Planner, Refusal } from "./engine/planner.js";
 
 const [module, trace] = process.argv.slice(2).map((path) => readFileSync(path));
 const planner = await Planner.open(await WebAssembly.compile(module), trace.length, [trace]);

@@ -47,13 +47,17 @@ window.rowsOf = (id) => [...document.querySelectorAll(`#${id} tbody tr`)].map((r
 window.notesOf = () => [...document.querySelectorAll("[data-note]")].map((note) => [note.dataset.note,
   note.hidden ? "" : note.textContent]);
 window.textOf = (id) => document.getElementById(id).textContent.trim();
+window.verdictText = () => `${textOf("verdict")} ${textOf("reason-words")}`;
+// How many ticks a control says that shows them as a time.
+window.ticksOf = (name) => Number(document.getElementById(`control-${name}`).dataset.ticks);
+window.unfold = () => document.querySelectorAll("details").forEach((part) => { part.open = true; });
 window.shown = () => {
   const refused = document.querySelector("#verdict .refusal")?.dataset.control ?? null;
   return {
     refused,
     fault: refused && textOf(`control-${refused}-fault`),
-    verdict: textOf("verdict"),
-    warnings: document.querySelectorAll("#verdict .warnings li").length,
+    verdict: verdictText(),
+    warnings: document.querySelectorAll("#reasons .warnings li").length,
     stale: document.getElementById("rounds").classList.contains("stale") || document.getElementById("rounds").hidden,
     rounds: rowsOf("rounds-table-this"),
     windows: rowsOf("windows-table"),
@@ -81,7 +85,7 @@ window.isFitted = () => [...document.querySelectorAll(".plot")].every((plot) => 
   return !picture || !plot.offsetParent || Math.abs(Number(picture.getAttribute("width")) - plot.clientWidth) < 1;
 });
 window.atRest = async () => {
-  for (let count = 0, since = null; since !== begun || !isFitted() || !isTold("comparison", "limits-answer");
+  for (let count = 0, since = null; since !== begun || !isFitted() || !isTold("comparison", "limits-answer", "links");
     count += 1) {
     if (count > 200) { throw new Error("the page does not come to rest"); }
     since = begun;
@@ -120,6 +124,10 @@ class Page:
         self.browser.wait(
             "document.querySelectorAll('#rounds-table-this tbody tr').length > 0 && opened > 0 " "&& isDrawn()", 20
         )
+
+    def wait_for_answer(self):
+        """Waits for the plan over the trace that is open, or for its refusal."""
+        self.browser.wait("opened > 0 && isDrawn() && textOf('verdict') !== ''", 20)
 
     def load(self, *paths):
         """Chooses files, and returns what is said of them, once the page has drawn them if they were taken."""
@@ -180,14 +188,23 @@ class Page:
             time.sleep(0.05)
 
 
+def require_silent(words):
+    """Fails if the console of the page that a trial is about has got a line."""
+    lines = [line for page in words if isinstance(page, Page) for line in page.browser.take_lines()]
+    if lines:
+        raise Failure(f"{len(lines)} lines of the console: {lines[:3]}")
+
+
 def tried(tally, told_of, act, *words):
-    """Counts a trial that fails by an exception. If the browser does not answer, the trial is begun once more."""
+    """Counts a trial that fails by an exception, or by a line of the console. If the browser does not answer, the
+    trial is begun once more."""
     try:
         try:
             act(*words)
         except NoAnswer as error:
             print(f"  {told_of}: {error}, and the trial is begun once more", flush=True)
             act(*words)
+        require_silent(words)
         return tally.add(True, told_of)
     except (Failure, BrowserError, OSError, KeyError, ValueError, IndexError) as error:
         return tally.add(False, f"{told_of}: {str(error)[:900]}")

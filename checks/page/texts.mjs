@@ -2,7 +2,7 @@
 // time that something takes, the error of one, a moment, and a size.
 
 import { readFileSync } from "node:fs";
-import { bytesText, errorTimeText, momentText, timeText } from "./numbers.js";
+import { bytesText, errorTimeText, momentText, timeText } from "./model/numbers.js";
 
 const texts = [timeText, errorTimeText, momentText, bytesText];
 const amounts = JSON.parse(readFileSync(0, "utf8")).map(BigInt);

@@ -9,20 +9,13 @@ import random
 import re
 from fractions import Fraction
 
-from checks.page import kept, saves, shapes
-from checks.page.acts import asked, require, typed
+from checks.page import kept, limits, looking, records, saves, shapes, told, worker
+from checks.page.acts import asked, read, require, spelled, typed
 from checks.page.cases import example
 from checks.page.shown import tried
 from checks.view.limit_cases import RATES, TIMES
 
 DROPPED = 50
-# A restart comes after a silence of 30 seconds.
-SECONDS_OF_SILENCE = 120
-
-
-def read(path):
-    with open(path, "rb") as file:
-        return file.read()
 
 
 def word_of(page, name):
@@ -50,27 +43,32 @@ def check_shape(page, number, text):
     require((" 0 writes " in said) == read_out.startswith("The trace writes no page"), f"{said}: {read_out!r}")
 
 
-def check_records(page, _):
-    """A record comes with its trace, after it, or before it; one that is not the trace's is refused by its field."""
-    trace, record = (read(example(f"guests/sqlite.light.{kind}")) for kind in ("pcwt", "json"))
-    wanted = [str(json.loads(record)["first_tick"]), "31.25156", "1"]
-    values = "['start', 'sample', 'tick'].map((name) => document.getElementById(`control-${name}`).value)"
-    for files in ([("a.pcwt", trace), ("a.json", record)], [("a.json", record), ("a.pcwt", trace)]):
-        page.open()
-        page.wait_for_plan()
-        page.drop(*files)
-        require(page.browser.value(values) == wanted, f"{page.browser.value(values)} in place of {wanted}")
-    page.open()
+def check_refused_below(page):
+    """A file that is refused while the section of the trace is out of sight is refused in sight."""
+    page.open("#trace=gzip")
     page.wait_for_plan()
-    page.drop(("a.pcwt", trace))
-    require(page.browser.value(values) == ["0", "1", "1"], f"{page.browser.value(values)} without a record")
-    said = page.drop(("a.json", record))
-    require(page.browser.value(values) == wanted and "as a.json says" in said, said)
-    require(not page.shown()["refused"], said)
-    for name, value in (("trace_writes", 3), ("tick_seconds", 7), ("sampled_pages", 1), ("trace_sha256", "0" * 64)):
-        said = page.drop(("b.json", json.dumps({**json.loads(record), name: value}).encode()))
-        require("b.json is not used: " in said and name in said, said)
-        require(page.browser.value(values) == wanted, f"{name} has changed {page.browser.value(values)}")
+    page.browser.value("scrollTo(0, document.body.scrollHeight)")
+    page.browser.wait("document.getElementById('trace').getBoundingClientRect().bottom < 0", 5)
+    page.browser.value("new Promise((resume) => setTimeout(resume, 200))")
+    page.drop(("bad.txt", b"no trace"))
+    seen = page.browser.value("""[...document.querySelectorAll(".refusal")].filter((part) => {
+      const { top, bottom, height } = part.getBoundingClientRect();
+      return height > 0 && top >= 0 && bottom <= innerHeight;
+    }).map((part) => part.textContent)""")
+    require(len(seen) == 1 and seen[0].startswith("bad.txt is refused: E1 "), f"in sight: {seen}")
+    page.browser.value("document.getElementById('close-notice').click()")
+    page.becomes("document.getElementById('notice').hidden", True, "a notice that was closed")
+
+
+def check_names(page):
+    """The names of files stand apart from the words round them, in whatever direction they are written."""
+    page.open("#trace=gzip")
+    page.wait_for_plan()
+    trace, record = (read(example(f"guests/sqlite.light.{kind}")) for kind in ("pcwt", "json"))
+    page.drop(("\u05d0-1.pcwt", trace), ("\u05d0-1.json", record), ("\u05d0-2.pcwt", trace))
+    page.drop(("\u05d0-3.txt", b"text"))
+    named = page.browser.value("[...document.querySelectorAll('#trace bdi')].map((name) => name.textContent)")
+    require(named == ["\u05d0-1.pcwt", "\u05d0-1.json", "\u05d0-3.txt", "\u05d0-1.pcwt"], f"names apart: {named}")
 
 
 def check_files(page, folder):
@@ -87,13 +85,13 @@ def check_files(page, folder):
     require("bad.pcwt is refused: E8 record" in said and "one.pcwt is still open." in said, said)
     require(page.shown() == before, "a bad file has changed the plan")
     require(page.browser.value("textOf('trace-state')").startswith("one.pcwt: 26,715 pages"), said)
-    require(
-        not page.after(
-            "document.getElementById('control-rounds').value = '7';"
-            "document.getElementById('control-rounds').dispatchEvent(new Event('input'))"
-        )["refused"],
-        "no plan after a bad file",
-    )
+    require(not page.after("document.getElementById('control-rounds').value = '7';"
+                           "document.getElementById('control-rounds').dispatchEvent(new Event('input'))")["refused"],
+            "no plan after a bad file")
+    said = page.drop(("bad.pcwt", good[:-1]), ("good.pcwt", read(example("gzip.pcwt"))), ("more.pcwt", good))
+    require("bad.pcwt is refused: E8 record" in said and "good.pcwt: 25 pages" in said, said)
+    require("Not opened: more.pcwt." in said and "still open" not in said, said)
+    page.drop(("one.pcwt", good))
     # One after another, without waiting: the worker and the page have the same trace open then.
     before = page.browser.value("opened")
     for name, text in (("three.pcwt", read(example("gzip.pcwt"))), ("bad.pcwt", good[:-1])):
@@ -111,25 +109,13 @@ def check_files(page, folder):
 
 # ---- Settings that make no plan.
 
-# What is typed, and the value that is taken then: a number, and by how much it is further from what was typed than the
-# nearest that plans.
-REFUSED = [
-    ("link", "0.1", "Kbit", 1),
-    ("link", "900000", "Gbit", 1),
-    ("downtime", "90000", "s", 1),
-    ("reserve", "5", "s", 1),
-    ("rounds", "0", None, 1),
-    ("rounds", "99", None, 1),
-    ("window", "0", None, 1),
-    ("window", str(1 << 41), None, 1),
-    ("base", "999999", None, 1),
-    ("tick", "0", "ms", 1),
-    ("tick", "5", "s", 1),
-    ("start", str(1 << 41), None, 1),
-    ("first", "0", None, None),
-    ("sample", "99999999", None, None),
-    ("sample", "0.5", None, None),
-]
+# What is typed into a control, its unit, and by how much what is taken then is further from what was typed than the
+# nearest that plans. A control whose unit is `ticks` shows seconds; a tick is a millisecond.
+REFUSED = [("link", "0.1", "Kbit", 1), ("link", "900000", "Gbit", 1), ("downtime", "90000", "s", 1),
+           ("reserve", "5", "s", 1), ("rounds", "0", None, 1), ("rounds", "99", None, 1), ("window", "0", "ticks", 1),
+           ("window", "2199023255.552", "ticks", 1), ("base", "999.999", "ticks", 1), ("tick", "0", "ms", 1),
+           ("tick", "5", "s", 1), ("start", "2199023255.552", "ticks", 1), ("first", "0", None, None),
+           ("sample", "99999999", None, None), ("sample", "0.5", None, None)]
 
 
 def amount_in(word):
@@ -138,15 +124,11 @@ def amount_in(word):
     return math.floor(Fraction(count) * {**RATES, **TIMES, "": 1}[unit])
 
 
-def spelled(amount, unit):
-    if unit is None:
-        return str(amount)
-    return f"{amount // 1_000}.{amount % 1_000:03}KB" if unit in RATES else f"{amount}us"
-
-
 def check_said(text, unit, fault):
     """A refusal says what was typed, in the unit of its control. Rates are whole bytes a second."""
-    if unit:
+    if unit == "ticks":
+        require(f"{float(text):.3f}\u00a0s" in fault, f"{text} s: {fault!r}")
+    elif unit:
         word = unit + "/s" * (unit in RATES)
         said = re.search(rf"(\d[\d.]*)\u00a0{word}(?!\w)", fault)
         require(said and amount_in(said[1] + unit) == amount_in(text + unit), f"{text} {unit}: {fault!r}")
@@ -165,29 +147,26 @@ FAULT_BOX = """(() => {
 def check_refused(page, name, text, unit, grain):
     asked(page, **({"base": "500"} if name == "base" else {}))
     before = page.shown()
-    if unit:
-        page.after(
-            f"const unit = document.querySelector('[data-control={name}] select'); unit.value = '{unit}';"
-            "unit.dispatchEvent(new Event('change'))"
-        )
+    page.browser.value("unfold()")
+    if unit not in (None, "ticks"):
+        page.after(f"const unit = document.querySelector('[data-control={name}] select'); unit.value = '{unit}';"
+                   "unit.dispatchEvent(new Event('change'))")
     page.browser.value(f"document.getElementById('control-{name}').focus()")
     found = typed(page, name, text)
     require(found["refused"] == name and found["stale"], f"{name} {text} {unit}: {found['refused']}, {found['fault']}")
     box = page.browser.value(FAULT_BOX.replace("NAME", name))
     require(box["least"] <= box["top"] and box["bottom"] <= box["most"], f"{name}: the fault is cut: {box}")
     require(found["rounds"] == before["rounds"], "the last plan does not stay")
-    enabled = page.browser.value(
-        "['#keep', '#ask', '[data-copies=command-predict]', '#zoom-plan',"
-        "'#outcome .saves button', '#plan-this .saves button']"
-        ".filter((each) => !document.querySelector(each).disabled)"
-    )
+    enabled = page.browser.value("['#keep', '#ask', '[data-copies=command-predict]', '#zoom-plan',"
+                                 "'#outcome .saves button', '#plan-this .saves button']"
+                                 ".filter((each) => !document.querySelector(each).disabled)")
     require(not page.enough(), f"enough without a plan: {page.enough()}")
     require(not enabled, f"enabled without a plan: {enabled}")
     label = page.browser.value(f"document.querySelector('label[for=control-{name}]').textContent")
     require(label in found["verdict"] and "Take " in found["fault"], f"{found['verdict']}, {found['fault']}")
     if name != "sample":
         check_said(text, unit, found["fault"])
-    wrong = amount_in(f"{text}{unit or ''}")
+    wrong = int(Fraction(text) * 1_000) if unit == "ticks" else amount_in(f"{text}{unit or ''}")
     taken = page.after(f"document.querySelector('#control-{name}-fault button').click()")
     require(taken["refused"] is None and not taken["stale"], f"{name}: {taken['refused']}, {taken['fault']}")
     settled(page)
@@ -209,6 +188,30 @@ def check_unread(page):
         require(not found["refused"] and value == "300", f"after {text!r}: {found['refused']}, {value}")
 
 
+# What a person types, and what it is in the control that it is typed into.
+TYPED = [("link", "1,000", "1000", "Mbit"), ("link", " 64", "64", "Mbit"), ("link", "1 Gbit/s", "1", "Gbit"),
+         ("link", "10 gbps", "10", "Gbit"), ("link", "64MiB/s", "64", "MiB"), ("downtime", "300ms", "300", "ms"),
+         ("downtime", ".5 s", "0.5", "s"), ("downtime", "2 min", "120", "s"), ("downtime", "900 \u00b5s", "900", "us"),
+         ("rounds", " 12 ", "12", None), ("start", "1,000 ticks", "1", None), ("start", "1500ms", "1.5", None),
+         ("start", "3", "3", None), ("first", "25 %", "25", None),
+         ("sample", ".5e", None, None), ("link", "1,00", None, None), ("link", "8 mb", None, None)]
+
+
+def check_typed(page):
+    """What a person types is taken, with or without a unit; a unit that is typed is the control's from then on."""
+    for name, text, value, unit in TYPED:
+        page.ask("trace=sqlite&link=100Mbit&downtime=300ms&start=2000&tick=1ms")
+        found = typed(page, name, text)
+        if value is None:
+            require(found["refused"] == name, f"{text!r} is taken as {name}")
+            continue
+        require(found["refused"] is None, f"{name} {text!r}: {found['fault']}")
+        page.browser.value(f"document.getElementById('control-{name}').dispatchEvent(new Event('change'))")
+        shown = page.browser.value(f"[document.getElementById('control-{name}').value, "
+                                   f"document.querySelector('[data-control={name}] select')?.value ?? null]")
+        require(shown == [value, unit], f"{name} {text!r} is shown as {shown}")
+
+
 # ---- Units.
 
 
@@ -220,23 +223,14 @@ def without_units(found):
 def check_units(page):
     """Another unit of a control is the same amount; a decimal is the amount that it says."""
     draw = random.Random(300)
-    for name, units, some in (
-        ("link", RATES, "64MiB"),
-        ("downtime", TIMES, "300ms"),
-        ("reserve", TIMES, "1500us"),
-        ("link", RATES, "10Gbit"),
-        ("tick", TIMES, "1ms"),
-    ):
+    for name, units, some in (("link", RATES, "64MiB"), ("downtime", TIMES, "300ms"), ("reserve", TIMES, "1500us"),
+                              ("link", RATES, "10Gbit"), ("tick", TIMES, "1ms")):
         page.ask(f"trace=sqlite&{name}={some}")
         before = without_units(page.shown())
         for _ in range(5):
             unit = draw.choice(sorted(units))
-            found = without_units(
-                page.after(
-                    f"const unit = document.querySelector('[data-control={name}] select');"
-                    f"unit.value = '{unit}'; unit.dispatchEvent(new Event('change'))"
-                )
-            )
+            found = without_units(page.after(f"const unit = document.querySelector('[data-control={name}] select');"
+                                             f"unit.value = '{unit}'; unit.dispatchEvent(new Event('change'))"))
             differing = [key for key in found if found[key] != before[key]]
             require(not differing, f"{name} {some} in {unit}: other {differing}")
         settled(page)
@@ -263,30 +257,26 @@ def check_back(page):
     for act, wanted in (("back", "7"), ("back", "30"), ("forward", "7"), ("forward", "8")):
         page.browser.value(f"history.{act}()")
         page.browser.wait(f"{value} === '{wanted}' && location.hash.includes('rounds={wanted}&')", 5)
-    start = page.browser.value("document.getElementById('control-start').value")
-    page.after(
-        """
+    start = page.browser.value("ticksOf('start')")
+    page.after("""
       const plot = document.getElementById("windows-plot");
       const box = plot.getBoundingClientRect();
       const place = { clientX: box.left + box.width / 2, clientY: box.top + 50, bubbles: true };
       plot.dispatchEvent(new PointerEvent("click", { ...place, pointerType: "mouse" }));
-    """
-    )
-    moved = page.browser.value("document.getElementById('control-start').value")
+    """)
+    moved = page.browser.value("ticksOf('start')")
     require(moved != start and "The start is moved" in page.browser.value("textOf('moved')"), f"{start}, {moved}")
     page.after("document.getElementById('undo-start').click()")
-    require(page.browser.value("document.getElementById('control-start').value") == start, "Undo keeps the start")
-    page.browser.value(
-        """(() => {
+    require(page.browser.value("ticksOf('start')") == start, "Undo keeps the start")
+    page.browser.value("""(() => {
       const plot = document.getElementById("windows-plot");
       const box = plot.getBoundingClientRect();
       const place = { clientX: box.left + box.width / 2, clientY: box.top + 50, bubbles: true };
       plot.dispatchEvent(new PointerEvent("click", { ...place, pointerType: "touch" }));
-    })()"""
-    )
-    require(page.browser.value("document.getElementById('control-start').value") == start, "a finger takes a start")
+    })()""")
+    require(page.browser.value("ticksOf('start')") == start, "a finger takes a start")
     page.after("document.getElementById('windows-take').click()")
-    require(page.browser.value("document.getElementById('control-start').value") != start, "a finger cannot take one")
+    require(page.browser.value("ticksOf('start')") != start, "a finger cannot take one")
 
 
 def check_warm(page):
@@ -294,192 +284,41 @@ def check_warm(page):
     for start in ("0", "1000", "20000"):
         page.ask(f"trace=sqlite&link=1Gbit&start={start}&base=none")
         found = page.after("document.getElementById('control-warm').click()")
-        base, at = page.browser.value(
-            "['base', 'start'].map((name) => Number(document.getElementById(" "`control-${name}`).value))"
-        )
+        base, at = page.browser.value("['base', 'start'].map(ticksOf)")
         require(base < at and found["rounds"][0][4] != "0", f"start {start}: copy {base}, start {at}")
     page.browser.value("document.getElementById('ask').click()")
-    page.browser.wait(
-        "document.querySelector('#starts-choice p') !== null && !document.getElementById("
-        "'starts-answer').hidden && document.getElementById('starts-progress').hidden"
-    )
+    page.browser.wait("document.querySelector('#starts-choice p') !== null && !document.getElementById("
+                      "'starts-answer').hidden && document.getElementById('starts-progress').hidden")
     page.after("document.getElementById('take-best').click()")
-    best = page.browser.value("Number(document.getElementById('control-start').value)")
+    best = page.browser.value("ticksOf('start')")
     require(best > base, f"the best start is {best}, the copy {base}")
     found = page.ask(f"trace=sqlite&link=1Gbit&start={base}&base={base}")
-    require(
-        "Nothing to send" in found["verdict"]
-        and not page.browser.value("document.querySelector('#verdict .good') !== null"),
-        found["verdict"],
-    )
-
-
-def check_looking(page):
-    """The item at the cursor is told beside it. A stretch that is drawn over is taken nearer, and takes no start."""
-    asked(page)
-    start = page.browser.value("document.getElementById('control-start').value")
-    tip = page.browser.value(
-        """(() => {
-      const plot = document.getElementById("windows-plot");
-      const box = plot.getBoundingClientRect();
-      const send = (to, kind, share) => to.dispatchEvent(new PointerEvent(kind, { pointerType: "mouse", bubbles: true,
-        clientX: box.left + 64 + (box.width - 76) * share, clientY: box.top + 60 }));
-      send(plot, "pointermove", 0.25);
-      const tip = plot.querySelector(".tip").textContent;
-      send(plot, "pointerdown", 0.25);
-      send(window, "pointermove", 0.5);
-      send(window, "pointerup", 0.5);
-      send(plot, "click", 0.5);
-      return tip;
-    })()"""
-    )
-    require(tip.startswith("Window 18, 9.000 s to 9.500 s: "), f"at a quarter of 37.5 s: {tip}")
-    labels = page.browser.value(
-        "[...document.querySelectorAll('#windows-plot text')].map((text) => text.textContent)"
-        ".filter((words) => /^[0-9.]+ s$/.test(words)).map(parseFloat)"
-    )
-    require(len(labels) > 3 and 9 <= min(labels) and max(labels) <= 19, f"of 9.4 to 18.8 s: {labels}")
-    require(page.browser.value("document.getElementById('control-start').value") == start, "the brush takes a start")
-    page.browser.value(
-        """(() => {
-      const plot = document.getElementById("rounds-plot-this");
-      const box = plot.getBoundingClientRect();
-      plot.dispatchEvent(new PointerEvent("click", { pointerType: "touch", bubbles: true, clientX: box.left + 70,
-        clientY: box.top + 60 }));
-    })()"""
-    )
-    said = page.browser.value("textOf('plan-this')")
-    require("Round 0, 0.000 s to " in said, f"a finger on a round reads nothing: {said}")
-    page.browser.value("document.getElementById('zoom-out').click()")
-
-
-# ---- The worker.
-
-
-def end_worker(page):
-    """Ends the page's worker, and has the page hear of it."""
-    page.browser.value("workers.at(-1).terminate(); workers.at(-1).onerror(); 0")
-
-
-def check_worker(page):
-    """A worker that ends is started again, whether the page hears of it or not; starts can be cancelled."""
-    page.open("#trace=sqlite&link=1Gbit&rounds=30")
-    page.wait_for_plan()
-    before = page.shown()
-    end_worker(page)
-    require(typed(page, "rounds", "7")["refused"] is None, "no plan by another worker")
-    require(typed(page, "rounds", "30") == before, "another plan by another worker")
-    page.browser.wait("textOf('trace-state').startsWith('sqlite.light.pcwt: ')", 5)
-    page.browser.value("window.isDeadly = true; 0")
-    end_worker(page)
-    found = typed(page, "rounds", "7")
-    require("the planner ended" in found["verdict"] and found["stale"], f"after three ends: {found['verdict']}")
-    page.browser.value("window.isDeadly = false; 0")
-    found = page.after("document.getElementById('try-again').click()")
-    require(found["refused"] is None and not found["stale"], f"tried again: {found['verdict']}")
-    require(typed(page, "rounds", "30") == before, "no plan after three ends")
-    page.browser.value("workers.at(-1).terminate()")
-    page.browser.value(
-        """(() => {
-      const field = document.getElementById("control-rounds");
-      field.value = "9";
-      window.sinceEnd = performance.now();
-      field.dispatchEvent(new Event("input"));
-    })()"""
-    )
-    # A clock that ticks in whole milliseconds may say the same of both.
-    page.browser.wait("begun >= sinceEnd", SECONDS_OF_SILENCE)
-    require(not page.shown()["refused"], "no plan after a silence")
-    page.browser.value("document.getElementById('ask').click()")
-    require(page.browser.value("textOf('ask')") == "Cancel", page.browser.value("textOf('ask')"))
-    page.browser.value("document.getElementById('ask').click()")
-    page.browser.wait("textOf('ask').startsWith('Plan ')", 5)
-    require(page.browser.value("document.getElementById('starts-answer').hidden"), "an answer that was cancelled")
-    require(typed(page, "rounds", "30") == before, "no plan after a cancel")
-
-
-# ---- What then.
-
-
-# Settings whose limit is kept, missed, missed by a first round and an increment of their own, missed whatever the link
-# and the downtime, and of which nothing is known; with the head of what is enough, and what can be taken.
-OTHER = "Enough for the limit: one of these, changed alone:"
-ALSO = "Enough for the limit: these settings. So is each of these, changed alone:"
-LATE = "Enough for the limit: unknown, since the trace ends before the migration does."
-ENOUGH = [
-    ("trace=sqlite&link=1Gbit&downtime=300ms", ALSO, ["link", "downtime"]),
-    ("trace=sqlite&link=64MiB&downtime=10ms&start=1000", OTHER, ["link", "downtime"]),
-    ("trace=gzip&link=8MiB&downtime=4ms&first=25&start=400", ALSO, ["link", "downtime"]),
-    ("trace=gzip&link=2MB&downtime=4ms&first=40&start=400", OTHER, ["link", "downtime"]),
-    ("trace=gzip&link=2MB&downtime=4ms&first=40&increase=25&start=400", OTHER, ["link", "downtime"]),
-    ("trace=gzip&link=600KB&downtime=1ms&first=40&increase=25&start=400", OTHER, []),
-    ("trace=gzip&link=8MiB&downtime=4ms&start=999999", LATE, []),
-]
-
-
-def check_limits(page):
-    """What is enough for the limit keeps it, and a click takes it."""
-    for fragment, head, names in ENOUGH:
-        page.ask(fragment)
-        said = page.enough()
-        require(said[0] == head, f"{fragment}: {said}")
-        offered = page.browser.value("[...document.querySelectorAll('[data-takes]')].map((each) => each.dataset.takes)")
-        require(offered == names, f"{fragment}: {said} can be taken by {offered}")
-        for name in names:
-            page.ask(fragment)
-            said, before = page.enough(), page.shown()
-            found = page.after(f"document.querySelector('[data-takes={name}]').click()")
-            require("Keeps the limit" in found["verdict"] and found != before, f"{said}, {name}: {found['verdict']}")
-            require(page.enough()[0] == ALSO, f"{said}, {name}: {page.enough()}")
-
-
-def micros_in(text):
-    """A time of the page as microseconds: with a sign, or `same`."""
-    if text == "same":
-        return 0
-    found = re.fullmatch("([-\u2212+]?)([\\d.,]+) (s|ms|us)", text)
-    require(found, f"{text!r} is no time")
-    sign, number, unit = found.groups()
-    size = TIMES[unit]
-    return round(Fraction(number.replace(",", "")) * size) * (1 if sign in ("", "+") else -1)
-
-
-def check_saving(page):
-    """What the best start saves is the difference of both plans, and a click takes it."""
-    before = asked(page, start="20000", first="100")
-    page.browser.value("document.getElementById('ask').click()")
-    page.browser.wait("document.getElementById('saving') !== null", 20)
-    said = page.browser.value("textOf('saving')").replace("\u00a0", " ")
-    after = page.after("document.getElementById('take-best').click()")
-    for name in ("time", "downtime"):
-        told = re.search(rf"(?<!\w){name} (same|\S+ \S?s)[,.]", said)
-        require(told, f"{said}: no {name}")
-        wanted = micros_in(after["comparison"][name][0]) - micros_in(before["comparison"][name][0])
-        require(micros_in(told[1]) == wanted, f"{said}: {name} in place of {wanted} us")
-    page.becomes("textOf('saving')", "This plan starts there.", "at the best start")
+    require("Nothing to send" in found["verdict"] and not page.browser.value(
+        "document.querySelector('#verdict .good') !== null"), found["verdict"])
 
 
 def check_uses(tally, page, folder):
     for number, text in enumerate(shapes.shapes(DROPPED, 50)):
         tried(tally, f"a trace of shape {number} on a fresh page", check_shape, page, number, text)
-    tried(tally, "records", check_records, page, folder)
+    records.check_all(tally, page)
     tried(tally, "files", check_files, page, folder)
     page.open("#trace=sqlite")
     page.wait_for_plan()
     for case in REFUSED:
         tried(tally, f"refused: {case}", check_refused, page, *case)
-    for words, check in (
-        ("what is no number", check_unread),
-        ("units", check_units),
-        ("warm starts", check_warm),
-        ("back", check_back),
-        ("limits", check_limits),
-        ("the best start", check_saving),
-        ("kept plans", kept.check_comparison),
-        ("shared axes", kept.check_axes),
-        ("hypervisors", kept.check_hosts),
-        ("saved files", saves.check_files_saved),
-        ("looking", check_looking),
-        ("the worker", check_worker),
-    ):
+    for words, check in USES.items():
         tried(tally, words, check, page)
+
+
+USES = {
+    "what is no number": check_unread, "what is typed": check_typed, "units": check_units, "warm starts": check_warm,
+    "back": check_back, "limits": limits.check_limits, "ways out": limits.check_ways,
+    "links": limits.check_links, "the best start": limits.check_saving,
+    "a doubtful start": limits.check_doubtful,
+    "kept plans": kept.check_comparison, "shared axes": kept.check_axes,
+    "a second trace": kept.check_second_trace, "hypervisors": kept.check_hosts,
+    "saved files": saves.check_files_saved, "a refusal out of sight": check_refused_below, "names": check_names,
+    "looking": looking.check_looking, "looking together": looking.check_together,
+    "what is announced": told.check_told, "the worker": worker.check_worker,
+    "an ended worker": worker.check_ended,
+}

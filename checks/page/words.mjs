@@ -2,8 +2,8 @@
 // input. What is refused is null. Amounts are written as the words that the page makes of them, too.
 
 import { readFileSync } from "node:fs";
-import { quantityIn, wordOfQuantity } from "./quantities.js";
-import { RATE_UNITS, TIME_UNITS } from "./units.js";
+import { quantityIn, wordOfQuantity } from "./model/quantities.js";
+import { RATE_UNITS, TIME_UNITS } from "./model/units.js";
 
 const units = { time: TIME_UNITS, rate: RATE_UNITS };
 const answers = JSON.parse(readFileSync(0, "utf8")).map(([kind, word]) => {

@@ -149,7 +149,7 @@ class Tool(Door):
 class Page(Door):
     """The page's module, by the file that asks it."""
 
-    name = "web/planner.js"
+    name = "web/engine/planner.js"
 
     @staticmethod
     def lacking(programs: Programs) -> str:

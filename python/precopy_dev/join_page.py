@@ -14,6 +14,7 @@ import base64
 import gzip
 import hashlib
 import os
+import posixpath
 import re
 import sys
 
@@ -23,10 +24,10 @@ from precopy_tools.refusals import Refused
 
 EXAMPLES = {"example-gzip": "examples/gzip.pcwt", "example-sqlite": "examples/guests/sqlite.light.pcwt"}
 RECORDS = {"record-sqlite": "examples/guests/sqlite.light.json"}
-IMPORT = re.compile(r'^import \{([^}]*)\} from "\./([\w-]+\.js)";\n', re.MULTILINE)
+IMPORT = re.compile(r'^import \{([^}]*)\} from "(\.{1,2}/[\w/.-]+\.js)";\n', re.MULTILINE)
 NAMED = re.compile(r"^(export )?(?:async )?(?:function\*?|class|const|let) (\w+)", re.MULTILINE)
-# The page, and the page on paper.
-STYLES = ["page.css", "paper.css"]
+# The page, its pictures, and the page on paper.
+STYLES = ["style/page.css", "style/pictures.css", "style/paper.css"]
 COMMENT = re.compile(r"^[ \t]*(?:/\*.*?\*/|//[^\n]*)\n", re.MULTILINE | re.DOTALL)
 # What a page that opens no connection has no use for.
 CALLS = r"\b(fetch|XMLHttpRequest|WebSocket|EventSource|sendBeacon|importScripts|RTCPeerConnection|import\()"
@@ -43,7 +44,8 @@ def scripts_below(name, order):
     if name in order:
         return
     text = read("web", name)
-    for names, other in IMPORT.findall(text):
+    for names, path in IMPORT.findall(text):
+        other = posixpath.normpath(posixpath.join(posixpath.dirname(name), path))
         scripts_below(other, order)
         missing = {word.strip() for word in names.split(",") if word.strip()} - order[other][1]
         if missing:

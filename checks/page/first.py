@@ -1,0 +1,73 @@
+"""What the planner's page shows first: an answer in few words, with a picture, and the way back."""
+
+from checks.page.acts import require, typed
+
+MOST_WORDS, FIRST_PICTURE, LEAST_LINE = 120, 500, 24
+
+# The words that are seen of the page as it is, without scrolling: whatever has a letter.
+WORDS = r"""(() => {
+  const walk = document.createTreeWalker(document.body, NodeFilter.SHOW_TEXT);
+  const words = [];
+  const isSeen = (element) => element.checkVisibility({ visibilityProperty: true })
+    && !element.closest("script, style, option, .hidden");
+  while (walk.nextNode()) {
+    const { parentElement, data } = walk.currentNode;
+    const range = document.createRange();
+    range.selectNodeContents(walk.currentNode);
+    const { top, bottom } = range.getBoundingClientRect();
+    if (isSeen(parentElement) && top < innerHeight && bottom > 0) { words.push(...data.split(/\s+/)); }
+  }
+  const units = [...document.querySelectorAll("select")].filter((choice) => isSeen(choice)
+    && choice.getBoundingClientRect().top < innerHeight).map((choice) => choice.selectedOptions[0].textContent);
+  return [...words, ...units].filter((word) => /\p{L}/u.test(word));
+})()"""
+
+# Where the first picture with an axis begins, the size of the first line's letters, and whether all of it is seen.
+FIRST = """(() => {
+  const picture = document.querySelector("#rounds-plot-this svg").getBoundingClientRect();
+  const line = document.querySelector(".headline");
+  return [picture.top, picture.bottom <= innerHeight, parseFloat(getComputedStyle(line).fontSize),
+    line.textContent.replaceAll("\\u00a0", " ")];
+})()"""
+
+
+def check_first_look(page):
+    """Above the fold stand the trace, one large line with the verdict, the bar of the limit with the error, and the
+    rounds; in few words."""
+    page.browser.dress(1280, 900)
+    page.open()
+    page.wait_for_plan()
+    page.rest()
+    words, (top, is_whole, size, line) = page.browser.value(WORDS), page.browser.value(FIRST)
+    bar = page.browser.value("[...document.querySelectorAll('#limit-bar text')].map((text) => text.textContent"
+                             ".replaceAll('\\u00a0', ' '))")
+    state = page.browser.value("document.getElementById('trace-state').getClientRects()[0].height")
+    page.browser.dress(1400, 900)
+    require(len(words) <= MOST_WORDS, f"{len(words)} words above the fold: {' '.join(words)}")
+    require(top < FIRST_PICTURE and is_whole, f"the first picture begins at {top}, seen whole: {is_whole}")
+    require(size >= LEAST_LINE and line == "Pause 144 ms of 300, 19.3 s, 622 MiB: Keeps the limit", f"{size}: {line!r}")
+    require(bar == ["limit 300 ms", "144 ms \u00b1 42 ms"], f"the bar of the limit says {bar}")
+    require(state < 40, f"the trace is told in {state} pixels")
+
+
+def check_past(page):
+    """Undo and redo are buttons, over all that the user has changed."""
+    page.browser.forget_pages()
+    page.open("#trace=sqlite&link=1Gbit&rounds=30")
+    page.wait_for_plan()
+    page.browser.wait("location.hash.includes('window=')", 5)
+    states = "['undo', 'redo'].map((id) => document.getElementById(id).getAttribute('aria-disabled'))"
+    require(page.browser.value(states) == ["true", "true"], f"at first {page.browser.value(states)}")
+    for rounds in ("7", "8"):
+        typed(page, "rounds", rounds)
+        page.browser.wait(f"location.hash.includes('rounds={rounds}&')", 5)
+    value = "document.getElementById('control-rounds').value"
+    for button, wanted, disabled in (("undo", "7", ["false", "false"]), ("undo", "30", ["true", "false"]),
+                                     ("redo", "7", ["false", "false"]), ("redo", "8", ["false", "true"])):
+        page.after(f"document.getElementById('{button}').focus(); document.getElementById('{button}').click()")
+        require(page.browser.value(value) == wanted, f"{button}: {page.browser.value(value)} in place of {wanted}")
+        require(page.browser.value(states) == disabled, f"after {button}: {page.browser.value(states)}")
+        require(page.browser.value("document.activeElement.id") == button, f"{button} has lost the focus")
+    typed(page, "rounds", "9")
+    page.after("document.getElementById('undo').click()")
+    require(page.browser.value(value) == "8", "a change that was not settled yet cannot be undone")

@@ -1,0 +1,94 @@
+"""What the planner's page does with the focus and with keys, with a finger, and with forced colours."""
+
+import json
+
+from checks.page.acts import asked, require, typed
+
+LEAST_PRESSED = 24
+FOCUSED = """(() => {
+  const { activeElement: at } = document;
+  return [at.id || at.dataset.takes || at.dataset.suggested || at.getAttribute("aria-label") || at.tagName,
+    at.isConnected && at.offsetParent !== null];
+})()"""
+
+# What is pressed and is smaller than a finger can tell.
+SMALL = """[...document.querySelectorAll("button, .button, a, select, summary, input")].flatMap((each) => {
+  const { width, height } = each.getBoundingClientRect();
+  const isHidden = !each.offsetParent || each.matches(".skip, [type=file]");
+  return isHidden || Math.min(width, height) >= BOUND ? []
+    : [`${each.id || each.textContent.trim() || each.type}: ${Math.round(width)} by ${Math.round(height)}`];
+})"""
+
+# The colours of the keys of a legend, as they are painted.
+KEYS = "[...document.querySelectorAll('#rounds .key')].map((key) => getComputedStyle(key).backgroundColor)"
+
+
+def require_focus(page, wanted, what):
+    """Waits until nothing is still to come, and tests where the focus is."""
+    page.rest()
+    found, is_seen = page.browser.value(FOCUSED)
+    require(found == wanted and is_seen, f"after {what} the focus is on {found!r}, seen: {is_seen}")
+
+
+def pressed(page, selector):
+    page.after(f"const button = document.querySelector({json.dumps(selector)}); button.focus(); button.click()")
+
+
+def check_focus(page):
+    """What is pressed keeps the focus, or what took its place gets it."""
+    asked(page, link="64MiB", first="50", downtime="300ms")
+    page.browser.value("unfold()")
+    page.enough()
+    pressed(page, "[data-takes=downtime]")
+    require_focus(page, "downtime", "Take it")
+    asked(page, link="64MiB", first="50", downtime="300ms")
+    page.after("document.getElementById('keep').click()")
+    pressed(page, "[data-drops='0']")
+    require_focus(page, "keep", "the drop of the only kept plan")
+    typed(page, "rounds", "99")
+    pressed(page, "#fit")
+    require_focus(page, "outcome", "Fit all")
+    page.after("""
+      const plot = document.getElementById("windows-plot");
+      plot.focus();
+      for (const key of ["End", "Enter"]) {
+        plot.dispatchEvent(new KeyboardEvent("keydown", { key, bubbles: true }));
+      }
+    """)
+    pressed(page, "#undo-start")
+    require_focus(page, "windows-plot", "Undo")
+
+
+def check_commands(page):
+    """A key with Ctrl is the browser's: it zooms the page, and no picture with it."""
+    asked(page)
+    page.browser.value("document.getElementById('zoom-out').click()")
+    sent = page.browser.value("""["ctrlKey", "metaKey", "altKey"].flatMap((other) =>
+      ["+", "-", "ArrowLeft", "0"].filter((key) =>
+        !document.getElementById("windows-plot").dispatchEvent(new KeyboardEvent("keydown",
+          { key, bubbles: true, cancelable: true, [other]: true }))))""")
+    require(not sent, f"keys that the page takes from the browser: {sent}")
+    require(page.browser.value("document.getElementById('zoom-out').disabled"), "a picture was zoomed with the page")
+
+
+def check_fingers(page):
+    """On a phone nothing that is pressed is too small for a finger."""
+    page.browser.dress(390, 900)
+    page.open("#trace=sqlite&link=64MiB&first=50&window=500&start=1000")
+    page.wait_for_plan()
+    page.browser.value("unfold()")
+    page.after("document.getElementById('keep').click()")
+    page.enough()
+    small = page.browser.value(SMALL.replace("BOUND", str(LEAST_PRESSED)))
+    page.browser.dress(1400, 900)
+    require(not small, f"too small: {small}")
+
+
+def check_forced_colours(page):
+    """Where the user's system sets the colours, the keys of legends keep theirs, and differ."""
+    asked(page)
+    before = page.browser.value(KEYS)
+    page.browser.call("Emulation.setEmulatedMedia", features=[{"name": "forced-colors", "value": "active"}])
+    found = page.browser.value(KEYS)
+    page.browser.dress(1400, 900)
+    require(found == before and len(set(found)) > 4, f"keys are {found} in place of {before}")

@@ -1,0 +1,141 @@
+"""What the planner's page offers besides a plan: what is enough for its limit, ways out of a plan that ends after its
+trace, links and starts."""
+
+import re
+from fractions import Fraction
+
+from checks.lib.amount_texts import time_text
+from checks.page import saves
+from checks.page.acts import asked, require, spelled, typed
+from checks.view.limit_cases import TIMES
+
+# Settings whose limit is kept, missed, missed by a first round and an increment of their own, missed whatever the link
+# and the downtime, and of which nothing is known; with the head of what is enough, and what can be taken.
+OTHER = "Enough for the limit: one of these, changed alone:"
+ALSO = "Enough for the limit: these settings. So is each of these, changed alone:"
+LATE = "Enough for the limit: unknown, since the trace ends before the migration does."
+ENOUGH = [
+    ("trace=sqlite&link=1Gbit&downtime=300ms", ALSO, ["link", "downtime"]),
+    ("trace=sqlite&link=64MiB&downtime=10ms&start=1000", OTHER, ["link", "downtime"]),
+    ("trace=gzip&link=8MiB&downtime=4ms&first=25&start=400", ALSO, ["link", "downtime"]),
+    ("trace=gzip&link=2MB&downtime=4ms&first=40&start=400", OTHER, ["link", "downtime"]),
+    ("trace=gzip&link=2MB&downtime=4ms&first=40&increase=25&start=400", OTHER, ["link", "downtime"]),
+    ("trace=gzip&link=600KB&downtime=1ms&first=40&increase=25&start=400", OTHER, []),
+]
+
+
+def check_limits(page):
+    """What is enough for the limit keeps it, and a click takes it."""
+    for fragment, head, names in ENOUGH:
+        page.ask(fragment)
+        said = page.enough()
+        require(said[0] == head, f"{fragment}: {said}")
+        offered = page.browser.value("[...document.querySelectorAll('[data-takes]')].map((each) => each.dataset.takes)")
+        require(offered == names, f"{fragment}: {said} can be taken by {offered}")
+        for name in names:
+            page.ask(fragment)
+            said, before = page.enough(), page.shown()
+            found = page.after(f"document.querySelector('[data-takes={name}]').click()")
+            require("Keeps the limit" in found["verdict"] and found != before, f"{said}, {name}: {found['verdict']}")
+            require(page.enough()[0] == ALSO, f"{said}, {name}: {page.enough()}")
+
+
+# Plans that end after their trace, and what leads to one that does not.
+LATE_PLANS = [("trace=sqlite&link=8Mbit&downtime=300ms&start=1000", ["link"]),
+              ("trace=sqlite&link=64MiB&first=50&start=30000", ["link", "start"]),
+              ("trace=gzip&link=8MiB&downtime=4ms&start=999999", ["start"]),
+              ("trace=gzip&link=40Kbit&first=100&downtime=4ms", ["link"]),
+              # Of the faster links many move more pages in the limit than there may be.
+              ("trace=gzip&link=40Kbit&first=100&downtime=60s&reserve=59s", ["link"])]
+
+
+def check_ways(page):
+    """Of a plan that ends after the trace, the least link and the latest start that were tried lead to one that ends
+    within it; the link before, and the start after, do not."""
+    for fragment, names in LATE_PLANS:
+        page.ask(fragment)
+        said = page.enough()
+        offered = page.browser.value("[...document.querySelectorAll('[data-takes]')].map((each) => each.dataset.takes)")
+        require(said[0] == LATE and offered == names, f"{fragment}: {said} can be taken by {offered}")
+        for name in names:
+            page.ask(fragment)
+            line = page.enough()[1 + names.index(name)]
+            found = page.after(f"document.querySelector('[data-takes={name}]').click()")
+            is_kept = "is kept." in found["verdict"]
+            require("Unknown" not in found["verdict"] and found["refused"] is None, f"{line}: {found['verdict']}")
+            require(line.endswith("the limit is kept" if is_kept else "the limit is not kept"), f"{line}: {is_kept}")
+            if name == "start":
+                last = int(re.search(r"in ([\d.]+)", page.browser.value("textOf('trace-state')"))[1].replace(".", ""))
+                start = page.browser.value("ticksOf('start')") + -(-last // 200)
+                require("Unknown" in typed(page, name, f"{start} ticks")["verdict"], f"{line}: {start} ends in it too")
+
+
+def check_links(page):
+    """The curves over slower and faster links have the plans of these links, and a click takes one."""
+    fragment = "trace=sqlite&first=50&downtime=300ms&start=1000&link="
+    page.ask(f"{fragment}64MiB")
+    page.rest()
+    marks = page.browser.value("['known', 'limit', 'stop', 'late'].map((name) => document.querySelectorAll("
+                               "`#links-plot svg .${name}`).length)")
+    require(min(marks) > 0, f"curves, limit, this plan, and what is unknown: {marks}")
+    head, *lines = saves.saved_files(page, None)["links.csv"].decode().splitlines()
+    rows = [dict(zip(head.split(","), line.split(","))) for line in lines]
+    links = [int(row["link_bytes_per_second"]) for row in rows]
+    require(len(rows) == 41 and 7.9 < links[20] / links[0] < 8.1 and links[40] == 8 * links[20], f"links: {links}")
+    for row in rows[::8]:
+        found = page.ask(fragment + spelled(int(row["link_bytes_per_second"]), "KB"))
+        if row["kept"] == "unknown":
+            require("Unknown" in found["verdict"], f"{row}: {found['verdict']}")
+            continue
+        for name, key in (("downtime", "downtime_us"), ("time", "time_us")):
+            require(found["comparison"][name][0] == time_text(int(row[key])), f"{row}: {found['comparison'][name]}")
+    page.ask(f"{fragment}64MiB")
+    page.rest()
+    found = page.after("""
+      const plot = document.getElementById("links-plot");
+      plot.focus();
+      for (const key of ["End", "Enter"]) {
+        plot.dispatchEvent(new KeyboardEvent("keydown", { key, bubbles: true }));
+      }""")
+    require("--link 512MiB" in found["predict"], f"the last link is not taken: {found['predict']}")
+
+
+def check_doubtful(page):
+    """The best start is told with the standard error of its downtime, and that it may miss the limit if it may."""
+    for limit, is_doubtful in (("300ms", True), ("2s", False)):
+        page.ask(f"trace=sqlite&link=64MiB&first=50&downtime={limit}&start=1000")
+        page.browser.value("document.getElementById('ask').click()")
+        page.browser.wait("!document.getElementById('starts-answer').hidden && "
+                          "document.getElementById('starts-progress').hidden && isTold('starts-choice')", 20)
+        said = page.browser.value("textOf('starts-choice')").replace("\u00a0", " ")
+        found = re.search(r"Best start: .*? downtime ([\d.]+ m?s) \u00b1 ([\d.]+ m?s), kept", said)
+        require(found, f"{limit}: {said}")
+        least = micros_in(found[1]) + 2 * micros_in(found[2])
+        require((least > micros_in(limit.replace("ms", " ms") if "ms" in limit else "2 s")) == is_doubtful, said)
+        require(("it may well miss it" in said) == is_doubtful, f"{limit}: {said}")
+
+
+def micros_in(text):
+    """A time of the page as microseconds: with a sign, or `same`."""
+    if text == "same":
+        return 0
+    found = re.fullmatch("([-\u2212+]?)([\\d.,]+) (s|ms|us)", text)
+    require(found, f"{text!r} is no time")
+    sign, number, unit = found.groups()
+    size = TIMES[unit]
+    return round(Fraction(number.replace(",", "")) * size) * (1 if sign in ("", "+") else -1)
+
+
+def check_saving(page):
+    """What the best start saves is the difference of both plans, and a click takes it."""
+    before = asked(page, start="20000", first="100")
+    page.browser.value("document.getElementById('ask').click()")
+    page.browser.wait("document.getElementById('saving') !== null", 20)
+    said = page.browser.value("textOf('saving')").replace("\u00a0", " ")
+    after = page.after("document.getElementById('take-best').click()")
+    for name in ("time", "downtime"):
+        told = re.search(rf"(?<!\w){name} (same|\S+ \S?s)[,.]", said)
+        require(told, f"{said}: no {name}")
+        wanted = micros_in(after["comparison"][name][0]) - micros_in(before["comparison"][name][0])
+        require(micros_in(told[1]) == wanted, f"{said}: {name} in place of {wanted} us")
+    page.becomes("textOf('saving')", "This plan starts there.", "at the best start")

@@ -1,0 +1,81 @@
+"""Looking at the pictures of the planner's page with a mouse or a finger, at one and at all together."""
+
+from checks.page.acts import asked, require
+
+
+def check_looking(page):
+    """The item at the cursor is told beside it. A stretch that is drawn over is taken nearer, and takes no start."""
+    asked(page)
+    start = page.browser.value("ticksOf('start')")
+    tip = page.browser.value("""(() => {
+      const plot = document.getElementById("windows-plot");
+      const box = plot.getBoundingClientRect();
+      const send = (to, kind, share) => to.dispatchEvent(new PointerEvent(kind, { pointerType: "mouse", bubbles: true,
+        clientX: box.left + 64 + (box.width - 76) * share, clientY: box.top + 60 }));
+      send(plot, "pointermove", 0.25);
+      const tip = plot.querySelector(".tip").textContent;
+      send(plot, "pointerdown", 0.25);
+      send(window, "pointermove", 0.5);
+      send(window, "pointerup", 0.5);
+      send(plot, "click", 0.5);
+      return tip;
+    })()""")
+    require(tip.startswith("Window 18, 9.000 s to 9.500 s: "), f"at a quarter of 37.5 s: {tip}")
+    labels = page.browser.value("[...document.querySelectorAll('#windows-plot text.middle:not(.title)')]"
+                                ".map((text) => parseFloat(text.textContent))")
+    require(len(labels) > 3 and 9 <= min(labels) and max(labels) <= 19, f"of 9.4 to 18.8 s: {labels}")
+    require(page.browser.value("ticksOf('start')") == start, "the brush takes a start")
+    page.browser.value("""(() => {
+      const plot = document.getElementById("rounds-plot-this");
+      const box = plot.getBoundingClientRect();
+      plot.dispatchEvent(new PointerEvent("click", { pointerType: "touch", bubbles: true, clientX: box.left + 70,
+        clientY: box.top + 60 }));
+    })()""")
+    said = page.browser.value("textOf('plan-this')")
+    require("Round 0, 0.000 s to " in said, f"a finger on a round reads nothing: {said}")
+    page.browser.value("document.getElementById('zoom-out').click()")
+
+
+# Sends what a mouse does at a share of a plot's width, and tells where the moment is marked in the others, in seconds.
+POINTED = """((id, share, kinds) => {
+  const plot = document.getElementById(id);
+  const box = plot.getBoundingClientRect();
+  for (const [kind, at] of kinds.map((kind, place) => [kind, place === 0 ? share : share + 0.2])) {
+    (kind === "pointermove" || kind === "pointerdown" ? plot : window).dispatchEvent(new PointerEvent(kind, {
+      pointerType: "mouse", bubbles: true, clientX: box.left + 64 + (box.width - 76) * at, clientY: box.top + 60 }));
+  }
+  return Object.fromEntries(["rounds-plot-this", "windows-plot", "starts-plot"].map((name) => {
+    const mark = document.querySelector(`#${name} .moment`);
+    return [name, mark && (Number(mark.getAttribute("x")) + 0.5 - 64) / (mark.ownerSVGElement.clientWidth - 76)];
+  }));
+})"""
+LABELS = """((id) => [...document.querySelectorAll(`#${id} text.middle:not(.title)`)].map((text) =>
+  parseFloat(text.textContent)))"""
+
+
+def check_together(page):
+    """A moment that is pointed at in a picture is marked in the others; a stretch taken nearer in one is in all."""
+    page.ask("trace=sqlite&link=64MiB&first=50&downtime=300ms&start=1000&window=500")
+    page.browser.value("document.getElementById('zoom-out').click(); document.getElementById('ask').click()")
+    page.browser.wait("document.querySelector('#starts-plot svg') !== null && "
+                      "document.getElementById('starts-progress').hidden", 20)
+    page.rest()
+    # The plan takes 19.297 s from 1 s on, and the windows end at 37.5 s.
+    found = page.browser.value(f"{POINTED}('rounds-plot-this', 0.5, ['pointermove'])")
+    second = 1 + 0.5 * 19.297
+    require(found["rounds-plot-this"] is None, "the moment is marked where it is pointed at")
+    for name in ("windows-plot", "starts-plot"):
+        require(found[name] and abs(found[name] * 37.5 - second) < 0.2, f"{name}: {found[name]}, {second} s")
+    found = page.browser.value(f"{POINTED}('windows-plot', 0.9, ['pointermove'])")
+    require(found["rounds-plot-this"] is None and found["starts-plot"] is not None, f"after the plan: {found}")
+    page.browser.value(f"{POINTED}('rounds-plot-this', 0.4, ['pointerdown', 'pointermove', 'pointerup'])")
+    page.rest()
+    begin, end = 0.4 * 19.297, 0.6 * 19.297
+    for name, first, last in (("rounds-plot-this", begin, end), ("windows-plot", begin + 1, end + 1),
+                              ("starts-plot", begin + 1, end + 1)):
+        labels = page.browser.value(f"{LABELS}('{name}')")
+        require(len(labels) > 2 and min(labels) >= first - 0.1 and max(labels) <= last + 0.1,
+                f"{name} shows {labels} in place of {first:.1f} to {last:.1f} s")
+    page.browser.value("document.getElementById('rounds-plot-this').dispatchEvent(new KeyboardEvent('keydown', "
+                       "{ key: '0', bubbles: true }))")
+    require(page.browser.value("document.getElementById('zoom-out').disabled"), "0 does not show the whole trace")

@@ -1,0 +1,42 @@
+import assert from "node:assert/strict";
+import { test } from "node:test";
+import { differencesFrom, recordIn, RecordRefusal } from "../../web/model/record.js";
+
+const TRACE = { sizes: { pages: 1_000, writes: 5_000, last: 4_999 }, digest: "0".repeat(64) };
+const FIELDS = {
+  format: "precopy sample 1", trace_sha256: TRACE.digest, trace_pages: 1_000, trace_writes: 5_000, first_tick: 10,
+  last_tick: 4_999, tick_seconds: 0.001, guest_pages: 1 << 22, guest_nonzero: 1 << 21, counted_pages: 1 << 20,
+  sampled_pages: 2_000, sampled_nonzero: 1_000, method: "writes",
+};
+const read = (more) => recordIn(JSON.stringify({ ...FIELDS, ...more }), TRACE);
+
+test("a record says what ticks, pages and the start stand for", () => {
+  const record = read({});
+  assert.deepEqual(record, { tick: 1_000, start: 10, sample: { part: 1_000, whole: 1 << 21 }, doubt: "" });
+  const settings = { tick: { amount: 1_000 }, sample: { part: 1_000, whole: 1 << 21 }, start: 5_000 };
+  assert.deepEqual(differencesFrom(record, settings), []);
+  const others = { tick: { amount: 2 }, sample: null, start: 0 };
+  assert.deepEqual(differencesFrom(record, others), ["tick", "sample", "start"]);
+});
+
+test("no record makes a guest that is larger than it is", () => {
+  for (const found of [1, 2, 10, 500, 1_000]) {
+    const { sample, doubt } = read({ sampled_nonzero: found });
+    assert.ok(sample.whole <= FIELDS.guest_pages, `${found}: ${sample.whole}`);
+    assert.equal(doubt === "", found === 1_000, `${found}: ${doubt}`);
+  }
+});
+
+test("fields that do not go together are refused by their names", () => {
+  const wrong = {
+    trace_pages: 999, trace_writes: 1, trace_sha256: "1".repeat(64), first_tick: 5_000, last_tick: 4_998,
+    sampled_pages: 999, counted_pages: 1_999, sampled_nonzero: 1_001, guest_nonzero: 999, format: "other",
+    tick_seconds: 2, method: "constructor",
+  };
+  for (const [name, value] of Object.entries(wrong)) {
+    const isRight = (error) => error instanceof RecordRefusal && error.field === name;
+    assert.throws(() => read({ [name]: value }), isRight, name);
+  }
+  assert.throws(() => recordIn(null, TRACE), /too long/);
+  assert.throws(() => recordIn("{", TRACE), /no JSON/);
+});

@@ -1,0 +1,136 @@
+"""What the planner's page makes of records beside traces: they say what ticks, pages and the start stand for."""
+
+import hashlib
+import json
+
+from checks.page import shapes
+from checks.page.acts import read, require
+from checks.page.cases import example
+from checks.page.shown import tried
+
+VALUES = ("[String(ticksOf('start')), "
+          "...['sample', 'tick'].map((name) => document.getElementById(`control-${name}`).value)]")
+
+
+def record_of(trace, **fields):
+    """A record of a trace all of whose pages were sampled, as a file."""
+    pages, writes = (int.from_bytes(trace[at:at + 4], "little") for at in (8, 12))
+    plain = {"format": "precopy sample 1", "trace_sha256": hashlib.sha256(trace).hexdigest(), "trace_pages": pages,
+             "trace_writes": writes, "first_tick": 0, "last_tick": 1 << 39, "tick_seconds": 0.001, "guest_pages": pages,
+             "guest_nonzero": pages, "counted_pages": pages, "sampled_pages": pages, "sampled_nonzero": pages,
+             "method": "writes"}
+    return json.dumps({**plain, **fields}).encode()
+
+
+def guest_with_record():
+    return [(f"a.{kind}", read(example(f"guests/sqlite.light.{kind}"))) for kind in ("pcwt", "json")]
+
+
+def check_records(page):
+    """A record comes with its trace, after it, or before it; one that is not the trace's is refused by its field."""
+    trace, record = (read(example(f"guests/sqlite.light.{kind}")) for kind in ("pcwt", "json"))
+    wanted = [str(json.loads(record)["first_tick"]), "31.25156", "1"]
+    for files in ([("a.pcwt", trace), ("a.json", record)], [("a.json", record), ("a.pcwt", trace)]):
+        page.open()
+        page.wait_for_plan()
+        page.drop(*files)
+        require(page.browser.value(VALUES) == wanted, f"{page.browser.value(VALUES)} in place of {wanted}")
+    page.open()
+    page.wait_for_plan()
+    page.drop(("a.pcwt", trace))
+    require(page.browser.value(VALUES) == ["0", "1", "1"], f"{page.browser.value(VALUES)} without a record")
+    said = page.drop(("a.json", record))
+    require(page.browser.value(VALUES) == wanted and "as a.json says" in said, said)
+    require(not page.shown()["refused"], said)
+    for name, value in (("trace_writes", 3), ("tick_seconds", 7), ("sampled_pages", 1), ("trace_sha256", "0" * 64)):
+        said = page.drop(("b.json", json.dumps({**json.loads(record), name: value}).encode()))
+        require(f"b.json is not used: " in said and name in said, said)
+        require(page.browser.value(VALUES) == wanted, f"{name} has changed {page.browser.value(VALUES)}")
+
+
+def suggestion(page, name):
+    return page.browser.value(f"document.querySelector('[data-control={name}] .suggestion')?.textContent ?? ''")
+
+
+def limits(page):
+    return page.browser.value("['link', 'downtime'].map((name) => [document.getElementById(`control-${name}`).value, "
+                              "document.querySelector(`[data-control=${name}] select`).value])")
+
+
+def check_addressed(page):
+    """An address without a trace leaves to the record what ticks, pages and the start stand for; its limits stay."""
+    for at_once in (True, False):
+        page.open("#link=1Gbit&downtime=100ms")
+        files = guest_with_record()
+        said = page.drop(*files) if at_once else [page.drop(files[0]), page.drop(files[1])][-1]
+        require(page.browser.value(VALUES) == ["1000", "31.25156", "1"], f"{page.browser.value(VALUES)}: {said}")
+        require(limits(page) == [["1", "Gbit"], ["100", "ms"]], f"the limits of the address are {limits(page)}")
+        require("as a.json says" in said and "507.10\u00a0MiB" in said, said)
+    trace = shapes.trace(12, 100, [(tick, tick % 50, 1) for tick in range(10_000)])
+    page.open("#link=1Mbit&downtime=60s")
+    said = page.drop(("b.pcwt", trace), ("b.json", record_of(trace, tick_seconds=1)))
+    require("2\u00a0h\u00a046\u00a0min" in said and "as b.json says" in said, said)
+
+
+def check_own_address(page):
+    """An address that was made of the very trace has all settings; what the record says otherwise is told, and its
+    control offers it."""
+    trace, record = (text for _, text in guest_with_record())
+    address = f"#link=1Gbit&downtime=100ms&tick=2ms&sample=all&of={hashlib.sha256(trace).hexdigest()[:12]}"
+    page.open(address)
+    said = page.drop(("a.pcwt", trace), ("a.json", record))
+    require(page.browser.value(VALUES) == ["0", "1", "2"], f"{page.browser.value(VALUES)} in place of the address's")
+    require(", not as a.json says" in said, said)
+    for name, value in (("tick", "1"), ("sample", "31.25156"), ("start", "1")):
+        require(suggestion(page, name).startswith("a.json says otherwise. "), f"{name}: {suggestion(page, name)!r}")
+        page.after(f"document.querySelector('[data-suggested={name}]').click()")
+        taken = page.browser.value(f"document.getElementById('control-{name}').value")
+        require(taken == value and not suggestion(page, name), f"{name}: {taken}, {suggestion(page, name)!r}")
+    require(", as a.json says" in page.browser.value("textOf('trace-state')"), "what was taken is not told")
+
+
+def check_fitted(page):
+    """Limits that were fitted to a trace are told as such, with links of today's networks, until one is chosen."""
+    page.open()
+    page.wait_for_plan()
+    page.drop(*guest_with_record())
+    for name in ("link", "downtime"):
+        require(suggestion(page, name).startswith("Fitted to this trace."), f"{name}: {suggestion(page, name)!r}")
+    offered = page.browser.value("[...document.querySelectorAll('[data-suggested=link]')]"
+                                 ".map((each) => each.innerText)")
+    require(offered[-2:] == ["10 Gbit/s", "25 Gbit/s"], f"links that are offered: {offered}")
+    found = page.after("[...document.querySelectorAll('[data-suggested=link]')].at(-2).click()")
+    require(limits(page)[0] == ["10", "Gbit"] and not found["refused"], f"{limits(page)}, {found['fault']}")
+    require(not suggestion(page, "link"), f"a link that was chosen: {suggestion(page, 'link')!r}")
+    page.open("#link=1Gbit&downtime=100ms")
+    page.drop(*guest_with_record())
+    require(not suggestion(page, "link"), f"a link of the address: {suggestion(page, 'link')!r}")
+
+
+def check_doubts(page):
+    """Counts of a record that go badly together are told, and make no guest that is larger than it is; a record that is
+    too long is refused as such."""
+    trace = shapes.trace(12, 1_000, [(tick, tick % 1_000, 1) for tick in range(5_000)])
+    counts = {"guest_pages": 1 << 22, "counted_pages": 1 << 22, "sampled_pages": 1 << 14, "guest_nonzero": 1 << 22,
+              "sampled_nonzero": 1}
+    page.open()
+    page.wait_for_plan()
+    said = page.drop(("a.pcwt", trace), ("a.json", record_of(trace, **counts)))
+    require("a.json: 1 page of 16,384 in the sample" in said and "which is unlikely." in said, said)
+    require("1,000 pages sampled of 256,000 " in said, said)
+    said = page.drop(("a.pcwt", trace), ("a.json", record_of(trace, **{**counts, "sampled_nonzero": 1 << 14})))
+    require("a.json is not used: sampled_nonzero is 16384" in said, said)
+    said = page.drop(("a.json", record_of(trace, taken_of="x" * (1 << 16))))
+    require("a.json is not used: It is too long" in said, said)
+    page.drop(*guest_with_record())
+    require("unlikely" not in page.browser.value("textOf('trace-notes')"), "the example's record is doubted")
+    trace = shapes.trace(12, 10, [(tick, tick % 10, 1) for tick in (0, 86_399_000)])
+    said = page.drop(("day.pcwt", trace))
+    require("2 writes in 23\u00a0h\u00a059\u00a0min" in said, said)
+
+
+def check_all(tally, page):
+    for words, check in (("records", check_records), ("a record and an address", check_addressed),
+                         ("a record and an address of its trace", check_own_address),
+                         ("limits that were fitted", check_fitted), ("doubts of a record", check_doubts)):
+        tried(tally, words, check, page)

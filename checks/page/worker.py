@@ -1,0 +1,70 @@
+"""The workers of the planner's page, which may end."""
+
+from checks.page.acts import require, typed
+
+# A worker that ends is heard of at once; the next one takes a second, and more on a busy machine.
+SECONDS_OF_END = 5
+
+
+def end_worker(page):
+    """Ends the page's worker, and has the page hear of it."""
+    page.browser.value("workers.at(-1).terminate(); workers.at(-1).onerror(); 0")
+
+
+def check_worker(page):
+    """A worker that ends is started again, whether the page hears of it or not; starts can be cancelled."""
+    page.open("#trace=sqlite&link=1Gbit&rounds=30")
+    page.wait_for_plan()
+    before = page.shown()
+    end_worker(page)
+    require(typed(page, "rounds", "7")["refused"] is None, "no plan by another worker")
+    require(typed(page, "rounds", "30") == before, "another plan by another worker")
+    page.browser.wait("textOf('trace-state').startsWith('sqlite.light.pcwt: ')", 5)
+    page.browser.value("window.isDeadly = true; 0")
+    end_worker(page)
+    found = typed(page, "rounds", "7")
+    require("the planner ended" in found["verdict"] and found["stale"], f"after three ends: {found['verdict']}")
+    page.browser.value("window.isDeadly = false; 0")
+    found = page.after("document.getElementById('try-again').click()")
+    require(found["refused"] is None and not found["stale"], f"tried again: {found['verdict']}")
+    require(typed(page, "rounds", "30") == before, "no plan after three ends")
+    page.browser.value("document.getElementById('ask').click()")
+    require(page.browser.value("textOf('ask')") == "Cancel", page.browser.value("textOf('ask')"))
+    page.browser.value("document.getElementById('ask').click()")
+    page.browser.wait("textOf('ask').startsWith('Plan ')", 5)
+    require(page.browser.value("document.getElementById('starts-answer').hidden"), "an answer that was cancelled")
+    require(typed(page, "rounds", "30") == before, "no plan after a cancel")
+
+
+# Has the next workers end themselves when they are told so.
+MORTAL = """(() => {
+  const Made = Blob;
+  const code = "addEventListener('message', (event) => { if (event.data.name === 'end') { close(); } });";
+  Blob = function (parts, kind) {
+    return new Made(kind?.type === "text/javascript" ? [code, ...parts] : parts, kind);
+  };
+})()"""
+ENDS = {"ends itself": "workers.at(-1).postMessage({ name: 'end' })", "is ended": "workers.at(-1).terminate()"}
+
+
+def check_ended(page):
+    """A worker that ends without a word is replaced at once, also while nothing is asked of it."""
+    page.open("#trace=sqlite&link=1Gbit&rounds=30")
+    page.wait_for_plan()
+    page.browser.value(MORTAL)
+    end_worker(page)
+    page.browser.wait("workers.length === 2", SECONDS_OF_END)
+    before = typed(page, "rounds", "29")
+    for number, (words, end) in enumerate(ENDS.items()):
+        page.browser.value(end)
+        page.browser.value("""(() => {
+          const field = document.getElementById("control-rounds");
+          field.value = "9";
+          window.sinceEnd = performance.now();
+          field.dispatchEvent(new Event("input"));
+        })()""")
+        # A clock that ticks in whole milliseconds may say the same of both.
+        page.browser.wait("begun >= sinceEnd", SECONDS_OF_END)
+        require(not page.shown()["refused"], f"no plan after a worker {words}")
+        require(page.browser.value("workers.length") == 3 + number, f"no other worker after one {words}")
+        require(typed(page, "rounds", "29") == before, f"another plan after a worker {words}")

@@ -1,0 +1,145 @@
+// What takes long to answer: standard errors, what keeps a limit, and whether a rounded amount does too. A worker of
+// its own answers it, so that no plan waits. Only what is shown is asked for: what was asked before and has no answer
+// yet is left out.
+
+import { fewDigitsOffers } from "../model/offers.js";
+import { PlannerClient, WorkerEnded } from "./planner-client.js";
+import { isGood, isUnknown } from "../model/predictions.js";
+import { Refusal } from "./planner.js";
+import { firstWay, waysOf } from "../model/ways.js";
+
+/** How many answers are kept. */
+const MOST_KNOWN = 512;
+
+/** A kind of answer to a question about a trace, as a word. */
+function lateKey(kind, { digest }, question) {
+  return [kind, digest, ...Object.entries(question).flat()].join(" ");
+}
+
+/** Whether a prediction may have standard errors. */
+function mayHaveErrors(prediction) {
+  return prediction.scale.isSample && !isUnknown(prediction);
+}
+
+export class LateAnswers {
+  /** `told` is called after each answer, with its kind. */
+  constructor(told) {
+    this.told = told;
+    this.client = new PlannerClient("aside", () => {});
+    this.known = new Map();
+    this.open = null;
+    this.unread = null;
+    this.wanted = [];
+    this.isAsking = false;
+    /** The last prediction that ends after its trace, with the ways that may lead out of it. */
+    this.lost = null;
+  }
+
+  /**
+   * Learns what is shown: the prediction whose limit counts, if there is one, all whose errors are shown, and questions
+   * of curves, which come last.
+   */
+  follow(trace, prediction, predictions, questions) {
+    const ask = (kind, { question }) => ({ kind, trace, question, key: lateKey(kind, trace, question) });
+    const errors = predictions.filter(mayHaveErrors).map((some) => ask("errors", some));
+    const remedies = prediction && !isUnknown(prediction) ? [ask("remedies", prediction)] : [];
+    const offers = prediction ? this.offersOf(trace, prediction).map((some) => ask("predict", some)) : [];
+    const ways = prediction && isUnknown(prediction) ? Object.values(this.waysOf(trace, prediction)) : [];
+    const asked = ways.filter((way) => way.ask).map((way) => ask("predict", way.ask));
+    const curves = questions.map((question) => ({ ...ask("predict", { question }), of: "curve" }));
+    this.wanted = [...errors.slice(0, 1), ...remedies, ...offers, ...asked, ...errors.slice(1), ...curves];
+    if (!this.isAsking) {
+      this.askAll();
+    }
+  }
+
+  /** The standard errors of a prediction: null if there are none, and undefined if they are still to come. */
+  errorsOf(trace, prediction) {
+    return mayHaveErrors(prediction) ? this.known.get(lateKey("errors", trace, prediction.question)) : null;
+  }
+
+  /** What keeps the limit of a prediction: null if there is no answer, and undefined if it is still to come. */
+  leastOf(trace, prediction) {
+    return isUnknown(prediction) ? null : this.known.get(lateKey("remedies", trace, prediction.question));
+  }
+
+  /** The answer to a question: null if there is none, and undefined if it is still to come. */
+  answerTo(trace, question) {
+    return this.known.get(lateKey("predict", trace, question));
+  }
+
+  /** The ways out of a prediction that ends after the trace: each is found, or one is to be asked for. */
+  waysOf(trace, prediction) {
+    if (this.lost?.prediction !== prediction) {
+      this.lost = { prediction, ways: waysOf(prediction, trace.sizes, trace.record?.start ?? 0) };
+    }
+    const first = (ways) => firstWay(ways, (question) => this.answerTo(trace, question));
+    return { link: first(this.lost.ways.link), start: first(this.lost.ways.start) };
+  }
+
+  /** The amounts of few digits that may keep the limit of a prediction. */
+  offersOf(trace, prediction) {
+    const least = this.leastOf(trace, prediction);
+    return least ? fewDigitsOffers(prediction, trace.sizes, least) : [];
+  }
+
+  /** The same as `leastOf`, with those amounts of few digits that keep the limit, by their names. */
+  remediesOf(trace, prediction) {
+    const offers = this.offersOf(trace, prediction);
+    const answers = offers.map(({ question }) => this.answerTo(trace, question));
+    if (answers.includes(undefined)) {
+      return undefined;
+    }
+    const kept = offers.filter((_, place) => answers[place] !== null && isGood(answers[place]));
+    const least = this.leastOf(trace, prediction);
+    return least && { ...least, offers: Object.fromEntries(kept.map((some) => [some.name, some])) };
+  }
+
+  /** Asks until all that is wanted is known. */
+  async askAll() {
+    this.isAsking = true;
+    try {
+      for (let next = this.next(); next; next = this.next()) {
+        this.keep(next.key, await this.ask(next));
+        this.told(next.of ?? next.kind);
+      }
+    } finally {
+      this.isAsking = false;
+    }
+  }
+
+  next() {
+    return this.wanted.find(({ key }) => !this.known.has(key));
+  }
+
+  /** The answer, or null if the worker gives none, as if it cannot read the trace. */
+  async ask({ kind, trace, question }) {
+    try {
+      await this.read(trace);
+      return this.open === trace ? await this.client.ask(kind, { question }) : null;
+    } catch (error) {
+      if (error instanceof Refusal || error instanceof WorkerEnded) {
+        return null;
+      }
+      throw error;
+    }
+  }
+
+  /** Has the worker read a trace, once. */
+  async read(trace) {
+    if (this.open !== trace && this.unread !== trace) {
+      this.unread = trace;
+      await this.client.open(trace.blob, () => {});
+      this.open = trace;
+    }
+  }
+
+  /** Keeps an answer, and forgets the oldest of many. */
+  keep(key, value) {
+    this.known.set(key, value);
+    if (this.known.size > MOST_KNOWN) {
+      const [oldest] = this.known.keys();
+      this.known.delete(oldest);
+    }
+  }
+}

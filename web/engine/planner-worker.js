@@ -1,0 +1,125 @@
+// The planner's worker: it reads and tests a trace, and plans. It runs the page's own program.
+
+import { lightLength, lightTrace, writesIn } from "./light-trace.js";
+import { Planner, Refusal } from "./planner.js";
+import { readAnswer } from "../model/questions.js";
+import { Sha256 } from "./sha256.js";
+import { Slice } from "./slices.js";
+import { piecesOf } from "./trace-source.js";
+
+/** What is refused if another worker could not read the trace of the first again. */
+const UNREAD = 17;
+
+/** The worker's own state: the module, the trace, and the number of the many answers that are asked for. */
+const held = { module: null, planner: null, many: null };
+
+/** The planner over the open trace. */
+function planner() {
+  if (held.planner === null) {
+    throw new Refusal(UNREAD);
+  }
+  return held.planner;
+}
+
+/** The pieces of a blob; each goes into a digest, and the share that is read is told. */
+async function* digested(blob, digest, number) {
+  let done = 0;
+  for await (const piece of piecesOf(blob)) {
+    digest.add(piece);
+    done += piece.length;
+    postMessage({ number, share: done / blob.size });
+    yield piece;
+  }
+}
+
+/** Opens a trace; an open one stays until then. Answers a light one too, if that is shorter by far. */
+async function openTrace({ number, blob }) {
+  const digest = new Sha256();
+  const opened = await Planner.open(held.module, blob.size, digested(blob, digest, number));
+  const { sizes } = opened;
+  held.planner = opened;
+  held.many = null;
+  const isShorter = 2 * lightLength(sizes) < blob.size;
+  const light = isShorter ? lightTrace(writesIn(opened.traceBytes(), sizes.writes), sizes) : null;
+  return { sizes, digest: digest.digest(), light: light && new Blob([light]) };
+}
+
+/**
+ * The answers to many questions, and which of them is the best and which the worst; a slice of time after another,
+ * unless others are asked for meanwhile, or none.
+ */
+async function manyAnswers({ number, questions }) {
+  held.many = number;
+  const answers = [];
+  const slice = new Slice();
+  for (const question of questions) {
+    answers.push(planner().answerBytes(question));
+    if (slice.isOver()) {
+      postMessage({ number, share: answers.length / questions.length });
+      await slice.next();
+      if (held.many !== number) {
+        return null;
+      }
+    }
+  }
+  const told = answers.map((bytes) => readAnswer(new DataView(bytes.buffer), 0));
+  return { answers: told, chosen: planner().chosen(answers) };
+}
+
+/** Holds a lock for as long as this worker lives, if the browser has locks: who waits for it learns of its end. */
+function holdLock(name) {
+  return new Promise((resolve) => {
+    const hold = () => {
+      resolve(true);
+      return new Promise(() => {});
+    };
+    (navigator.locks?.request(name, hold) ?? Promise.reject()).catch(() => resolve(false));
+  });
+}
+
+const ANSWERS = {
+  module: async ({ bytes, lock }) => {
+    held.module = await WebAssembly.compile(bytes);
+    return holdLock(lock);
+  },
+  open: openTrace,
+  predict: ({ question }) => planner().predict(question),
+  errors: ({ question }) => planner().errors(question),
+  remedies: ({ question }) => planner().remedies(question),
+  windows: ({ settings }) => planner().windows(settings),
+  answers: manyAnswers,
+  cancel: () => {
+    held.many = null;
+    return true;
+  },
+};
+
+/** Columns of numbers go to the page as they are. Anything else is copied. */
+function buffersIn(value) {
+  return Object.values(value ?? {}).filter(ArrayBuffer.isView).map(({ buffer }) => buffer);
+}
+
+async function answer({ number, name, asked }) {
+  try {
+    const value = await ANSWERS[name]({ ...asked, number });
+    postMessage({ number, value }, buffersIn(value));
+  } catch (error) {
+    const refused = error instanceof Refusal ? { number: error.number, record: error.record } : null;
+    postMessage({ number, refused, failed: refused ? null : String(error) });
+  }
+}
+
+/** Serves the page, if this program runs in a worker. Questions are answered in turn; many answers come beside them. */
+export function serve() {
+  let turn = Promise.resolve();
+  onmessage = ({ data }) => {
+    if (data.name === "cancel") {
+      answer(data);
+    } else {
+      turn = turn.then(() => {
+        const answered = answer(data);
+        return data.name === "answers" ? null : answered;
+      });
+    }
+  };
+}

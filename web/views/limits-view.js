@@ -1,0 +1,142 @@
+// What is enough for the limit: the module's answer, as `precopy-view predict` tells it, in few digits where these keep
+// the limit too. A click takes what is shown.
+
+import { byId, html, keepFocus, mark, renew } from "./elements.js";
+import { AMOUNTS, offered } from "../model/offers.js";
+import { momentText } from "../model/numbers.js";
+import { keptWords } from "../model/predictions.js";
+import { quantityWords } from "../model/quantities.js";
+import { amountOf, microsOf, RATE_UNITS } from "../model/units.js";
+
+/** How many digits a share of the amount that is set has. */
+const SHARE_DIGITS = 3;
+
+/** What the answer says first. */
+function headOf({ isKept, link, downtime, speed }) {
+  const isAlone = [link, downtime, speed].every((amount) => amount === null);
+  if (isKept) {
+    return isAlone ? "these settings." : "these settings. So is each of these, changed alone:";
+  }
+  return isAlone ? "nothing that was tried." : "one of these, changed alone:";
+}
+
+/** How much an amount is beside the one that is set. */
+function shareWords(amount, asked) {
+  if (asked === 0n) {
+    return "";
+  }
+  const share = Number((Number(amount) / Number(asked)).toPrecision(SHARE_DIGITS));
+  if (share === 1) {
+    return ", about what is set";
+  }
+  return share < 1 ? `, ${Number((100 * share).toPrecision(SHARE_DIGITS))} % of what is set`
+    : `, ${share} times what is set`;
+}
+
+export class LimitsView {
+  /** `choose` takes other settings, in which a control was chosen by its name. */
+  constructor(choose) {
+    this.choose = choose;
+    this.part = byId("limits-answer");
+    this.isAwaited = false;
+    this.isMissed = false;
+    /** The settings that each button takes, by the name of its control. */
+    this.taken = new Map();
+    this.part.addEventListener("click", ({ target }) => this.press(target));
+  }
+
+  /** Shows what keeps the limit of a prediction. */
+  show(trace, prediction, remedies) {
+    this.isAwaited = prediction !== null && remedies === undefined;
+    this.renew(() => (prediction ? this.answerParts(trace, prediction, remedies) : []),
+      prediction && !remedies?.isKept);
+  }
+
+  /** Shows ways out of a prediction that ends after the trace. */
+  showWays(prediction, ways) {
+    this.isAwaited = Object.values(ways).some(({ ask }) => ask);
+    this.renew(() => this.wayParts(prediction, ways), true);
+  }
+
+  /** Shows an answer. While it is still to come, the last one stays, grey. */
+  renew(partsOf, isMissed) {
+    this.part.setAttribute("aria-busy", String(this.isAwaited));
+    this.part.classList.toggle("stale", this.isAwaited);
+    if (!this.isAwaited) {
+      this.taken = new Map();
+      const parts = partsOf();
+      byId("enough").hidden = parts.length === 0;
+      this.unfold(isMissed);
+      keepFocus(() => renew(this.part, ...parts), () => this.part.querySelector("button") ?? byId("outcome"));
+    } else if (this.part.childElementCount === 0) {
+      this.part.replaceChildren(this.sentence("\u2026"));
+    }
+    // A button that is disabled would lose the focus.
+    this.part.querySelectorAll("button").forEach((button) => mark(button, "aria-disabled", String(this.isAwaited)));
+  }
+
+  /** Unfolds the answer once a limit is not kept any more. */
+  unfold(isMissed) {
+    if (isMissed && !this.isMissed) {
+      byId("enough").open = true;
+    }
+    this.isMissed = isMissed;
+  }
+
+  press({ dataset: { takes } }) {
+    if (takes && !this.isAwaited && this.taken.has(takes)) {
+      this.choose(this.taken.get(takes), takes);
+    }
+  }
+
+  sentence(words) {
+    return html("p", {}, html("strong", {}, "Enough for the limit:"), ` ${words}`);
+  }
+
+  answerParts(trace, prediction, remedies) {
+    if (remedies === null) {
+      return [];
+    }
+    const lines = AMOUNTS.filter(({ name }) => remedies[name] !== null)
+      .map((some) => this.amountLine(some, prediction.question[some.name],
+        offered(some, prediction, trace.sizes, remedies[some.name], remedies.offers[some.name])));
+    if (remedies.speed !== null) {
+      lines.push(html("li", {}, "the guest slowed to ", html("b", {}, `${remedies.speed} %`),
+        ` of its speed, by a throttle of ${100n - remedies.speed} %`));
+    }
+    return [this.sentence(headOf(remedies)), ...(lines.length > 0 ? [html("ul", {}, ...lines)] : [])];
+  }
+
+  wayParts({ scale }, ways) {
+    const words = {
+      link: (link) => ["with a link of ", quantityWords(link, RATE_UNITS)],
+      start: (start) => ["from a start at ", momentText(microsOf(scale, start))],
+    };
+    const lines = Object.values(ways).filter(({ found }) => found).map(({ found: { name, value, state, answer } }) => {
+      const [before, said] = words[name](value);
+      const after = ` it ends within the trace, and the limit is ${keptWords(answer)} `;
+      return html("li", {}, before, html("b", {}, said), after, this.takeButton(name, said, state));
+    });
+    const head = this.sentence("unknown, since the trace ends before the migration does.");
+    return [head, ...(lines.length > 0 ? [html("ul", {}, ...lines)] : [])];
+  }
+
+  /**
+   * A line on an amount that is offered in place of the one that is set. Its title and its button's name have all
+   * digits if these are not shown.
+   */
+  amountLine({ name, words, units }, set, { quantity, exact, state }) {
+    const said = quantityWords(quantity, units);
+    const isExact = quantity.amount === exact.amount;
+    const title = isExact ? null : `The search found ${quantityWords(exact, units)}`;
+    const spoken = [`${words} ${said}`, title].filter(Boolean).join(". ");
+    const button = state ? [" ", this.takeButton(name, spoken, state)] : [];
+    return html("li", {}, `${words} `, html("b", { title }, said), shareWords(amountOf(quantity), set), ...button);
+  }
+
+  takeButton(name, words, taken) {
+    this.taken.set(name, taken);
+    const attributes = { type: "button", class: "small", "data-takes": name, "aria-label": `Take ${words}` };
+    return html("button", attributes, "Take it");
+  }
+}

@@ -1,0 +1,96 @@
+// The section on links: what the migration would cost over slower and faster ones, as curves.
+
+import { CURVE_HEIGHT, curvesParts, CURVES, curveTop } from "./curves.js";
+import { area, byId, label } from "./elements.js";
+import { saveButtons } from "./exports.js";
+import { Inspector } from "./inspector.js";
+import { linkCosts, LINK_PLACES, linkPlace, linkPoints, linkRows } from "../model/links.js";
+import { AXIS_HEIGHT, axisOf, pictureOf, widthOf } from "./plot.js";
+import { fewDigits, inFittingUnit, quantityWords, unitName } from "../model/quantities.js";
+import { costWords } from "./starts-chart.js";
+import { RATE_UNITS } from "../model/units.js";
+
+/** The curves that are drawn: downtime and total time. */
+const OF_LINKS = CURVES.slice(0, 2);
+
+/** How many times each label is the one before. */
+const LABEL_RATIOS = [1 / 8, 1 / 4, 1 / 2, 1, 2, 4, 8];
+
+/** The labels of an axis of links, and their title. */
+function linkLabels(axis, { amount, unit }, bottom) {
+  const fitting = inFittingUnit(amount, unit, RATE_UNITS).unit;
+  const marks = LABEL_RATIOS.flatMap((ratio) => {
+    const x = axis.place(linkPlace(amount * ratio, amount));
+    const words = String(fewDigits((amount * ratio) / Number(RATE_UNITS[fitting])));
+    const isAtEnd = ratio === LABEL_RATIOS.at(-1);
+    return [area("line", x, bottom + 1, 1, 5),
+      label(isAtEnd ? "end" : "middle", isAtEnd ? axis.width - 2 : x, bottom + 19, words)];
+  });
+  return [...marks, label("middle title", axis.width / 2, bottom + 40, `link, ${unitName(fitting, RATE_UNITS)}`)];
+}
+
+export class LinksView {
+  /** `choose` takes other settings. */
+  constructor(choose) {
+    this.choose = choose;
+    this.plot = byId("links-plot");
+    this.inspector = new Inspector(this.plot, byId("links-readout"), "Links", byId("links-take"));
+    this.points = [];
+    this.costs = [];
+    byId("links-take").after(saveButtons("links", "the links", {
+      picture: () => this.plot.querySelector("svg"), table: () => this.costs.length > 0 && linkRows(this.costs),
+    }));
+  }
+
+  /** Learns the prediction that is shown, if there is one: the questions of its curves are to be asked. */
+  follow(prediction, sizes) {
+    if (prediction && prediction !== this.prediction) {
+      this.prediction = prediction;
+      this.points = linkPoints(prediction, sizes);
+    }
+    byId("links").classList.toggle("stale", !prediction);
+  }
+
+  questions() {
+    return this.points.map(({ question }) => question).filter(Boolean);
+  }
+
+  /** Draws the curves once all answers are there; until then the last ones stay, grey. */
+  draw(answerTo) {
+    const answers = this.points.map(({ question }) => (question ? answerTo(question) : null));
+    const isAwaited = answers.includes(undefined);
+    byId("links").setAttribute("aria-busy", String(isAwaited));
+    byId("links").classList.toggle("old", isAwaited);
+    const key = JSON.stringify([widthOf(this.plot), this.points.map(({ link }) => link)]);
+    if (isAwaited || !this.prediction || (this.drawnOf === this.prediction && this.drawnKey === key)) {
+      return;
+    }
+    [this.drawnOf, this.drawnKey] = [this.prediction, key];
+    const { state: { link }, limits } = this.prediction;
+    this.costs = linkCosts(this.points, answers, link.amount);
+    const axis = axisOf(widthOf(this.plot), 0, LINK_PLACES);
+    const here = { start: linkPlace(link.amount, link.amount) };
+    const { parts, bottom } = curvesParts(axis, { costs: this.costs, limits, marks: [["stop", here]], noun: "link" },
+      OF_LINKS);
+    parts.push(...linkLabels(axis, link, bottom));
+    this.plot.replaceChildren(pictureOf(axis.width, bottom + AXIS_HEIGHT, parts));
+    this.inspector.hold(this.look(axis));
+  }
+
+  /** How the links of the picture are looked at. */
+  look(axis) {
+    const { costs } = this;
+    const words = (at) => quantityWords(costs[at].link, RATE_UNITS);
+    const distance = (at, place) => Math.abs(axis.place(costs[at].start) - place);
+    return {
+      count: costs.length,
+      panels: OF_LINKS.map((_, place) => ({ top: curveTop(place), height: CURVE_HEIGHT })),
+      find: (place) => costs.reduce((best, _, at) => (distance(at, place) < distance(best, place) ? at : best), 0),
+      words: (at) => `Link ${words(at)}: ${costWords(costs[at].cost)}`,
+      span: (at) => [axis.place(costs[at].start) - 1, axis.place(costs[at].start) + 1],
+      choose: (at) => this.choose(costs[at].state, "link"),
+      offer: (at) => `Take ${words(at)}`,
+      none: "No link near this one makes a plan.",
+    };
+  }
+}

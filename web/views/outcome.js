@@ -1,0 +1,208 @@
+// A plan's outcome: the verdict, the plan beside those that are kept, its rounds as a table, and what was refused.
+
+import { ControlRefusal } from "../model/asking.js";
+import { LABELS } from "../model/control-list.js";
+import { html } from "./elements.js";
+import { briefBytes, briefTime } from "../model/brief.js";
+import {
+  bytesText, counted, countOf, errorTimeText, momentText, pagesText, signed, timeText, unbroken,
+} from "../model/numbers.js";
+import { endingOf, isGood, isUnknown, keptWords, reasonWords, warningsOf } from "../model/predictions.js";
+import { WorkerEnded } from "../engine/planner-client.js";
+import { Refusal } from "../engine/planner.js";
+import { microsOf } from "../model/units.js";
+import { refusalWords } from "../model/refusals.js";
+
+function sentText({ scale, plan, cost }) {
+  const pages = pagesText(scale, plan.total);
+  return scale.isSample ? `${countOf(cost.bytes / scale.page, "page")} of the guest; ${pages}` : pages;
+}
+
+function tickWords({ state }, words) {
+  return state.ticks ? words : "";
+}
+
+/** The words of parts that say something. */
+function joined(...parts) {
+  return parts.filter(Boolean).join("; ");
+}
+
+/** A standard error, or that it is still to come. */
+function errorText({ errors }, name, text) {
+  return errors === undefined ? "\u00b1 \u2026" : errors && `\u00b1 ${text(errors[name])}`;
+}
+
+/**
+ * The rows of the comparison: of a prediction, a number, its text, and more words. Of `isPrice` less is better. Of a
+ * migration that ends after the trace there is nothing but the time that it takes at least.
+ */
+const ROWS = [
+  { name: "downtime", title: "Downtime", isPrice: true, number: ({ cost }) => cost.downtime, text: timeText,
+    more: (some) => joined(errorText(some, "downtime", errorTimeText), keptWords(some.cost),
+      tickWords(some, `${countOf(some.plan.down, "tick")} for pages`)) },
+  { name: "time", title: "Total time", isPrice: true, number: ({ cost }) => cost.time, text: timeText,
+    more: (some) => joined(errorText(some, "time", errorTimeText),
+      tickWords(some, `${countOf(some.plan.stop - some.settings.start, "tick")} of pre-copy`)),
+    unknown: ({ cost }) => (cost.recorded > 0n ? `more than ${timeText(cost.recorded)}` : "unknown") },
+  { name: "sent", title: "Sent", isPrice: true, number: ({ cost }) => cost.bytes, text: bytesText,
+    more: (some) => joined(errorText(some, "bytes", bytesText), sentText(some)) },
+  { name: "rounds", title: "Rounds", number: ({ plan }) => plan.rounds.length, text: counted, more: reasonWords },
+  { name: "left", title: "Left at the stop", isPrice: true, number: ({ plan }) => plan.left,
+    text: (pages, { scale }) => pagesText(scale, pages),
+    more: ({ settings: { threshold } }) => (threshold === 1 ? "none left ends pre-copy"
+      : `fewer than ${counted(threshold)} end pre-copy`) },
+  { name: "stop", title: "Stop in the trace", number: ({ plan, scale }) => microsOf(scale, plan.stop), text: momentText,
+    more: (some) => tickWords(some, `tick ${counted(some.plan.stop)}`) },
+];
+
+/** The verdict on a prediction, in a line. */
+export function verdictOf(prediction) {
+  const { cost, limits } = prediction;
+  if (isUnknown(prediction)) {
+    const least = cost.recorded > 0n ? `, which takes more than ${unbroken(timeText(cost.recorded))}` : "";
+    return `The trace ends before the migration does${least}: record longer.`;
+  }
+  return `${endingOf(prediction)} The guest stands still for ${unbroken(timeText(cost.downtime))}; the limit of `
+    + `${unbroken(timeText(limits.downtime))} ${cost.kept === "yes" ? "is kept" : "is not kept"}.`;
+}
+
+/** The word for a prediction, and whether it is good, bad or neither. */
+function verdictMark(prediction) {
+  const { cost, plan } = prediction;
+  if (isUnknown(prediction)) {
+    return ["mark", "Unknown"];
+  }
+  if (plan.total === 0) {
+    return ["mark", "Nothing to send"];
+  }
+  if (isGood(cost)) {
+    return ["mark good", "Keeps the limit"];
+  }
+  return ["mark bad", cost.kept === "no" ? "Misses the limit" : "Kept, but not bounded"];
+}
+
+/** A pause beside its limit, with so many digits that two which differ look so, and one unit if both have the same. */
+function pauseWords({ cost, limits }) {
+  const [down, limit] = [cost.downtime, limits.downtime];
+  const isSame = briefTime(down) === briefTime(limit) && down !== limit;
+  const [pause, most] = [down, limit].map(isSame ? (micros) => unbroken(timeText(micros)) : briefTime);
+  const [, unit] = pause.split("\u00a0");
+  return `Pause ${pause} of ${most.replace(new RegExp(`\u00a0${unit}$`), "")}`;
+}
+
+function headlineWords(prediction) {
+  const { cost } = prediction;
+  if (isUnknown(prediction)) {
+    return cost.recorded > 0n ? `Longer than the trace: more than ${briefTime(cost.recorded)}`
+      : "The trace ends before the start";
+  }
+  return `${pauseWords(prediction)}, ${briefTime(cost.time)}, ${briefBytes(cost.bytes)}:`;
+}
+
+/** What a migration comes to, in one line. */
+export function headlineParts(prediction) {
+  const [className, words] = verdictMark(prediction);
+  return [html("p", { class: "headline" }, `${headlineWords(prediction)} `, html("span", { class: className }, words))];
+}
+
+/** How the plan ends, and what speaks against it. */
+export function reasonParts(prediction) {
+  const warnings = warningsOf(prediction).map((sentence) => html("li", {}, sentence));
+  return [
+    html("p", { class: "verdict" }, verdictOf(prediction)),
+    ...(warnings.length > 0 ? [html("ul", { class: "warnings" }, ...warnings)] : []),
+  ];
+}
+
+const THIS_PLAN = "This plan";
+
+function keptName(place) {
+  return `Kept plan ${place + 1}`;
+}
+
+/** A number of a prediction, and more words; or that it is unknown. */
+function cellWords(row, prediction) {
+  return isUnknown(prediction) ? [row.unknown?.(prediction) ?? "unknown", ""]
+    : [row.text(row.number(prediction), prediction), row.more(prediction)];
+}
+
+function cellOf(row, name, prediction, ...more) {
+  const [words, others] = cellWords(row, prediction);
+  return html("td", { role: "cell", "data-name": row.name, "data-plan": name }, html("b", {}, words), " ",
+    html("small", {}, others), ...more);
+}
+
+/** How this plan differs from a kept one, and whether that is better or worse. */
+function differenceOf(row, prediction, kept) {
+  const difference = row.number(prediction) - row.number(kept);
+  const words = unbroken(signed(difference, (amount) => row.text(amount, prediction)));
+  const [className, mark] = difference == 0 || !row.isPrice ? ["difference", ""]
+    : difference < 0 ? ["difference better", " \u25bc\u00a0better"] : ["difference worse", " \u25b2\u00a0worse"];
+  return html("span", { class: className }, `this plan: ${words}${mark}`);
+}
+
+function keptCell(row, prediction, { found: { value } }, place) {
+  if (!value) {
+    return html("td", { role: "cell", "data-plan": keptName(place) }, "\u2013");
+  }
+  const isCompared = ![prediction, value].some(isUnknown);
+  return cellOf(row, keptName(place), value, ...(isCompared ? [differenceOf(row, prediction, value)] : []));
+}
+
+/** The head of a kept plan's column, with the name of its trace if that is another, and what can be done with it. */
+function keptHead({ name: trace }, place) {
+  const name = keptName(place);
+  const button = (kind, label, words) =>
+    html("button", { type: "button", class: "small", [kind]: place, "aria-label": `${name}: ${label}` }, words);
+  const exchange = trace ? [] : [button("data-exchanges", "exchange with this", "Exchange"), " "];
+  return html("th", { scope: "col", role: "columnheader" }, name, " ", html("span", {}, ...exchange,
+    button("data-drops", "drop", "Drop")), ...(trace ? [" ", html("bdi", { class: "trace-name" }, trace)] : []));
+}
+
+/**
+ * The table of a plan, and beside it the plans that are kept, with the differences. Roles say that it is a table where
+ * the style has the plans below each other.
+ */
+export function comparisonOf(prediction, kept) {
+  const head = html("tr", { role: "row" }, html("td", { role: "cell" }),
+    html("th", { scope: "col", role: "columnheader" }, THIS_PLAN), ...kept.map(keptHead));
+  const rows = ROWS.map((row) => html("tr", { role: "row" },
+    html("th", { scope: "row", role: "rowheader" }, row.title), cellOf(row, THIS_PLAN, prediction),
+    ...kept.map((some, place) => keptCell(row, prediction, some, place))));
+  const caption = html("caption", { class: "hidden" }, "What the plan comes to");
+  return html("table", { class: kept.length > 0 ? "comparison two" : "comparison", role: "table" }, caption,
+    html("thead", { role: "rowgroup" }, head), html("tbody", { role: "rowgroup" }, ...rows));
+}
+
+/** What a migration comes to as numbers; nothing if it ends after the trace. */
+function priceCells(prediction) {
+  const { cost, plan, scale } = prediction;
+  return isUnknown(prediction) ? Array(6).fill("")
+    : [cost.downtime, cost.time, cost.bytes, plan.rounds.length, plan.left, microsOf(scale, plan.stop)];
+}
+
+/** A plan, and those of the kept ones that are not refused, as columns and rows for a file. */
+export function comparisonRows(prediction, kept) {
+  const plans = [[THIS_PLAN, prediction], ...kept.map(({ found }, place) => [keptName(place), found.value])];
+  const rows = plans.filter(([, some]) => some).map(([name, some]) => [name, ...priceCells(some),
+    microsOf(some.scale, some.settings.start), isUnknown(some) ? "" : some.plan.reason, some.cost.kept,
+    some.cost.converges]);
+  return [["plan", "downtime_us", "time_us", "sent_bytes", "rounds", "left_pages", "stop_us", "start_us", "reason",
+    "kept", "converges"], rows];
+}
+
+/** What was refused, in words: a name, and a sentence. */
+export function refusedWords(error) {
+  if (error instanceof WorkerEnded) {
+    return { name: "the planner ended.", sentence: "It was started again, and ended again." };
+  }
+  return error instanceof ControlRefusal ? { name: LABELS[error.control], sentence: error.message }
+    : refusalWords(error);
+}
+
+/** What was refused, as an element. A name that is a number is parted from its sentence. */
+export function refusalPart(error, ...what) {
+  const { name, sentence } = refusedWords(error);
+  const said = error instanceof Refusal ? ` \u2013 ${sentence}` : ` ${sentence}`;
+  return html("p", { class: "refusal" }, html("strong", {}, ...what.flatMap((part) => [part, " "]), name), said);
+}

@@ -1,0 +1,250 @@
+// The sections of the plan: the verdict, the comparison with the plans that are kept, and the rounds of all. If
+// settings make no plan, the last one stays, grey.
+
+import { ControlRefusal } from "../model/asking.js";
+import { byId, html, keepFocus, renew } from "./elements.js";
+import { bytesText, momentText, timeText } from "../model/numbers.js";
+import { saveButtons } from "./exports.js";
+import { Inspector } from "./inspector.js";
+import { limitBar } from "./limit-bar.js";
+import {
+  comparisonOf, comparisonRows, headlineParts, reasonParts, refusalPart, refusedWords, verdictOf,
+} from "./outcome.js";
+import { WorkerEnded } from "../engine/planner-client.js";
+import { watchWidths, widthOf } from "./plot.js";
+import { isUnknown, keptWords } from "../model/predictions.js";
+import { quantityWords } from "../model/quantities.js";
+import { reachOf, roundsLook, roundsPicture } from "./rounds-chart.js";
+import { roundsFile, roundsTable } from "./tables.js";
+import { amountOf, microsOf, RATE_UNITS, TIME_UNITS } from "../model/units.js";
+
+/** The predictions of kept plans that are not refused. */
+export function keptPredictions(kept) {
+  return kept.map(({ found }) => found.value).filter(Boolean);
+}
+
+function momentOf(ticks, { tick }) {
+  return momentText(microsOf({ tick: amountOf(tick) }, ticks));
+}
+
+/** The words for each part of the settings, by which a kept plan is told from the other. */
+const WORDS = {
+  link: (value) => `link ${quantityWords(value, RATE_UNITS)}`,
+  first: (value) => `first round ${value} %`,
+  increase: (value) => `increment ${value} %`,
+  downtime: (value) => `downtime limit ${quantityWords(value, TIME_UNITS)}`,
+  reserve: (value) => `reserve ${quantityWords(value, TIME_UNITS)}`,
+  start: (value, settings) => `start at ${momentOf(value, settings)}`,
+  rounds: (value) => `at most ${value} rounds`,
+  skip: (value) => (value ? "skips pages" : "skips no pages"),
+  base: (value, settings) => (value === null ? "cold start" : `copy before ${momentOf(value, settings)}`),
+  tick: (value) => `tick ${quantityWords(value, TIME_UNITS)}`,
+  sample: (value) => (value === null ? "all pages" : `sample of ${value.part} in ${value.whole}`),
+};
+
+/** In what the settings of a kept plan differ, in words. */
+function differencesOf(settings, kept, place) {
+  const differing = Object.keys(WORDS).filter((name) => JSON.stringify(settings[name]) !== JSON.stringify(kept[name]));
+  return differing.length === 0 ? `Kept plan ${place + 1} has the same settings.`
+    : `Kept plan ${place + 1} differs: ${differing.map((name) => WORDS[name](kept[name], kept)).join(", ")}.`;
+}
+
+/** What the sign before a standard error means. */
+const STANDARD_ERROR = "\u00b1 is one standard error: how far a number moves if other pages of the guest are sampled.";
+
+/** A figure with the rounds of a plan. */
+class RoundsFigure {
+  constructor(name, title, times) {
+    this.title = html("figcaption", {}, title);
+    this.plot = html("div", { class: "plot", id: `rounds-plot-${name}` });
+    this.readout = html("p", { class: "readout", "data-hint": "Point at a round, or step with the arrow keys.",
+      "data-touch": "Tap a round to read it." });
+    this.table = html("div", { class: "scrolls", id: `rounds-table-${name}` });
+    const whose = title && ` of ${title.toLowerCase()}`;
+    const saves = saveButtons(`rounds-${name}`, `the rounds${title && `, ${title}`}`, {
+      picture: () => this.plot.querySelector("svg"),
+      table: () => this.prediction && roundsFile(this.prediction),
+    });
+    this.prediction = null;
+    this.details = html("details", {}, html("summary", {}, `Table of rounds${whose}`), this.table, saves);
+    this.whole = html("figure", { id: `plan-${name}` }, this.title, this.plot, this.readout, this.details);
+    this.inspector = new Inspector(this.plot, this.readout, `Rounds${title && `, ${title}`}`);
+    this.axis = null;
+    times.add(this.plot, this.inspector, () => this.axis && {
+      axis: this.axis, from: this.prediction.settings.start, ticks: 1 / Number(this.prediction.scale.tick),
+    });
+  }
+
+  draw(prediction, reach) {
+    this.prediction = prediction;
+    const drawn = roundsPicture(widthOf(this.plot), prediction, reach);
+    this.axis = drawn.axis;
+    this.plot.replaceChildren(drawn.picture);
+    this.inspector.hold(roundsLook(drawn, prediction, reach));
+    this.table.replaceChildren(roundsTable(prediction, reach.unit));
+  }
+}
+
+export class PlanView {
+  /** `lead` leads to a control by its name, `fit` fits all settings to the trace; `times` are the plots over time. */
+  constructor(lead, fit, changed, times) {
+    this.times = times;
+    this.figures = [new RoundsFigure("this", "", times)];
+    this.lead = lead;
+    this.fit = fit;
+    this.changed = changed;
+    this.last = null;
+    byId("plans").append(this.figures[0].whole);
+    byId("comparison").after(saveButtons("prediction", "the prediction", {
+      table: () => this.last && comparisonRows(this.last, this.kept),
+    }));
+    this.kept = [];
+    byId("headline").addEventListener("click", ({ target }) => this.press(target));
+    watchWidths([this.figures[0].plot, byId("limit-bar")], changed);
+  }
+
+  /** Forgets the last plan, which was of another trace. */
+  forget() {
+    this.last = null;
+  }
+
+  /** Shows a prediction beside the kept ones, or why there is none, with the last one grey. */
+  draw(settings, found, kept) {
+    this.last = found.value ?? this.last;
+    for (const id of ["limit-bar", "reasons", "rounds"]) {
+      byId(id).classList.toggle("stale", !found.value);
+    }
+    byId("reasons").hidden = this.last === null;
+    byId("rounds").hidden = this.last === null;
+    byId("stale-note").hidden = found.value !== undefined || this.last === null;
+    const parts = found.value ? headlineParts(found.value) : this.refusedParts(found.refusal);
+    this.refusal = found.refusal ?? null;
+    keepFocus(() => renew(byId("headline"), ...parts), () => byId("outcome"));
+    if (found.value) {
+      renew(byId("reason-words"), ...reasonParts(found.value));
+    }
+    byId("summary").textContent = found.value ? this.summaryOf(found.value) : "No plan with these settings";
+    this.noteUnknown(kept);
+    this.drawPlans(settings, kept);
+    for (const button of document.querySelectorAll("#outcome .saves button, #rounds .saves button")) {
+      button.disabled = !found.value;
+    }
+  }
+
+  /** Says of rounds that go on after the trace what they are of. */
+  noteUnknown(kept) {
+    const plans = [["the start", this.last],
+      ...kept.map(({ found }, place) => [`the start of kept plan ${place + 1}`, found.value])];
+    const beyond = plans.filter(([, some]) => some && isUnknown(some));
+    const ends = beyond.map(([start, { cost }]) =>
+      (cost.recorded > 0n ? `${timeText(cost.recorded)} after ${start}` : `at ${start}`));
+    byId("rounds-note").hidden = ends.length === 0;
+    if (ends.length > 0) {
+      byId("rounds-note").textContent = `The trace ends ${ends.join(", ")}. What is drawn later is of a guest that `
+        + "writes nothing from then on.";
+    }
+  }
+
+  drawPlans(settings, kept) {
+    if (this.last) {
+      this.drawComparison(settings, kept);
+      this.drawRounds(this.last, kept);
+    }
+  }
+
+  /** Draws the downtime of the last plan beside its limit; nothing if it is unknown. */
+  drawBar() {
+    const isKnown = this.last !== null && !isUnknown(this.last);
+    byId("limit-bar").hidden = !isKnown;
+    byId("limit-bar").replaceChildren(...(isKnown ? [limitBar(widthOf(byId("limit-bar")), this.last)] : []));
+  }
+
+  /** Draws the numbers of the plans. Standard errors that are still to come make it busy. */
+  drawComparison(settings, kept) {
+    this.drawBar();
+    const words = kept.map((some, place) => this.keptWords(settings, some, place));
+    const predictions = [this.last, ...keptPredictions(kept)];
+    const meaning = predictions.some(({ errors }) => errors) ? [html("p", { class: "derived" }, STANDARD_ERROR)] : [];
+    keepFocus(() => renew(byId("comparison"), comparisonOf(this.last, kept), ...words, ...meaning),
+      () => byId("comparison").querySelector("[data-drops]") ?? byId("keep"));
+    const isAwaited = predictions.some(({ errors }) => errors === undefined);
+    byId("comparison").setAttribute("aria-busy", String(isAwaited));
+  }
+
+  /** A button beside a refusal leads out of it. */
+  press({ id }) {
+    const ways = new Map([
+      ["fit", this.fit], ["try-again", this.changed], ["lead", () => this.lead(this.refusal.control)],
+    ]);
+    ways.get(id)?.();
+  }
+
+  /** Why there is no plan, with ways out. */
+  refusedParts(refusal) {
+    if (refusal instanceof WorkerEnded) {
+      const again = html("button", { type: "button", id: "try-again" }, "Try again");
+      return [refusalPart(refusal, "No plan:"), html("div", { class: "actions" }, again)];
+    }
+    const fit = html("button", { type: "button", id: "fit" }, "Fit all settings to the trace");
+    if (!(refusal instanceof ControlRefusal)) {
+      return [refusalPart(refusal, "No plan:"), html("div", { class: "actions" }, fit)];
+    }
+    const { name, sentence } = refusedWords(refusal);
+    const lead = html("button", { type: "button", id: "lead" }, `Go to \u201c${name}\u201d`);
+    const said = html("p", { class: "refusal", "data-control": refusal.control },
+      html("strong", {}, `No plan. ${name}:`), ` ${sentence}`);
+    return [said, html("div", { class: "actions" }, lead, fit)];
+  }
+
+  keptWords(settings, { found, settings: own, name }, place) {
+    if (name) {
+      return html("p", { class: "derived" }, `Kept plan ${place + 1} is over `, html("bdi", {}, name), ".");
+    }
+    return found.refusal ? refusalPart(found.refusal, `Kept plan ${place + 1} is refused:`)
+      : html("p", { class: "derived" }, differencesOf(settings, own, place));
+  }
+
+  summaryOf(prediction) {
+    const { cost } = prediction;
+    if (isUnknown(prediction)) {
+      return "Unknown: the trace ends before the migration does";
+    }
+    const downtime = `Downtime ${timeText(cost.downtime)}, ${keptWords(cost)}`;
+    const parts = [downtime, `time ${timeText(cost.time)}`, `sent ${bytesText(cost.bytes)}`];
+    return parts.map((part) => part.replaceAll(" ", "\u00a0")).join(" \u00b7 ");
+  }
+
+  /** What was found, as it is announced. */
+  wordsOf(found) {
+    const refused = found.refusal && refusedWords(found.refusal);
+    return found.value ? verdictOf(found.value) : `No plan. ${refused.name}: ${refused.sentence}`;
+  }
+
+  drawRounds(prediction, kept) {
+    const others = kept.map(({ found }) => found.value ?? null);
+    this.kept = kept;
+    const reach = reachOf([prediction, ...others.filter(Boolean)], this.times.range);
+    this.figureAt(0).title.textContent = others.some(Boolean) ? "This plan" : "";
+    this.figureAt(0).draw(prediction, reach);
+    others.forEach((other, place) => {
+      const figure = this.figureAt(place + 1);
+      figure.whole.hidden = other === null;
+      if (other) {
+        figure.draw(other, reach);
+      }
+    });
+    this.figures.slice(others.length + 1).forEach((figure) => { figure.whole.hidden = true; });
+    byId("plans").dataset.plans = 1 + others.filter(Boolean).length;
+  }
+
+  figureAt(place) {
+    if (!this.figures[place]) {
+      const figure = new RoundsFigure(`kept-${place}`, `Kept plan ${place}`, this.times);
+      byId("plans").append(figure.whole);
+      watchWidths([figure.plot], this.changed);
+      this.figures[place] = figure;
+    }
+    this.figures[place].whole.hidden = false;
+    return this.figures[place];
+  }
+}

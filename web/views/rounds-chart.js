@@ -1,0 +1,135 @@
+// The picture of a plan: the pages of each round and its rate, the stop and the downtime, by the time since the start.
+
+import { area } from "./elements.js";
+import { counted, momentText, pagesText, timeText } from "../model/numbers.js";
+import { AXIS_HEIGHT, axisOf, axisLabels, barOf, frameOf, panelOf, pictureOf } from "./plot.js";
+import { reasonWords } from "../model/predictions.js";
+import { fewDigits, fewDigitsText, inFittingUnit, unitName } from "../model/quantities.js";
+import { microsOf, rateIn, RATE_UNITS } from "../model/units.js";
+
+const PAGES_TOP = 26;
+const PAGES_HEIGHT = 200;
+const RATES_TOP = 266;
+const RATES_HEIGHT = 84;
+
+/** A rate in pages per 1,000 ticks as a number of bytes a second. */
+function bytesASecond(scale, rate) {
+  const { bytes, seconds } = rateIn(scale, rate);
+  return Number(bytes) / Number(seconds);
+}
+
+/** The part of a range of ticks that lies in the time of a plan, in microseconds since its start; or all of that. */
+function stretchIn({ settings: { start }, scale }, range, micros) {
+  const since = (tick) => (tick - start) * Number(scale.tick);
+  const [first, last] = range ? [since(range.first), since(range.last)] : [0, micros];
+  return last <= 0 || first >= micros ? { first: 0, last: micros }
+    : { first: Math.max(0, first), last: Math.min(micros, last) };
+}
+
+/**
+ * What a picture of plans must reach: microseconds, pages, and bytes a second; and the unit of rates, in which the
+ * fastest link is said, of the family of the first plan's. Plans beside each other share one, whatever their ticks. Of
+ * the time only the part in a range of ticks is shown, by the first plan.
+ */
+export function reachOf(predictions, range) {
+  const reach = { micros: 1, pages: 1, rate: 1 };
+  for (const { plan, settings, scale } of predictions) {
+    reach.micros = Math.max(reach.micros, (plan.stop + plan.down - settings.start) * Number(scale.tick));
+    reach.pages = Math.max(reach.pages, ...plan.rounds.map((round) => Math.max(round.pages, round.dirtied)));
+    reach.rate = Math.max(reach.rate, bytesASecond(scale, settings.max));
+  }
+  const link = Math.max(...predictions.map(({ state }) => state.link.amount));
+  const { unit } = inFittingUnit(link, predictions[0].state.link.unit, RATE_UNITS);
+  const stretch = stretchIn(predictions[0], range, reach.micros);
+  return { ...reach, stretch, unit: { name: unitName(unit, RATE_UNITS), size: RATE_UNITS[unit] } };
+}
+
+/** The pages that are dirtied, as a mark over the bar of the round, with a halo that parts it from what it lies on. */
+function dirtiedParts(pages, round, left, width) {
+  const y = pages.level(round.dirtied);
+  return [area("halo", left, y - 3, Math.max(2, width), 6), area("dirtied", left, y - 1.5, Math.max(2, width), 3)];
+}
+
+/** When something is on the axis of a plan, in microseconds since its start. */
+function sinceStart({ settings, scale }, tick) {
+  return (tick - settings.start) * Number(scale.tick);
+}
+
+function roundParts(axis, pages, rates, round, prediction) {
+  const [left, right] = barOf(axis, sinceStart(prediction, round.from), sinceStart(prediction, round.to));
+  const width = right - left;
+  const skipped = round.pages - round.sent;
+  const rate = bytesASecond(prediction.scale, round.rate);
+  return [
+    area("sent", left, pages.level(round.sent), width, pages.rise(round.sent)),
+    area("skipped", left, pages.level(round.pages), width, Math.max(0, pages.rise(skipped) - 1)),
+    ...dirtiedParts(pages, round, left, width),
+    area("rate", left, rates.level(rate), width, rates.rise(rate)),
+  ];
+}
+
+/** Whether something from one tick to another is seen, at least in part. */
+function isIn(axis, prediction, from, to) {
+  return sinceStart(prediction, from) < axis.last && sinceStart(prediction, to) >= axis.first;
+}
+
+function stopParts(axis, panel, prediction) {
+  const { stop, down } = prediction.plan;
+  if (!isIn(axis, prediction, stop - 1, stop + down)) {
+    return [];
+  }
+  const [at, end] = [stop, stop + down].map((tick) => axis.place(sinceStart(prediction, tick)));
+  return [area("down", at, panel.top, end - at, panel.height), area("stop", at - 1, panel.top, 2, panel.height)];
+}
+
+/** The picture of a plan within a reach. */
+export function roundsPicture(width, prediction, reach) {
+  const { plan, settings, scale } = prediction;
+  const { unit } = reach;
+  const axis = axisOf(width, reach.stretch.first, reach.stretch.last);
+  const pages = panelOf(PAGES_TOP, PAGES_HEIGHT, reach.pages);
+  const rates = panelOf(RATES_TOP, RATES_HEIGHT, reach.rate);
+  const rateText = (rate) => String(fewDigits(rate / Number(unit.size)));
+  const parts = [
+    ...frameOf(axis, pages, scale.isSample ? "Sample pages of a round" : "Pages of a round"),
+    ...frameOf(axis, rates, `Rate of a round, in ${unit.name}`, rateText),
+    ...plan.rounds.filter(({ from, to }) => isIn(axis, prediction, from, to))
+      .flatMap((round) => roundParts(axis, pages, rates, round, prediction)),
+    area("link", axis.place(axis.first), rates.level(bytesASecond(scale, settings.max)) - 0.5, axis.room, 1),
+    ...stopParts(axis, pages, prediction), ...stopParts(axis, rates, prediction),
+    ...axisLabels(axis, 1, rates.bottom, "time since the start"),
+  ];
+  return { axis, panels: [pages, rates], picture: pictureOf(width, RATES_TOP + RATES_HEIGHT + AXIS_HEIGHT, parts) };
+}
+
+/** What a round has, in words; the item after the last round is the stop. */
+function wordsOf(prediction, unit, at) {
+  const { plan, settings, scale } = prediction;
+  const since = (tick) => momentText(microsOf(scale, tick - settings.start));
+  if (at === plan.rounds.length) {
+    return `Stop at ${since(plan.stop)}: ${reasonWords(prediction)}; ${pagesText(scale, plan.left)} left, `
+      + `sent in ${timeText(microsOf(scale, plan.down))}`;
+  }
+  const round = plan.rounds[at];
+  const { bytes, seconds } = rateIn(scale, round.rate);
+  const rate = fewDigitsText(bytes, seconds * unit.size);
+  return `Round ${at}, ${since(round.from)} to ${since(round.to)}, at ${rate} ${unit.name}: `
+    + `${pagesText(scale, round.pages)}, ${counted(round.sent)} sent, ${counted(round.dirtied)} dirtied meanwhile`;
+}
+
+/** How the rounds of a picture are looked at: those that are seen, and the stop. */
+export function roundsLook({ axis, panels }, prediction, { unit }) {
+  const { rounds, stop, down } = prediction.plan;
+  const since = (tick) => sinceStart(prediction, tick);
+  const all = [...rounds, { from: stop, to: stop + down }].map(({ from, to }, at) => ({ from, to, at }));
+  const seen = all.filter(({ from, to }) => isIn(axis, prediction, from, to));
+  return {
+    count: seen.length, panels,
+    find: (place) => {
+      const found = seen.findIndex(({ to }) => place <= axis.place(since(to)));
+      return found === -1 ? seen.length - 1 : found;
+    },
+    words: (item) => wordsOf(prediction, unit, seen[item].at),
+    span: (item) => [axis.place(since(seen[item].from)), axis.place(since(seen[item].to))],
+  };
+}

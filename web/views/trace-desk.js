@@ -1,0 +1,276 @@
+// The section of the trace: it opens files, traces with their records, and says what is open and what was not taken. A
+// file that is refused leaves what is open as it is.
+
+import { byId, html, renew } from "./elements.js";
+import { bytesText, counted, countOf, lengthText, unbroken } from "../model/numbers.js";
+import { refusalPart } from "./outcome.js";
+import { PlannerClient, WorkerEnded } from "../engine/planner-client.js";
+import { Refusal } from "../engine/planner.js";
+import { differencesFrom, MOST_RECORD_BYTES, recordIn, RecordRefusal } from "../model/record.js";
+import { exampleSource } from "../engine/trace-source.js";
+import { microsOf, scaleOf } from "../model/units.js";
+
+/** The size of pages that is not told, in bytes. */
+const PLAIN_PAGE = 4096;
+
+/** How many digits of a trace's SHA-256 the address has. */
+const PRINT_DIGITS = 12;
+
+function isRecord(file) {
+  return file.name.toLowerCase().endsWith(".json");
+}
+
+/** The name of a file, which may be written in another direction than what is round it. */
+function named(name) {
+  return html("bdi", {}, name);
+}
+
+/** Says which files were not opened. */
+function unopenedNotes(files) {
+  const names = files.flatMap(({ name }, place) => [...(place === 0 ? [] : [", "]), named(name)]);
+  return files.length === 0 ? [] : [html("p", {}, "Not opened: ", ...names, ". The page has one trace at a time.")];
+}
+
+/** A trace that is open in the planner's worker. `blob` has all of it that plans need. */
+class OpenTrace {
+  constructor(client, source, { sizes, digest }) {
+    this.client = client;
+    this.blob = client.blob;
+    this.source = source;
+    this.sizes = sizes;
+    this.digest = digest;
+    this.print = digest.slice(0, PRINT_DIGITS);
+    this.record = null;
+  }
+
+  /** The answer to a question about the trace, with the rounds of its plan. */
+  predict(question) {
+    return this.client.ask("predict", { question });
+  }
+
+  windows(settings) {
+    return this.client.ask("windows", { settings });
+  }
+
+  /** The answers to a question from each of some starts, and which are chosen; null if they were cancelled. */
+  starts(question, ticks, told) {
+    const questions = ticks.map((start) => ({ ...question, start }));
+    return this.client.ask("answers", { questions }, told);
+  }
+
+  cancelStarts() {
+    return this.client.ask("cancel", {});
+  }
+}
+
+/** `taken` is called with each trace that was opened, and with one whose record came later. */
+export class TraceDesk {
+  constructor(taken) {
+    this.taken = taken;
+    this.client = new PlannerClient("planner", (share) => this.reread(share));
+    this.trace = null;
+    this.loading = 0;
+    this.turn = Promise.resolve();
+    this.early = null;
+    this.said = null;
+    this.sources = new Map();
+    this.wanted = "Choose a trace, or an example.";
+    this.isSeen = true;
+    this.watchSight();
+  }
+
+  /** Says what is waited for while no trace is open. */
+  want(words) {
+    this.wanted = words;
+    byId("trace-state").textContent = words;
+  }
+
+  /** Takes files: the first that is a trace, and the record beside it. The others are named. */
+  async takeFiles(files, wish) {
+    const traces = files.filter((file) => !isRecord(file));
+    const [first, ...others] = files.filter(isRecord);
+    const record = first ? await this.textOf(first) : null;
+    const sources = traces.map((file) => ({
+      name: file.name, blob: file, example: null, record: record ?? this.early,
+    }));
+    if (sources.length > 0) {
+      await this.openFirst(sources, others, wish);
+    } else if (record) {
+      this.takeRecord(record, unopenedNotes(others));
+    }
+  }
+
+  async textOf(file) {
+    return { name: file.name, text: file.size > MOST_RECORD_BYTES ? null : await file.text() };
+  }
+
+  async takeExample(example, wish) {
+    await this.openFirst([await exampleSource(example)], [], wish);
+  }
+
+  /** Opens the trace of an address again, if it was open before on this page. */
+  async reopen(print, wish) {
+    const source = this.sources.get(print);
+    if (source) {
+      await this.openFirst([source], [], wish);
+    }
+    return source !== undefined;
+  }
+
+  /**
+   * Opens the first of some sources that is a trace, once those of the calls before are open or refused. `others` are
+   * files that are not opened, and `wish` goes to `taken`.
+   */
+  openFirst(sources, others, wish) {
+    this.loading += 1;
+    const { loading } = this;
+    const opened = this.turn.then(async () => {
+      const ending = await this.openInTurn(sources, others, wish);
+      if (loading === this.loading) {
+        this.busy(null);
+      }
+      performance.measure(ending, { start: 0, end: performance.now() });
+    });
+    this.turn = opened.catch(() => {});
+    return opened;
+  }
+
+  async openInTurn(sources, others, wish) {
+    const notes = [];
+    for (const [place, source] of sources.entries()) {
+      const refusal = await this.refusalOf(source);
+      if (refusal === null) {
+        this.note([...notes, ...this.recordNotes(source.record),
+          ...unopenedNotes([...sources.slice(place + 1), ...others])]);
+        this.taken(this.trace, wish);
+        return "opened";
+      }
+      notes.push(refusalPart(refusal, named(source.name), "is refused:"));
+    }
+    const open = this.trace ? [html("p", {}, named(this.trace.source.name), " is still open.")] : [];
+    this.note([...notes, ...open, ...unopenedNotes(others)]);
+    return "refused";
+  }
+
+  /** Opens a source, and returns why it is no trace, or null. One that is refused leaves what is open as it is. */
+  async refusalOf(source) {
+    this.busy("Reading ", named(source.name), " \u2026");
+    try {
+      const found = await this.client.open(source.blob, (share) => {
+        this.busy("Reading ", named(source.name), `: ${Math.floor(100 * share)} %`);
+      });
+      this.trace = new OpenTrace(this.client, source, found);
+      this.said = null;
+      this.sources.set(this.trace.print, source);
+      this.early = null;
+      return null;
+    } catch (error) {
+      if (!(error instanceof Refusal) && !(error instanceof WorkerEnded)) {
+        throw error;
+      }
+      return error;
+    }
+  }
+
+  /** Says how much of the open trace another worker has read, and with null that it has ended. */
+  reread(share) {
+    if (share === null) {
+      this.busy(null);
+    } else {
+      this.busy("The planner was started again, and reads ", named(this.trace.source.name),
+        `: ${Math.floor(100 * share)} %`);
+    }
+  }
+
+  /** Takes the record of the trace that is open, or of one that is still to come. */
+  takeRecord(record, notes) {
+    if (!this.trace) {
+      this.early = record;
+      this.note([html("p", {}, named(record.name), " is read once its trace is here."), ...notes]);
+      return;
+    }
+    const before = this.trace.record;
+    this.note([...this.recordNotes(record), ...notes]);
+    const isTaken = this.trace.record !== before;
+    if (isTaken) {
+      this.trace.source.record = record;
+      this.taken(this.trace, { isRecordOnly: true });
+    }
+    performance.measure(isTaken ? "opened" : "refused", { start: 0, end: performance.now() });
+  }
+
+  /** Reads a record for the open trace. Returns why it was refused, or what of it is unlikely. */
+  recordNotes(record) {
+    if (!record) {
+      return [];
+    }
+    try {
+      this.trace.record = recordIn(record.text, this.trace);
+      const { doubt } = this.trace.record;
+      return doubt ? [html("p", { class: "note" }, named(record.name), `: ${doubt}`)] : [];
+    } catch (error) {
+      if (!(error instanceof RecordRefusal)) {
+        throw error;
+      }
+      return [html("p", { class: "refusal" }, html("strong", {}, named(record.name), " is not used:"),
+        ` ${error.message}`)];
+    }
+  }
+
+  /** Says what is being done, or with null what is open. */
+  busy(...parts) {
+    const isBusy = parts[0] !== null;
+    byId("trace").setAttribute("aria-busy", String(isBusy));
+    if (isBusy) {
+      byId("trace-state").replaceChildren(...parts);
+    } else if (!this.trace) {
+      byId("trace-state").textContent = this.wanted;
+    } else if (this.said) {
+      this.tell(...this.said);
+    }
+  }
+
+  /** Says whether the settings are as the record says. */
+  recordParts(settings) {
+    const isUsed = differencesFrom(this.trace.record, settings).every((name) => name === "start");
+    return [isUsed ? ", as " : ", not as ", named(this.trace.source.record.name), " says"];
+  }
+
+  /** Says something beside what is open; where the section is out of sight, a copy says it where the user looks. */
+  note(parts) {
+    byId("trace-notes").replaceChildren(...parts);
+    byId("notice-words").replaceChildren(...parts.map((part) => part.cloneNode(true)));
+    byId("notice").hidden = parts.length === 0 || this.isSeen;
+  }
+
+  /** Learns whether the section is in sight: then what it says needs no copy. */
+  watchSight() {
+    new IntersectionObserver(([{ isIntersecting }]) => {
+      this.isSeen = isIntersecting;
+      byId("notice").hidden ||= isIntersecting;
+    }).observe(byId("trace"));
+    byId("close-notice").addEventListener("click", () => {
+      byId("notice").hidden = true;
+    });
+  }
+
+  /** Says what is open, in the units of the settings; `problem` is said beside it. */
+  tell(settings, problem) {
+    this.said = [settings, problem];
+    if (byId("trace").getAttribute("aria-busy") === "true") {
+      return;
+    }
+    const { sizes, source } = this.trace;
+    const { pages, pageBytes, writes, last } = sizes;
+    const scale = scaleOf(settings, sizes);
+    const size = pageBytes === PLAIN_PAGE ? "" : ` of ${unbroken(`${pageBytes} bytes`)}`;
+    const whole = scale.isSample ? ` sampled of ${counted(scale.guest)}` : "";
+    const bytes = unbroken(bytesText(scale.guest * scale.page));
+    const record = this.trace.record ? this.recordParts(settings) : [];
+    renew(byId("trace-state"), named(source.name), `: ${countOf(pages, "page")}${size}${whole} (${bytes}); `
+      + `${countOf(writes, "write")} in ${lengthText(microsOf(scale, last))}`, ...record,
+      source.example ? "; an example" : "");
+    byId("trace-other").textContent = problem;
+    byId("trace-other").hidden = problem === "";
+  }
+}

@@ -1,0 +1,120 @@
+// The section of the working set: its picture, in which a stretch of time can be taken nearer, and its table.
+
+import { byId, svg } from "./elements.js";
+import { saveButtons } from "./exports.js";
+import { Inspector } from "./inspector.js";
+import { momentText } from "../model/numbers.js";
+import { widthOf } from "./plot.js";
+import { windowsFile, windowsTable } from "./tables.js";
+import { amountOf, microsOf } from "../model/units.js";
+import { drawnAt, planMarks, traceAxis, windowParts, windowsPicture, windowWords } from "./windows-chart.js";
+
+/** Settings in range, for a call that uses only the length of a window. */
+const PLAIN = { min: 1, max: 1, increment: 0, threshold: 1, rounds: 1, start: 0, base: null, skip: false };
+
+export class WindowsView {
+  /** `choose` takes a start, and `times` has the stretch of time that is shown. */
+  constructor(choose, times) {
+    this.times = times;
+    this.plot = byId("windows-plot");
+    this.details = byId("windows-details");
+    this.inspector = new Inspector(this.plot, byId("windows-readout"), "Windows", byId("windows-take"));
+    this.choose = choose;
+    this.counted = {};
+    this.held = {};
+    this.filled = {};
+    this.axis = null;
+    this.details.addEventListener("toggle", () => this.fill());
+    byId("zoom-out").after(saveButtons("working-set", "the working set", {
+      picture: () => this.plot.querySelector("svg"),
+      table: () => this.counted.windows && this.file(),
+    }));
+    byId("zoom-out").addEventListener("click", () => this.times.zoom(null));
+    byId("zoom-plan").addEventListener("click", () => this.zoomToPlan());
+    times.add(this.plot, this.inspector, () => this.axis && { axis: this.axis, from: 0, ticks: 1 });
+  }
+
+  /** Counts the windows of a trace, if the trace or their length is another one. */
+  async count(trace, { window: length, sample }) {
+    const { counted } = this;
+    if (counted.trace !== trace || counted.length !== length) {
+      const windows = await trace.windows({ ...PLAIN, window: length });
+      this.counted = { trace, length, windows };
+    }
+    this.isSample = sample !== null && sample.whole > sample.part;
+  }
+
+  /** The picture, drawn again only if something of the bars has changed; the marks in it are of a prediction. */
+  partsOf(settings) {
+    const { trace, windows, length } = this.counted;
+    const width = widthOf(this.plot);
+    const tick = settings.tick.amount || 1;
+    const key = JSON.stringify([width, tick, this.times.range, this.isSample]);
+    if (this.held.windows !== windows || this.held.key !== key) {
+      const axis = traceAxis(width, trace.sizes, length, this.times.range);
+      const { panel, drawn, parts, above } = windowParts(axis, windows, length, { tick, isSample: this.isSample });
+      const marks = svg("g");
+      this.held = { windows, key, axis, panel, marks, tick };
+      this.plot.replaceChildren(windowsPicture(width, [...parts, marks, ...above]));
+      this.inspector.hold(this.lookAt({ axis, panel, drawn }, windows, settings));
+    }
+    return this.held;
+  }
+
+  /** Draws the windows that were counted, and on them a prediction if there is one. The table is filled apart. */
+  draw(settings, prediction) {
+    if (!this.counted.windows) {
+      return;
+    }
+    this.prediction = prediction;
+    const { axis, panel, marks } = this.partsOf(settings);
+    marks.replaceChildren(...(prediction ? planMarks(axis, panel, prediction.settings, prediction.plan) : []));
+    byId("zoom-out").disabled = this.times.range === null;
+    byId("zoom-plan").disabled = !prediction;
+    byId("base-key").hidden = settings.base === null;
+    this.axis = axis;
+  }
+
+  lookAt({ axis, panel, drawn }, windows, settings) {
+    const { length } = this.counted;
+    const scale = { tick: amountOf(settings.tick), isSample: this.isSample };
+    const tickOf = (at) => Math.max(axis.first, windows.number[drawn[at].row] * length);
+    return {
+      count: drawn.length, panels: [panel],
+      find: (place) => drawnAt(drawn, place),
+      words: (at) => windowWords(windows, drawn[at].row, length, scale),
+      span: (at) => [drawn[at].left, drawn[at].right],
+      choose: (at, place) => this.times.isBrushed || this.choose(place === undefined ? tickOf(at) : axis.tickAt(place)),
+      offer: (at) => `Start at ${momentText(microsOf(scale, tickOf(at)))}`,
+      none: "The trace writes no page in this stretch of time.",
+    };
+  }
+
+  /** Shows the migration, with half of its length on both sides. */
+  zoomToPlan() {
+    const { settings, plan } = this.prediction;
+    const end = plan.stop + plan.down;
+    const room = Math.max(1, (end - settings.start) / 2);
+    this.times.zoom({ first: settings.start - room, last: end + room });
+  }
+
+  /** The windows as a file, with times by the tick that is drawn. */
+  file() {
+    const { windows, length } = this.counted;
+    return windowsFile(windows, length, { tick: BigInt(this.held.tick) });
+  }
+
+  /** Fills the table, if it is open and has to say something else. */
+  fill() {
+    const { windows, length } = this.counted;
+    if (!this.details.open || !windows) {
+      return;
+    }
+    const { tick } = this.held;
+    const { filled, isSample } = this;
+    if (filled.windows !== windows || filled.tick !== tick || filled.isSample !== isSample) {
+      this.filled = { windows, tick, isSample };
+      byId("windows-table").replaceChildren(windowsTable(windows, length, { tick: BigInt(tick), isSample }));
+    }
+  }
+}
