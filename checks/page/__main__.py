@@ -29,7 +29,6 @@ import json
 import os
 import random
 import re
-import shutil
 import subprocess
 import sys
 import tempfile
@@ -80,24 +79,49 @@ def check_sizes(tally, folder, module, page):
 
 def node_settings(asked):
     least, most, increment, threshold = asked.settings()
-    return {"min": least, "max": most, "increment": increment, "threshold": threshold, "rounds": asked.rounds,
-            "start": asked.start, "window": asked.window, "base": asked.base, "skip": bool(asked.skip)}
+    return {
+        "min": least,
+        "max": most,
+        "increment": increment,
+        "threshold": threshold,
+        "rounds": asked.rounds,
+        "start": asked.start,
+        "window": asked.window,
+        "base": asked.base,
+        "skip": bool(asked.skip),
+    }
 
 
 def node_question(asked):
     link, first, downtime, reserve = asked.limits()
-    return {"link": link, "first": first, "downtime": downtime, "reserve": reserve, "tick": asked.tick,
-            "page": asked.page, "sampled": asked.sampled, "guest": asked.guest, "increment": asked.settings()[2],
-            "rounds": asked.rounds, "start": asked.start, "base": asked.base, "skip": bool(asked.skip)}
+    return {
+        "link": link,
+        "first": first,
+        "downtime": downtime,
+        "reserve": reserve,
+        "tick": asked.tick,
+        "page": asked.page,
+        "sampled": asked.sampled,
+        "guest": asked.guest,
+        "increment": asked.settings()[2],
+        "rounds": asked.rounds,
+        "start": asked.start,
+        "base": asked.base,
+        "skip": bool(asked.skip),
+    }
 
 
 def node_facts(asked, report):
     """What the module has to answer, by the lines of a report."""
     figures = cases.figures(asked, report)
-    return {"windows": [list(row.values()) for row in report["windows"]],
-            "rounds": [list(row.values())[1:] for row in report["rounds"]], "stop": list(report["stop"].values()),
-            "settings": list(asked.settings()), "isSame": True,
-            "answer": [str(figures[name]) for name in ("time", "sent", "down", "recorded", "kept", "converges")]}
+    return {
+        "windows": [list(row.values()) for row in report["windows"]],
+        "rounds": [list(row.values())[1:] for row in report["rounds"]],
+        "stop": list(report["stop"].values()),
+        "settings": list(asked.settings()),
+        "isSame": True,
+        "answer": [str(figures[name]) for name in ("time", "sent", "down", "recorded", "kept", "converges")],
+    }
 
 
 def check_quantities(tally, command, web):
@@ -123,8 +147,10 @@ def check_modules(tally, command):
     words = [*command, "--no-warnings", "--test", "--test-reporter=tap", os.path.join(TOP, "checks", "page", "modules")]
     ran = subprocess.run(words, capture_output=True, text=True, check=False)
     results = re.findall(r"^(not ok|ok) \d+ - (.*)$", ran.stdout, re.M)
-    tally.add(results and (ran.returncode == 0) == all(result == "ok" for result, _ in results),
-              f"{len(results)} tests of modules: {ran.stdout[-300:]}{ran.stderr[-300:]}")
+    tally.add(
+        results and (ran.returncode == 0) == all(result == "ok" for result, _ in results),
+        f"{len(results)} tests of modules: {ran.stdout[-300:]}{ran.stderr[-300:]}",
+    )
     for result, name in results:
         tally.add(result == "ok", f"the modules: {name}")
 
@@ -212,8 +238,10 @@ def check_starts(page, precopy, name, seed):
     done = "!document.getElementById('starts-answer').hidden && document.getElementById('starts-progress').hidden"
     page.browser.wait(done)
     page.browser.wait("isTold('starts-choice')")
-    found = page.browser.value("[...document.querySelectorAll('#starts-choice p:not(#saving, .hint)')]"
-                               ".map((line) => line.textContent.replaceAll('\\u00a0', ' '))")
+    found = page.browser.value(
+        "[...document.querySelectorAll('#starts-choice p:not(#saving, .hint)')]"
+        ".map((line) => line.textContent.replaceAll('\\u00a0', ' '))"
+    )
     costs = []
     for start in ticks:
         base = [] if asked.base is None else [f"--base={asked.base}"]
@@ -224,8 +252,10 @@ def check_starts(page, precopy, name, seed):
     for title, choice in (("Best", min), ("Worst", max)) if costs else ():
         _, (time, sent, down, is_kept), start = choice(costs, key=lambda cost: cost[0])
         chosen.append(start)
-        cost = (f"time {time_text(time)}, sent {size_text(sent)}, "
-                f"downtime {time_text(down)}, {'kept' if is_kept else 'not kept'}")
+        cost = (
+            f"time {time_text(time)}, sent {size_text(sent)}, "
+            f"downtime {time_text(down)}, {'kept' if is_kept else 'not kept'}"
+        )
         place = moment_text(start * asked.tick) + (f", tick {start:,}" if asked.ticks else "")
         wanted.append(f"{title} start: {place}: {cost}")
     if len(set(chosen)) == 1:
@@ -275,29 +305,34 @@ def check_damages(tally, page, folder):
             file.write(text)
         said = page.load(path)
         sentence = said.partition(f"damaged.pcwt is refused: {name} ")[2]
-        tally.add(len(sentence) > 10 and "mid.light.pcwt is still open." in said and page.shown() == before,
-                  f"{name}: {said!r}")
+        tally.add(
+            len(sentence) > 10 and "mid.light.pcwt is still open." in said and page.shown() == before,
+            f"{name}: {said!r}",
+        )
 
 
 def check_no_memory(page):
     """No memory to lend, and a file that cannot be read, are refused in a sentence."""
-    codes = {"E16": "WebAssembly.Memory.prototype.grow = () => { throw new RangeError('no'); };",
-             "E17": "Blob.prototype.stream = () => { throw new Error('gone'); };"}
+    codes = {
+        "E16": "WebAssembly.Memory.prototype.grow = () => { throw new RangeError('no'); };",
+        "E17": "Blob.prototype.stream = () => { throw new Error('gone'); };",
+    }
     for name, code in codes.items():
         page.open()
         page.wait_for_plan()
         # The next worker begins with this.
-        page.browser.value(f"""(() => {{
+        page.browser.value(
+            f"""(() => {{
           const Made = Blob;
           Blob = function (parts, kind) {{
             return new Made(kind?.type === "text/javascript" ? [{json.dumps(code)}, ...parts] : parts, kind);
           }};
-        }})()""")
+        }})()"""
+        )
         worker.end_worker(page)
         said = page.load(cases.example("guests/mid.light.pcwt"))
         if f"is refused: {name} " not in said:
             raise Failure(f"{said!r} in place of {name}")
-
 
 
 # ---- All of it.

@@ -5,8 +5,18 @@ import json
 from checks.lib.view_texts import Failure
 from checks.view.limit_cases import RATES
 
-PLAIN = {"trace": "sqlite", "link": "1Gbit", "downtime": "300ms", "first": "10", "reserve": "0ms", "start": "1000",
-         "rounds": "30", "tick": "1ms", "base": "none", "window": "500"}
+PLAIN = {
+    "trace": "sqlite",
+    "link": "1Gbit",
+    "downtime": "300ms",
+    "first": "10",
+    "reserve": "0ms",
+    "start": "1000",
+    "rounds": "30",
+    "tick": "1ms",
+    "base": "none",
+    "window": "500",
+}
 
 
 def read(path):
@@ -26,8 +36,10 @@ def asked(page, **more):
 
 def typed(page, name, text):
     """Types into a field, and returns what the page shows then."""
-    return page.after(f"const field = document.getElementById('control-{name}'); field.value = {json.dumps(text)};"
-                      "field.dispatchEvent(new Event('input'));")
+    return page.after(
+        f"const field = document.getElementById('control-{name}'); field.value = {json.dumps(text)};"
+        "field.dispatchEvent(new Event('input'));"
+    )
 
 
 def spelled(amount, unit):

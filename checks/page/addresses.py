@@ -6,15 +6,49 @@ import urllib.parse
 from checks.page.acts import require
 from checks.page.cases import example
 
-PROTOTYPES = ["constructor", "__proto__", "prototype", "toString", "valueOf", "hasOwnProperty", "isPrototypeOf",
-              "__defineGetter__"]
-KEYS = ["link", "first", "increase", "downtime", "reserve", "start", "rounds", "skip", "base", "tick", "sample",
-        "window", "ticks"]
+PROTOTYPES = [
+    "constructor",
+    "__proto__",
+    "prototype",
+    "toString",
+    "valueOf",
+    "hasOwnProperty",
+    "isPrototypeOf",
+    "__defineGetter__",
+]
+KEYS = [
+    "link",
+    "first",
+    "increase",
+    "downtime",
+    "reserve",
+    "start",
+    "rounds",
+    "skip",
+    "base",
+    "tick",
+    "sample",
+    "window",
+    "ticks",
+]
 UNITS = {"link": "Gbit", "downtime": "s", "reserve": "ms", "tick": "us"}
 ODD = ["", "-1", "1e9", "NaN", "0x10", "%", "%00", "%F0%9F%98%80", "1" * 400, "<script>", "null", "1/0", "0/1", "0/0"]
-OTHERS = ["trace=constructor", "trace=__proto__", "of=constructor", "of=" + "0" * 12, "kept", "kept=", "&&&&", "=",
-          "kept=skip%3Dconstructor", "kept=__proto__%3D1", "kept=link%3D0Kbit&kept=rounds%3D99&kept=sample%3D1%2F0",
-          "hasOwnProperty=1", "constructor=1&__proto__=1&toString=1", "link=1Gbit&link=__proto__&link=2Gbit"]
+OTHERS = [
+    "trace=constructor",
+    "trace=__proto__",
+    "of=constructor",
+    "of=" + "0" * 12,
+    "kept",
+    "kept=",
+    "&&&&",
+    "=",
+    "kept=skip%3Dconstructor",
+    "kept=__proto__%3D1",
+    "kept=link%3D0Kbit&kept=rounds%3D99&kept=sample%3D1%2F0",
+    "hasOwnProperty=1",
+    "constructor=1&__proto__=1&toString=1",
+    "link=1Gbit&link=__proto__&link=2Gbit",
+]
 FRESH_EVERY = 10
 
 

@@ -39,8 +39,10 @@ def check_first_look(page):
     page.wait_for_plan()
     page.rest()
     words, (top, is_whole, size, line) = page.browser.value(WORDS), page.browser.value(FIRST)
-    bar = page.browser.value("[...document.querySelectorAll('#limit-bar text')].map((text) => text.textContent"
-                             ".replaceAll('\\u00a0', ' '))")
+    bar = page.browser.value(
+        "[...document.querySelectorAll('#limit-bar text')].map((text) => text.textContent"
+        ".replaceAll('\\u00a0', ' '))"
+    )
     state = page.browser.value("document.getElementById('trace-state').getClientRects()[0].height")
     page.browser.dress(1400, 900)
     require(len(words) <= MOST_WORDS, f"{len(words)} words above the fold: {' '.join(words)}")
@@ -62,8 +64,12 @@ def check_past(page):
         typed(page, "rounds", rounds)
         page.browser.wait(f"location.hash.includes('rounds={rounds}&')", 5)
     value = "document.getElementById('control-rounds').value"
-    for button, wanted, disabled in (("undo", "7", ["false", "false"]), ("undo", "30", ["true", "false"]),
-                                     ("redo", "7", ["false", "false"]), ("redo", "8", ["false", "true"])):
+    for button, wanted, disabled in (
+        ("undo", "7", ["false", "false"]),
+        ("undo", "30", ["true", "false"]),
+        ("redo", "7", ["false", "false"]),
+        ("redo", "8", ["false", "true"]),
+    ):
         page.after(f"document.getElementById('{button}').focus(); document.getElementById('{button}').click()")
         require(page.browser.value(value) == wanted, f"{button}: {page.browser.value(value)} in place of {wanted}")
         require(page.browser.value(states) == disabled, f"after {button}: {page.browser.value(states)}")

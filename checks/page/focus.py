@@ -48,13 +48,15 @@ def check_focus(page):
     typed(page, "rounds", "99")
     pressed(page, "#fit")
     require_focus(page, "outcome", "Fit all")
-    page.after("""
+    page.after(
+        """
       const plot = document.getElementById("windows-plot");
       plot.focus();
       for (const key of ["End", "Enter"]) {
         plot.dispatchEvent(new KeyboardEvent("keydown", { key, bubbles: true }));
       }
-    """)
+    """
+    )
     pressed(page, "#undo-start")
     require_focus(page, "windows-plot", "Undo")
 
@@ -63,10 +65,12 @@ def check_commands(page):
     """A key with Ctrl is the browser's: it zooms the page, and no picture with it."""
     asked(page)
     page.browser.value("document.getElementById('zoom-out').click()")
-    sent = page.browser.value("""["ctrlKey", "metaKey", "altKey"].flatMap((other) =>
+    sent = page.browser.value(
+        """["ctrlKey", "metaKey", "altKey"].flatMap((other) =>
       ["+", "-", "ArrowLeft", "0"].filter((key) =>
         !document.getElementById("windows-plot").dispatchEvent(new KeyboardEvent("keydown",
-          { key, bubbles: true, cancelable: true, [other]: true }))))""")
+          { key, bubbles: true, cancelable: true, [other]: true }))))"""
+    )
     require(not sent, f"keys that the page takes from the browser: {sent}")
     require(page.browser.value("document.getElementById('zoom-out').disabled"), "a picture was zoomed with the page")
 

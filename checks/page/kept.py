@@ -44,8 +44,10 @@ def check_second_trace(page):
     require(heads == ["This plan", "Kept plan 1 Drop sqlite.light.pcwt"], f"heads: {heads}")
     limits = page.browser.value("['link', 'downtime'].map((name) => document.getElementById(`control-${name}`).value)")
     require(limits == ["64", "300"], f"the limits are {limits}, and were 64 MiB/s and 300 ms")
-    numbers = page.browser.value("[...document.querySelectorAll('#comparison tbody tr')].map((row) =>"
-                                 "row.children[2].querySelector('b').textContent)")
+    numbers = page.browser.value(
+        "[...document.querySelectorAll('#comparison tbody tr')].map((row) =>"
+        "row.children[2].querySelector('b').textContent)"
+    )
     require(numbers == [words for words, _ in before.values()], f"{numbers} in place of {before}")
     require(page.shown()["comparison"] != before, "the plan over another trace is the same")
     page.after("document.getElementById('keep').click()")

@@ -41,12 +41,14 @@ def check_limits(page):
 
 
 # Plans that end after their trace, and what leads to one that does not.
-LATE_PLANS = [("trace=sqlite&link=8Mbit&downtime=300ms&start=1000", ["link"]),
-              ("trace=sqlite&link=64MiB&first=50&start=30000", ["link", "start"]),
-              ("trace=gzip&link=8MiB&downtime=4ms&start=999999", ["start"]),
-              ("trace=gzip&link=40Kbit&first=100&downtime=4ms", ["link"]),
-              # Of the faster links many move more pages in the limit than there may be.
-              ("trace=gzip&link=40Kbit&first=100&downtime=60s&reserve=59s", ["link"])]
+LATE_PLANS = [
+    ("trace=sqlite&link=8Mbit&downtime=300ms&start=1000", ["link"]),
+    ("trace=sqlite&link=64MiB&first=50&start=30000", ["link", "start"]),
+    ("trace=gzip&link=8MiB&downtime=4ms&start=999999", ["start"]),
+    ("trace=gzip&link=40Kbit&first=100&downtime=4ms", ["link"]),
+    # Of the faster links many move more pages in the limit than there may be.
+    ("trace=gzip&link=40Kbit&first=100&downtime=60s&reserve=59s", ["link"]),
+]
 
 
 def check_ways(page):
@@ -75,8 +77,10 @@ def check_links(page):
     fragment = "trace=sqlite&first=50&downtime=300ms&start=1000&link="
     page.ask(f"{fragment}64MiB")
     page.rest()
-    marks = page.browser.value("['known', 'limit', 'stop', 'late'].map((name) => document.querySelectorAll("
-                               "`#links-plot svg .${name}`).length)")
+    marks = page.browser.value(
+        "['known', 'limit', 'stop', 'late'].map((name) => document.querySelectorAll("
+        "`#links-plot svg .${name}`).length)"
+    )
     require(min(marks) > 0, f"curves, limit, this plan, and what is unknown: {marks}")
     head, *lines = saves.saved_files(page, None)["links.csv"].decode().splitlines()
     rows = [dict(zip(head.split(","), line.split(","))) for line in lines]
@@ -91,12 +95,14 @@ def check_links(page):
             require(found["comparison"][name][0] == time_text(int(row[key])), f"{row}: {found['comparison'][name]}")
     page.ask(f"{fragment}64MiB")
     page.rest()
-    found = page.after("""
+    found = page.after(
+        """
       const plot = document.getElementById("links-plot");
       plot.focus();
       for (const key of ["End", "Enter"]) {
         plot.dispatchEvent(new KeyboardEvent("keydown", { key, bubbles: true }));
-      }""")
+      }"""
+    )
     require("--link 512MiB" in found["predict"], f"the last link is not taken: {found['predict']}")
 
 
@@ -105,8 +111,11 @@ def check_doubtful(page):
     for limit, is_doubtful in (("300ms", True), ("2s", False)):
         page.ask(f"trace=sqlite&link=64MiB&first=50&downtime={limit}&start=1000")
         page.browser.value("document.getElementById('ask').click()")
-        page.browser.wait("!document.getElementById('starts-answer').hidden && "
-                          "document.getElementById('starts-progress').hidden && isTold('starts-choice')", 20)
+        page.browser.wait(
+            "!document.getElementById('starts-answer').hidden && "
+            "document.getElementById('starts-progress').hidden && isTold('starts-choice')",
+            20,
+        )
         said = page.browser.value("textOf('starts-choice')").replace("\u00a0", " ")
         found = re.search(r"Best start: .*? downtime ([\d.]+ m?s) \u00b1 ([\d.]+ m?s), kept", said)
         require(found, f"{limit}: {said}")

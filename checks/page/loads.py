@@ -104,19 +104,23 @@ def require_free(page, words, act):
 
 
 def change(page, name, text):
-    page.after(f"const field = document.getElementById('control-{name}'); field.value = '{text}';"
-               "field.dispatchEvent(new Event('input'))")
+    page.after(
+        f"const field = document.getElementById('control-{name}'); field.value = '{text}';"
+        "field.dispatchEvent(new Event('input'))"
+    )
 
 
 def plan_starts(page):
     page.browser.value("document.getElementById('ask').click()")
-    page.browser.wait("!document.getElementById('starts-answer').hidden && "
-                      "document.getElementById('starts-progress').hidden", 120)
+    page.browser.wait(
+        "!document.getElementById('starts-answer').hidden && " "document.getElementById('starts-progress').hidden", 120
+    )
 
 
 def cancel_starts(page):
     """Begins to plan starts, and cancels that. Returns in how many seconds the page can be asked again."""
-    return page.browser.value("""(async () => {
+    return page.browser.value(
+        """(async () => {
       const button = document.getElementById("ask");
       button.click();
       const progress = document.getElementById("starts-progress");
@@ -128,7 +132,8 @@ def cancel_starts(page):
         document.getElementById("control-rounds").dispatchEvent(new Event("input"));
       });
       return (performance.now() - begun) / 1000;
-    })()""")
+    })()"""
+    )
 
 
 # ---- The trials.
@@ -168,8 +173,10 @@ def speed_over(page, folder, length):
     times, plans = page.browser.value("times"), page.browser.value("plans")
     each = (processor_millis(page) - before) / len(times)
     middle, plan = statistics.median(times), statistics.median(plans)
-    print(f"  a change takes {middle:.1f} ms in the middle, {plan:.1f} of it for the plan, {max(times):.1f} at most, "
-          f"and {each:.1f} ms of the page's thread")
+    print(
+        f"  a change takes {middle:.1f} ms in the middle, {plan:.1f} of it for the plan, {max(times):.1f} at most, "
+        f"and {each:.1f} ms of the page's thread"
+    )
     if min(middle, each) > MOST_MILLIS:
         raise Failure(f"a change takes {middle:.1f} ms, and {each:.1f} ms of a processor")
     seconds = cancel_starts(page)
@@ -192,8 +199,10 @@ def check_late(page, folder):
     middle = statistics.median(page.browser.value("times"))
     page.rest()
     planned, errors, enough, is_before = page.browser.value(LATE)
-    print(f"  a change takes {middle:.1f} ms in the middle; after one the plan is drawn in {planned:.0f} ms, its "
-          f"errors in {errors:.0f} ms, and what is enough in {enough:.0f} ms; {more_memory() / 1e6:.0f} MB")
+    print(
+        f"  a change takes {middle:.1f} ms in the middle; after one the plan is drawn in {planned:.0f} ms, its "
+        f"errors in {errors:.0f} ms, and what is enough in {enough:.0f} ms; {more_memory() / 1e6:.0f} MB"
+    )
     if not is_before or "\u00b1 " not in page.shown()["comparison"]["time"][1]:
         raise Failure("the plan waits for its errors, or has none")
     if more_memory() > MOST_MEMORY:
@@ -241,21 +250,36 @@ def check_many_windows(page, folder):
     page.wait_for_plan()
     page.load(path)
     require_free(page, "2^20 windows", lambda: (change(page, "window", "2 ticks"), change(page, "window", "1 tick")))
-    bars, room = page.browser.value("""(() => {
+    bars, room = page.browser.value(
+        """(() => {
       const lefts = [...document.querySelectorAll("#windows-plot path")].flatMap((path) =>
         [...path.getAttribute("d").matchAll(/M([\\d.]+) /g)].map(([, left]) => Math.floor(left)));
       return [new Set(lefts).size, document.querySelector("#windows-plot svg").clientWidth - 76];
-    })()""")
+    })()"""
+    )
     if not 0.9 * room < bars <= room + 1:
         raise Failure(f"{bars} bars in {room} pixels for 2^20 windows")
-    require_free(page, "their table", lambda: page.browser.value(
-        "document.getElementById('windows-details').open = true; new Promise((resume) => setTimeout(resume, 300))"))
-    require_free(page, "2^20 windows and their table", lambda: (change(page, "window", "2 ticks"),
-                                                                change(page, "window", "1 tick")))
+    require_free(
+        page,
+        "their table",
+        lambda: page.browser.value(
+            "document.getElementById('windows-details').open = true; new Promise((resume) => setTimeout(resume, 300))"
+        ),
+    )
+    require_free(
+        page,
+        "2^20 windows and their table",
+        lambda: (change(page, "window", "2 ticks"), change(page, "window", "1 tick")),
+    )
     page.browser.value("document.getElementById('windows-details').open = false")
-    require_free(page, "2^20 windows, taken nearer", lambda: page.browser.value(
-        "document.getElementById('zoom-plan').click()"))
-    require_free(page, "2^20 windows as CSV", lambda: page.browser.value("""(async () => {
+    require_free(
+        page, "2^20 windows, taken nearer", lambda: page.browser.value("document.getElementById('zoom-plan').click()")
+    )
+    require_free(
+        page,
+        "2^20 windows as CSV",
+        lambda: page.browser.value(
+            """(async () => {
       const made = URL.createObjectURL;
       HTMLAnchorElement.prototype.click = () => {};
       const saved = new Promise((resolve) => {
@@ -263,14 +287,19 @@ def check_many_windows(page, folder):
       });
       [...document.querySelectorAll("#windows .saves button")].at(-1).click();
       window.saved = await saved;
-    })()"""))
+    })()"""
+        ),
+    )
     lines = page.browser.value("saved.text().then((text) => text.split('\\n').length)")
     if lines != (1 << 20) + 2:
         raise Failure(f"the file of 2^20 windows has {lines:,} lines")
 
 
 def check_loads(tally, page, folder):
-    for words, check in (("2^20 writes", check_speed), ("what takes long", check_late),
-                         ("2^20 windows", check_many_windows),
-                         ("a trace of 2^28 bytes", check_long)):
+    for words, check in (
+        ("2^20 writes", check_speed),
+        ("what takes long", check_late),
+        ("2^20 windows", check_many_windows),
+        ("a trace of 2^28 bytes", check_long),
+    ):
         tried(tally, words, check, page, folder)

@@ -7,7 +7,8 @@ def check_looking(page):
     """The item at the cursor is told beside it. A stretch that is drawn over is taken nearer, and takes no start."""
     asked(page)
     start = page.browser.value("ticksOf('start')")
-    tip = page.browser.value("""(() => {
+    tip = page.browser.value(
+        """(() => {
       const plot = document.getElementById("windows-plot");
       const box = plot.getBoundingClientRect();
       const send = (to, kind, share) => to.dispatchEvent(new PointerEvent(kind, { pointerType: "mouse", bubbles: true,
@@ -19,18 +20,23 @@ def check_looking(page):
       send(window, "pointerup", 0.5);
       send(plot, "click", 0.5);
       return tip;
-    })()""")
+    })()"""
+    )
     require(tip.startswith("Window 18, 9.000 s to 9.500 s: "), f"at a quarter of 37.5 s: {tip}")
-    labels = page.browser.value("[...document.querySelectorAll('#windows-plot text.middle:not(.title)')]"
-                                ".map((text) => parseFloat(text.textContent))")
+    labels = page.browser.value(
+        "[...document.querySelectorAll('#windows-plot text.middle:not(.title)')]"
+        ".map((text) => parseFloat(text.textContent))"
+    )
     require(len(labels) > 3 and 9 <= min(labels) and max(labels) <= 19, f"of 9.4 to 18.8 s: {labels}")
     require(page.browser.value("ticksOf('start')") == start, "the brush takes a start")
-    page.browser.value("""(() => {
+    page.browser.value(
+        """(() => {
       const plot = document.getElementById("rounds-plot-this");
       const box = plot.getBoundingClientRect();
       plot.dispatchEvent(new PointerEvent("click", { pointerType: "touch", bubbles: true, clientX: box.left + 70,
         clientY: box.top + 60 }));
-    })()""")
+    })()"""
+    )
     said = page.browser.value("textOf('plan-this')")
     require("Round 0, 0.000 s to " in said, f"a finger on a round reads nothing: {said}")
     page.browser.value("document.getElementById('zoom-out').click()")
@@ -57,8 +63,10 @@ def check_together(page):
     """A moment that is pointed at in a picture is marked in the others; a stretch taken nearer in one is in all."""
     page.ask("trace=sqlite&link=64MiB&first=50&downtime=300ms&start=1000&window=500")
     page.browser.value("document.getElementById('zoom-out').click(); document.getElementById('ask').click()")
-    page.browser.wait("document.querySelector('#starts-plot svg') !== null && "
-                      "document.getElementById('starts-progress').hidden", 20)
+    page.browser.wait(
+        "document.querySelector('#starts-plot svg') !== null && " "document.getElementById('starts-progress').hidden",
+        20,
+    )
     page.rest()
     # The plan takes 19.297 s from 1 s on, and the windows end at 37.5 s.
     found = page.browser.value(f"{POINTED}('rounds-plot-this', 0.5, ['pointermove'])")
@@ -71,11 +79,18 @@ def check_together(page):
     page.browser.value(f"{POINTED}('rounds-plot-this', 0.4, ['pointerdown', 'pointermove', 'pointerup'])")
     page.rest()
     begin, end = 0.4 * 19.297, 0.6 * 19.297
-    for name, first, last in (("rounds-plot-this", begin, end), ("windows-plot", begin + 1, end + 1),
-                              ("starts-plot", begin + 1, end + 1)):
+    for name, first, last in (
+        ("rounds-plot-this", begin, end),
+        ("windows-plot", begin + 1, end + 1),
+        ("starts-plot", begin + 1, end + 1),
+    ):
         labels = page.browser.value(f"{LABELS}('{name}')")
-        require(len(labels) > 2 and min(labels) >= first - 0.1 and max(labels) <= last + 0.1,
-                f"{name} shows {labels} in place of {first:.1f} to {last:.1f} s")
-    page.browser.value("document.getElementById('rounds-plot-this').dispatchEvent(new KeyboardEvent('keydown', "
-                       "{ key: '0', bubbles: true }))")
+        require(
+            len(labels) > 2 and min(labels) >= first - 0.1 and max(labels) <= last + 0.1,
+            f"{name} shows {labels} in place of {first:.1f} to {last:.1f} s",
+        )
+    page.browser.value(
+        "document.getElementById('rounds-plot-this').dispatchEvent(new KeyboardEvent('keydown', "
+        "{ key: '0', bubbles: true }))"
+    )
     require(page.browser.value("document.getElementById('zoom-out').disabled"), "0 does not show the whole trace")

@@ -8,17 +8,30 @@ from checks.page.acts import read, require
 from checks.page.cases import example
 from checks.page.shown import tried
 
-VALUES = ("[String(ticksOf('start')), "
-          "...['sample', 'tick'].map((name) => document.getElementById(`control-${name}`).value)]")
+VALUES = (
+    "[String(ticksOf('start')), "
+    "...['sample', 'tick'].map((name) => document.getElementById(`control-${name}`).value)]"
+)
 
 
 def record_of(trace, **fields):
     """A record of a trace all of whose pages were sampled, as a file."""
-    pages, writes = (int.from_bytes(trace[at:at + 4], "little") for at in (8, 12))
-    plain = {"format": "precopy sample 1", "trace_sha256": hashlib.sha256(trace).hexdigest(), "trace_pages": pages,
-             "trace_writes": writes, "first_tick": 0, "last_tick": 1 << 39, "tick_seconds": 0.001, "guest_pages": pages,
-             "guest_nonzero": pages, "counted_pages": pages, "sampled_pages": pages, "sampled_nonzero": pages,
-             "method": "writes"}
+    pages, writes = (int.from_bytes(trace[at : at + 4], "little") for at in (8, 12))
+    plain = {
+        "format": "precopy sample 1",
+        "trace_sha256": hashlib.sha256(trace).hexdigest(),
+        "trace_pages": pages,
+        "trace_writes": writes,
+        "first_tick": 0,
+        "last_tick": 1 << 39,
+        "tick_seconds": 0.001,
+        "guest_pages": pages,
+        "guest_nonzero": pages,
+        "counted_pages": pages,
+        "sampled_pages": pages,
+        "sampled_nonzero": pages,
+        "method": "writes",
+    }
     return json.dumps({**plain, **fields}).encode()
 
 
@@ -44,7 +57,7 @@ def check_records(page):
     require(not page.shown()["refused"], said)
     for name, value in (("trace_writes", 3), ("tick_seconds", 7), ("sampled_pages", 1), ("trace_sha256", "0" * 64)):
         said = page.drop(("b.json", json.dumps({**json.loads(record), name: value}).encode()))
-        require(f"b.json is not used: " in said and name in said, said)
+        require("b.json is not used: " in said and name in said, said)
         require(page.browser.value(VALUES) == wanted, f"{name} has changed {page.browser.value(VALUES)}")
 
 
@@ -53,8 +66,10 @@ def suggestion(page, name):
 
 
 def limits(page):
-    return page.browser.value("['link', 'downtime'].map((name) => [document.getElementById(`control-${name}`).value, "
-                              "document.querySelector(`[data-control=${name}] select`).value])")
+    return page.browser.value(
+        "['link', 'downtime'].map((name) => [document.getElementById(`control-${name}`).value, "
+        "document.querySelector(`[data-control=${name}] select`).value])"
+    )
 
 
 def check_addressed(page):
@@ -96,8 +111,9 @@ def check_fitted(page):
     page.drop(*guest_with_record())
     for name in ("link", "downtime"):
         require(suggestion(page, name).startswith("Fitted to this trace."), f"{name}: {suggestion(page, name)!r}")
-    offered = page.browser.value("[...document.querySelectorAll('[data-suggested=link]')]"
-                                 ".map((each) => each.innerText)")
+    offered = page.browser.value(
+        "[...document.querySelectorAll('[data-suggested=link]')]" ".map((each) => each.innerText)"
+    )
     require(offered[-2:] == ["10 Gbit/s", "25 Gbit/s"], f"links that are offered: {offered}")
     found = page.after("[...document.querySelectorAll('[data-suggested=link]')].at(-2).click()")
     require(limits(page)[0] == ["10", "Gbit"] and not found["refused"], f"{limits(page)}, {found['fault']}")
@@ -111,8 +127,13 @@ def check_doubts(page):
     """Counts of a record that go badly together are told, and make no guest that is larger than it is; a record that is
     too long is refused as such."""
     trace = shapes.trace(12, 1_000, [(tick, tick % 1_000, 1) for tick in range(5_000)])
-    counts = {"guest_pages": 1 << 22, "counted_pages": 1 << 22, "sampled_pages": 1 << 14, "guest_nonzero": 1 << 22,
-              "sampled_nonzero": 1}
+    counts = {
+        "guest_pages": 1 << 22,
+        "counted_pages": 1 << 22,
+        "sampled_pages": 1 << 14,
+        "guest_nonzero": 1 << 22,
+        "sampled_nonzero": 1,
+    }
     page.open()
     page.wait_for_plan()
     said = page.drop(("a.pcwt", trace), ("a.json", record_of(trace, **counts)))
@@ -130,7 +151,11 @@ def check_doubts(page):
 
 
 def check_all(tally, page):
-    for words, check in (("records", check_records), ("a record and an address", check_addressed),
-                         ("a record and an address of its trace", check_own_address),
-                         ("limits that were fitted", check_fitted), ("doubts of a record", check_doubts)):
+    for words, check in (
+        ("records", check_records),
+        ("a record and an address", check_addressed),
+        ("a record and an address of its trace", check_own_address),
+        ("limits that were fitted", check_fitted),
+        ("doubts of a record", check_doubts),
+    ):
         tried(tally, words, check, page)

@@ -29,14 +29,17 @@ def open_with(page, fragment):
 
 
 def typed(page, name, text):
-    return page.after(f"const field = document.getElementById('control-{name}'); field.value = '{text}';"
-                      "field.dispatchEvent(new Event('input'))")
+    return page.after(
+        f"const field = document.getElementById('control-{name}'); field.value = '{text}';"
+        "field.dispatchEvent(new Event('input'))"
+    )
 
 
 def plan_starts(page):
     page.browser.value("document.getElementById('ask').click()")
-    page.browser.wait("!document.getElementById('starts-answer').hidden && "
-                      "document.getElementById('starts-progress').hidden")
+    page.browser.wait(
+        "!document.getElementById('starts-answer').hidden && " "document.getElementById('starts-progress').hidden"
+    )
 
 
 # ---- The states.
@@ -64,8 +67,10 @@ def kept_plans(page):
     """All that the page has: kept plans beside another, the curves, the tables."""
     open_with(page, "#trace=sqlite&link=64MiB&first=50&window=500&start=1000&rounds=12")
     page.after("document.getElementById('keep').click(); document.getElementById('control-skip').click()")
-    page.after("document.getElementById('keep').click(); document.getElementById('control-rounds').value = '2';"
-               "document.getElementById('control-rounds').dispatchEvent(new Event('input'))")
+    page.after(
+        "document.getElementById('keep').click(); document.getElementById('control-rounds').value = '2';"
+        "document.getElementById('control-rounds').dispatchEvent(new Event('input'))"
+    )
     page.browser.value("document.getElementById('windows-details').open = true")
     plan_starts(page)
 
@@ -126,8 +131,10 @@ def refused_first(page):
 def missed_limit(page):
     """A guest that writes faster than the link sends, a number that is none, and a record of another trace."""
     open_with(page, "#trace=sqlite")
-    page.drop(("heavy.pcwt", shapes.trace(12, 9_000, [(at // 20, at * 7 % 9_000, 1) for at in range(20_000)])),
-              ("other.json", b"{}"))
+    page.drop(
+        ("heavy.pcwt", shapes.trace(12, 9_000, [(at // 20, at * 7 % 9_000, 1) for at in range(20_000)])),
+        ("other.json", b"{}"),
+    )
     typed(page, "downtime", "2")
     plan_starts(page)
     require(typed(page, "reserve", "2x")["stale"], "a plan of no number")
@@ -142,17 +149,21 @@ def what_is_enough(page):
 def warm_start(page):
     """A warm start, nearer, with ticks, after a click that has moved the start."""
     open_with(page, "#trace=sqlite&start=20000&base=15000&ticks=1&skip=1")
-    page.after("document.getElementById('zoom-plan').click(); document.getElementById('windows-plot').focus();"
-               "for (const key of ['Home', 'ArrowRight', 'Enter']) { document.activeElement.dispatchEvent("
-               "new KeyboardEvent('keydown', { key, bubbles: true })); }")
+    page.after(
+        "document.getElementById('zoom-plan').click(); document.getElementById('windows-plot').focus();"
+        "for (const key of ['Home', 'ArrowRight', 'Enter']) { document.activeElement.dispatchEvent("
+        "new KeyboardEvent('keydown', { key, bubbles: true })); }"
+    )
 
 
 def nothing_fits(page):
     """A short trace: each plan ends after it."""
     open_with(page, "#trace=sqlite")
     page.drop(("short.pcwt", shapes.trace(12, 5_000, [(tick, tick % 50, 1) for tick in range(60)])))
-    page.after("const unit = document.querySelector('[data-control=link] select'); unit.value = 'Mbit';"
-               "unit.dispatchEvent(new Event('change'))")
+    page.after(
+        "const unit = document.querySelector('[data-control=link] select'); unit.value = 'Mbit';"
+        "unit.dispatchEvent(new Event('change'))"
+    )
     typed(page, "link", "4")
     plan_starts(page)
 
@@ -178,17 +189,32 @@ def looked_at(page):
     plan_starts(page)
 
 
-STATES = {"no-trace": no_trace, "first-look": first_look, "starts": with_starts, "old-starts": old_starts,
-          "kept": kept_plans, "many-kept": many_kept, "second-trace": second_trace, "own-record": own_record,
-          "refused-control": refused_control, "refused-files": refused_files, "refused-first": refused_first,
-          "missed": missed_limit, "enough": what_is_enough, "warm": warm_start, "short": nothing_fits,
-          "ended": ended_worker, "looked-at": looked_at}
+STATES = {
+    "no-trace": no_trace,
+    "first-look": first_look,
+    "starts": with_starts,
+    "old-starts": old_starts,
+    "kept": kept_plans,
+    "many-kept": many_kept,
+    "second-trace": second_trace,
+    "own-record": own_record,
+    "refused-control": refused_control,
+    "refused-files": refused_files,
+    "refused-first": refused_first,
+    "missed": missed_limit,
+    "enough": what_is_enough,
+    "warm": warm_start,
+    "short": nothing_fits,
+    "ended": ended_worker,
+    "looked-at": looked_at,
+}
 
 # The marks of a state whose contrast is tested, with what they lie on.
 MARKED = {"kept": ALL_MARKS, "old-starts": STARTS_MARKS}
 
 # What is done in a state each time that the page is drawn anew.
-ACTS = {"looked-at": """(() => {
+ACTS = {
+    "looked-at": """(() => {
   const rounds = document.getElementById("rounds-plot-this");
   rounds.focus({ focusVisible: true });
   rounds.dispatchEvent(new KeyboardEvent("keydown", { key: "Home", bubbles: true }));
@@ -198,7 +224,8 @@ ACTS = {"looked-at": """(() => {
     plot.dispatchEvent(new PointerEvent("pointermove", { pointerType: "mouse", bubbles: true,
       clientX: left + width * share, clientY: top + 60 }));
   }
-})()"""}
+})()"""
+}
 
 
 # ---- Looking.
@@ -245,19 +272,23 @@ def check_stacked(page):
     many_kept(page)
     page.browser.value("unfold()")
     page.rest()
-    places = page.browser.value("""[...document.querySelectorAll("#comparison tbody tr")].map((row) =>
+    places = page.browser.value(
+        """[...document.querySelectorAll("#comparison tbody tr")].map((row) =>
       [...row.querySelectorAll("td b")].map((number) => {
         const { left, top, right } = number.getBoundingClientRect();
         return [Math.round(left - row.getBoundingClientRect().left), Math.round(top), right <= innerWidth];
-      }))""")
+      }))"""
+    )
     numbers = [number for row in places for number in row]
     require(len(places) == 6 and all(len(row) == 4 for row in places), f"{places} are not six rows of four plans")
     require(len({left for left, _, _ in numbers}) == 1 and all(is_seen for _, _, is_seen in numbers), f"{places}")
     require(numbers[0][0] > ROOM_OF_NAME, f"{places}: numbers over the names of their plans")
     tops = [top for _, top, _ in numbers]
     require(tops == sorted(set(tops)), f"{places} are not below each other")
-    names = page.browser.value("[...document.querySelectorAll('#comparison tbody tr:first-child td')]"
-                               ".map((cell) => getComputedStyle(cell, '::before').content)")
+    names = page.browser.value(
+        "[...document.querySelectorAll('#comparison tbody tr:first-child td')]"
+        ".map((cell) => getComputedStyle(cell, '::before').content)"
+    )
     require(names == ['"This plan"', '"Kept plan 1"', '"Kept plan 2"', '"Kept plan 3"'], f"the plans' names: {names}")
     roles = collections.Counter(node["role"]["value"] for node in read_nodes(page))
     require(roles["cell"] >= 24 and roles["rowheader"] >= 6, f"a screen reader is told {roles}")
@@ -276,8 +307,9 @@ def check_paper(page, folder):
         browser.value("dispatchEvent(new Event('afterprint'))")
         browser.call("Emulation.setEmulatedMedia", media="")
         require(not gaps, f"{name} on paper: {gaps}")
-        printed = base64.b64decode(browser.call("Page.printToPDF", printBackground=True, paperWidth=8.27,
-                                                paperHeight=11.69)["data"])
+        printed = base64.b64decode(
+            browser.call("Page.printToPDF", printBackground=True, paperWidth=8.27, paperHeight=11.69)["data"]
+        )
         put(folder, f"paper-{name}.pdf", printed)
         count = len(re.findall(rb"/Type\s*/Page\b", printed))
         require(count <= (2 if name in ("kept", "many-kept") else 1), f"{name} takes {count} pages of paper")

@@ -57,12 +57,14 @@ def check_ended(page):
     before = typed(page, "rounds", "29")
     for number, (words, end) in enumerate(ENDS.items()):
         page.browser.value(end)
-        page.browser.value("""(() => {
+        page.browser.value(
+            """(() => {
           const field = document.getElementById("control-rounds");
           field.value = "9";
           window.sinceEnd = performance.now();
           field.dispatchEvent(new Event("input"));
-        })()""")
+        })()"""
+        )
         # A clock that ticks in whole milliseconds may say the same of both.
         page.browser.wait("begun >= sinceEnd", SECONDS_OF_END)
         require(not page.shown()["refused"], f"no plan after a worker {words}")

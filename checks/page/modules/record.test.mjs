@@ -1,6 +1,6 @@
 import assert from "node:assert/strict";
 import { test } from "node:test";
-import { differencesFrom, recordIn, RecordRefusal } from "../../web/model/record.js";
+import { differencesFrom, recordIn, RecordRefusal } from "../../../web/model/record.js";
 
 const TRACE = { sizes: { pages: 1_000, writes: 5_000, last: 4_999 }, digest: "0".repeat(64) };
 const FIELDS = {

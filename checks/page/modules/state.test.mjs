@@ -1,6 +1,6 @@
 import assert from "node:assert/strict";
 import { test } from "node:test";
-import { fragmentOf, stateIn } from "../../web/model/state.js";
+import { fragmentOf, stateIn } from "../../../web/model/state.js";
 
 test("an address has the whole state", () => {
   const state = stateIn("#link=64MiB&first=50&downtime=300ms&start=1000&rounds=7&skip=1&base=500&sample=5/9"

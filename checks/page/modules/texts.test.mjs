@@ -1,9 +1,9 @@
 import assert from "node:assert/strict";
 import { test } from "node:test";
-import { briefBytes, briefTime } from "../../web/model/brief.js";
-import { bytesText, lengthText, momentText, timeText } from "../../web/model/numbers.js";
-import { commandWord, quantityIn } from "../../web/model/quantities.js";
-import { RATE_UNITS, TIME_UNITS } from "../../web/model/units.js";
+import { briefBytes, briefTime } from "../../../web/model/brief.js";
+import { bytesText, lengthText, momentText, timeText } from "../../../web/model/numbers.js";
+import { commandWord, quantityIn } from "../../../web/model/quantities.js";
+import { RATE_UNITS, TIME_UNITS } from "../../../web/model/units.js";
 
 test("a length is told in the units that it has", () => {
   assert.equal(lengthText(86_399_000_000n), "23\u00a0h\u00a059\u00a0min");

@@ -1,7 +1,7 @@
 import assert from "node:assert/strict";
 import { test } from "node:test";
-import { typedNumber, typedQuantity, typedTicks } from "../../web/model/typing.js";
-import { RATE_UNITS, TIME_UNITS } from "../../web/model/units.js";
+import { typedNumber, typedQuantity, typedTicks } from "../../../web/model/typing.js";
+import { RATE_UNITS, TIME_UNITS } from "../../../web/model/units.js";
 
 test("a quantity is taken with or without a unit", () => {
   const taken = [

@@ -1,8 +1,8 @@
 import assert from "node:assert/strict";
 import { test } from "node:test";
-import { KeptPlans } from "../../web/model/kept-plans.js";
-import { firstPlace } from "../../web/model/search.js";
-import { firstWay } from "../../web/model/ways.js";
+import { KeptPlans } from "../../../web/model/kept-plans.js";
+import { firstPlace } from "../../../web/model/search.js";
+import { firstWay } from "../../../web/model/ways.js";
 
 test("the first way is found by few questions, one at a time", () => {
   for (let first = 0; first <= 64; first += 1) {
