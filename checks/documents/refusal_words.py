@@ -26,9 +26,6 @@ def said_elsewhere():
     for status in interface.read_header(read(interface.HEADER)).statuses:
         if status.name and status.name.startswith("E"):
             yield interface.HEADER, status.name, status.text
-    table = read("web/model/refusals.js").split("const TRACE_REFUSALS = {")[1].split("};")[0]
-    for number, words in re.findall(r'^  (\d+): "([^"]*)"', table, re.M):
-        yield "web/model/refusals.js", f"E{number}", words
     for page in [*pages(), *manuals()]:
         for name, words in re.findall(r"trace (E\d+)(?: record \d+)?: ([^`\"\n]+)", read(page)):
             yield page, name, words
@@ -46,7 +43,6 @@ def compared():
     wanted = {
         "crates/trace_codec/src/error.rt": every,
         "crates/precopy_view/src/faults.rt": every,
-        "web/model/refusals.js": every,
         interface.HEADER: OF_LIBRARY,
     }
     for place, names in wanted.items():

@@ -12,6 +12,7 @@ import argparse
 import os
 import re
 import sys
+import textwrap
 from collections.abc import Callable
 from typing import NamedTuple
 
@@ -24,6 +25,16 @@ QUESTIONS = range(81, 88)
 LINE = 120
 RUST = {"uint8_t": "u8", "uint32_t": "u32", "uint64_t": "u64", "size_t": "usize", "bool": "bool"}
 PYTHON = {"uint32_t": "ctypes.c_uint32", "uint64_t": "ctypes.c_uint64", "size_t": "ctypes.c_size_t"}
+# Structs that the planner's module has too, with the planner's names for them.
+OF_PLANNER = {
+    "Settings": "SETTINGS",
+    "Sums": "SUMS",
+    "Round": "ROUND",
+    "Question": "QUESTION",
+    "Prediction": "ANSWER",
+    "Errors": "ERRORS",
+    "Amounts": "REMEDIES",
+}
 # Structs that Rust's callers see as they are in C stand in its sources by hand, with what they mean.
 RUST_BY_HAND = {"Page", "Round", "Taken", "Write"}
 
@@ -152,12 +163,39 @@ def causes_for_tools(interface: Interface) -> str:
     return f"{head}CAUSES = {{\n{''.join(lines)}}}\n"
 
 
+def lower_camel(name: str) -> str:
+    first, *rest = name.split("_")
+    return first + "".join(map(str.title, rest))
+
+
+def layouts_for_planner(interface: Interface) -> str:
+    """The structs that the planner's module has too, without the size that some begin with in C."""
+    parts = [f"// What the planner's module lays out as the library does. Made by dev/interface from {HEADER}.\n"]
+    for name, of_planner in OF_PLANNER.items():
+        fields = [it for it in interface.structs[name] if it.name != "size"]
+        wide = [lower_camel(it.name) for it in fields if it.kind == "uint64_t"]
+        narrow = [lower_camel(it.name) for it in fields if it.kind == "uint32_t"]
+        size = (8 * len(wide) + 4 * len(narrow) + 7) // 8 * 8
+        parts.append(f"\nexport const {of_planner} = {{\n  size: {size},\n")
+        for kind, names in (("wide", wide), ("narrow", narrow)):
+            line = f"{kind}: [{', '.join(f'{chr(34)}{it}{chr(34)}' for it in names)}],"
+            lines = textwrap.wrap(line, LINE, initial_indent="  ", subsequent_indent="    ")
+            parts.append("\n".join(lines) + "\n")
+        parts.append("};\n")
+    parts.append(
+        "\n/** What is wrong with a trace, by the number of the refusal. */\nexport const TRACE_REFUSALS = {\n"
+    )
+    parts += (f'  {it.number}: "{it.text}",\n' for it in interface.statuses if it.name and it.name[0] == "E")
+    return "".join(parts) + "};\n"
+
+
 FILES: dict[str, Callable[[Interface], str]] = {
     "packaging/status_texts.h": texts_in_c,
     "bindings/rust/src/status.rs": statuses_in_rust,
     "bindings/rust/src/calls.rs": calls_in_rust,
     "bindings/python/precopy/_interface.py": calls_in_python,
     "python/precopy_tools/formats/causes.py": causes_for_tools,
+    "web/model/interface.js": layouts_for_planner,
 }
 LEFT = """\
 Left to write by hand, after a new status: docs/FORMATS.md if `precopy` writes its name, the range of its kind in \

@@ -1,10 +1,8 @@
 // The proved planner. It is a WebAssembly module that allocates nothing: this file lends it memory, and no other file
 // touches that memory. Addresses and lengths are BigInt, since the memory has 64-bit addresses.
 
-import {
-  ANSWER_SIZE, CHOICE_SIZE, ERRORS_SIZE, QUESTION_SIZE, readAnswer, readErrors, readRemedies, REASONS, REMEDIES_SIZE,
-  writeQuestion,
-} from "../model/questions.js";
+import { ANSWER, ERRORS, QUESTION, REMEDIES, ROUND, SETTINGS, SUMS } from "../model/interface.js";
+import { readAnswer, readErrors, readRemedies, REASONS, writeQuestion, writeSettings } from "../model/questions.js";
 
 /** The most bytes of a trace. */
 const MOST_TRACE_BYTES = 2 ** 28;
@@ -14,11 +12,9 @@ const MOST_PAGES = 65_536;
 export const MOST_ROUNDS = 64;
 const MOST_ANSWERS = 512;
 
-/** Bytes of the structs and rows that the module reads and writes. */
+/** Bytes of the structs and rows that the module reads and writes, and that the library does not have. */
 const SIZES_SIZE = 24;
-const SETTINGS_SIZE = 80;
-const SUMS_SIZE = 40;
-const ROUND_SIZE = 48;
+const CHOICE_SIZE = 16;
 const WINDOW_SIZE = 40;
 const TOUCH_SIZE = 16;
 const PAGE_MARK_SIZE = 16;
@@ -67,9 +63,9 @@ function grow(memory, pages) {
 /** Where each buffer lies that does not depend on the trace. */
 function placesFrom(base) {
   const lengths = {
-    record: 8, sizes: SIZES_SIZE, settings: SETTINGS_SIZE, sums: SUMS_SIZE, count: 8, rounds: MOST_ROUNDS * ROUND_SIZE,
-    question: QUESTION_SIZE, answers: MOST_ANSWERS * ANSWER_SIZE, errors: ERRORS_SIZE, choice: CHOICE_SIZE,
-    remedies: REMEDIES_SIZE,
+    record: 8, sizes: SIZES_SIZE, settings: SETTINGS.size, sums: SUMS.size, count: 8, rounds: MOST_ROUNDS * ROUND.size,
+    question: QUESTION.size, answers: MOST_ANSWERS * ANSWER.size, errors: ERRORS.size, choice: CHOICE_SIZE,
+    remedies: REMEDIES.size,
     marks: MOST_PAGES / 8, otherMarks: MOST_PAGES / 8, list: MOST_PAGES * 4, pageMarks: MOST_PAGES * PAGE_MARK_SIZE,
   };
   const places = {};
@@ -174,18 +170,6 @@ export class Planner {
     return [BigInt(this.places[name]), BigInt(length)];
   }
 
-  writeSettings(settings) {
-    const view = this.view();
-    const at = this.places.settings;
-    const numbers = [
-      settings.min, settings.max, settings.increment, settings.threshold, settings.rounds, settings.start,
-      settings.window, settings.hot ?? 2, settings.base ?? 0,
-    ];
-    numbers.forEach((number, place) => view.setBigUint64(at + 8 * place, BigInt(number), true));
-    view.setUint32(at + 72, settings.base === null ? 0 : 1, true);
-    view.setUint32(at + 76, settings.skip ? 1 : 0, true);
-  }
-
   /** Calls the module, and throws what it refuses. `input` is the place of settings or of a question. */
   ask(name, input, more) {
     const number = this.calls[name](...this.slice("trace", this.length), BigInt(this.places[input]), ...more);
@@ -208,7 +192,7 @@ export class Planner {
 
   /** The number of the refusal of a length of windows, or 0. */
   windowRefusal(length) {
-    this.writeSettings({
+    writeSettings(this.view(), this.places.settings, {
       min: 1, max: 1, increment: 0, threshold: 1, rounds: 1, start: 0, window: length, base: null, skip: false,
     });
     return this.calls.lent_check_settings(BigInt(this.places.settings));
@@ -227,7 +211,7 @@ export class Planner {
   answerBytes(question) {
     writeQuestion(this.view(), this.places.question, question);
     this.ask("lent_predict", "question", [...this.planRoom(), BigInt(this.places.answers)]);
-    return new Uint8Array(this.calls.memory.buffer.slice(this.places.answers, this.places.answers + ANSWER_SIZE));
+    return new Uint8Array(this.calls.memory.buffer.slice(this.places.answers, this.places.answers + ANSWER.size));
   }
 
   /** The answer to a question, with a row for each round of its plan. */
@@ -259,7 +243,7 @@ export class Planner {
   /** The places of the best and the worst of some answers, given as their bytes; null if none tells anything. */
   chosen(answers) {
     const memory = new Uint8Array(this.calls.memory.buffer);
-    answers.forEach((bytes, place) => memory.set(bytes, this.places.answers + place * ANSWER_SIZE));
+    answers.forEach((bytes, place) => memory.set(bytes, this.places.answers + place * ANSWER.size));
     const known = this.calls.lent_chosen_starts(...this.slice("answers", answers.length), BigInt(this.places.choice));
     if (known === 0n) {
       return { best: null, worst: null };
@@ -271,14 +255,14 @@ export class Planner {
   /** A row for each of the rounds that the module wrote last. */
   roundRows(count) {
     return Array.from({ length: count }, (_, place) => {
-      const [from, to, rate, pages, sent, dirtied] = this.numbersAt(this.places.rounds + place * ROUND_SIZE, 6);
+      const [from, to, rate, pages, sent, dirtied] = this.numbersAt(this.places.rounds + place * ROUND.size, 6);
       return { from, to, rate, pages, sent, dirtied };
     });
   }
 
   /** The plan of settings: its sums, and a row for each round. Throws the Refusal of settings out of range. */
   plan(settings) {
-    this.writeSettings(settings);
+    writeSettings(this.view(), this.places.settings, settings);
     this.ask("lent_plan", "settings", [...this.planRoom(), BigInt(this.places.sums)]);
     const [count, reason, stop, down, total] = this.numbersAt(this.places.sums, 5);
     const rounds = this.roundRows(count);
@@ -295,7 +279,7 @@ export class Planner {
     const { pages, writes, last } = this.sizes;
     const rows = writes === 0 ? 0 : Math.min(writes, Math.floor(last / Math.max(1, settings.window)) + 1);
     this.reserve(this.places.rows + rows * WINDOW_SIZE);
-    this.writeSettings(settings);
+    writeSettings(this.view(), this.places.settings, settings);
     this.ask("lent_windows", "settings", [
       ...this.slice("touches", writes), ...this.slice("pageMarks", pages), ...this.slice("rows", rows),
       BigInt(this.places.count),

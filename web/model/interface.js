@@ -1,0 +1,64 @@
+// What the planner's module lays out as the library does. Made by dev/interface from include/precopy.h.
+
+export const SETTINGS = {
+  size: 80,
+  wide: ["min", "max", "increment", "threshold", "rounds", "start", "window", "hot", "base"],
+  narrow: ["hasBase", "skip"],
+};
+
+export const SUMS = {
+  size: 40,
+  wide: ["rounds", "reason", "stop", "down", "total"],
+  narrow: [],
+};
+
+export const ROUND = {
+  size: 48,
+  wide: ["from", "to", "rate", "pages", "sent", "dirtied"],
+  narrow: [],
+};
+
+export const QUESTION = {
+  size: 112,
+  wide: ["link", "first", "downtime", "reserve", "tick", "page", "sampled", "guest", "increment", "rounds", "start",
+    "base"],
+  narrow: ["hasFirst", "hasIncrement", "hasBase", "skip"],
+};
+
+export const ANSWER = {
+  size: 88,
+  wide: ["rounds", "reason", "stop", "down", "total", "left", "time", "bytes", "downtime", "recorded"],
+  narrow: ["converges", "kept"],
+};
+
+export const ERRORS = {
+  size: 32,
+  wide: ["bytes", "time", "downtime"],
+  narrow: ["hasErrors"],
+};
+
+export const REMEDIES = {
+  size: 40,
+  wide: ["link", "downtime", "speed"],
+  narrow: ["hasLink", "hasDowntime", "hasSpeed", "isKept"],
+};
+
+/** What is wrong with a trace, by the number of the refusal. */
+export const TRACE_REFUSALS = {
+  1: "it has fewer than the 16 bytes of a header",
+  2: "it does not begin with PCWT",
+  3: "its version is not 1 or 2",
+  4: "its pages do not have 16 to 4,096 bytes",
+  5: "byte 6 or 7 is not 0",
+  6: "it does not have 1 to 65,536 pages",
+  7: "it has more than 1,048,576 writes",
+  8: "it ends within this record",
+  9: "the tick is below that of the previous record",
+  10: "the tick is 2^40 or more",
+  11: "the guest does not have the page",
+  12: "the write has no bytes, and is no release",
+  13: "the write goes beyond its page",
+  14: "bytes follow the last record",
+  15: "it has more than 2^28 bytes",
+  16: "memory ran out",
+};
