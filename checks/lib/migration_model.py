@@ -199,6 +199,7 @@ class Answer(NamedTuple):
     recorded: int
     errors: Optional[tuple[int, int, int]]
     enough: Optional[remedies.Remedies]
+    plan: redrawn.Outcome
 
 
 def answer_of(asked: Question, trace: Trace) -> Optional[Answer]:
@@ -222,6 +223,7 @@ def answer_of(asked: Question, trace: Trace) -> Optional[Answer]:
         max(0, trace.last - asked.start) * asked.tick,
         redrawn.errors(trace.guest, settings, asked.scale()) if has_errors else None,
         remedy_model.found_of(trace.guest, asked.trial(), is_late),
+        plan,
     )
 
 

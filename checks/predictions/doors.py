@@ -174,6 +174,9 @@ class Page(Door):
         plain = {
             "rounds": answer.rounds,
             "reason": answer.why,
+            "stop": answer.plan.stop,
+            "down": answer.plan.down,
+            "total": answer.plan.total,
             "left": answer.left,
             "converges": answer.converges,
             "kept": answer.kept,
