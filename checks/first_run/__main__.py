@@ -1,24 +1,22 @@
 """Runs each command of a first run in a tree in which nothing was built before.
 
-    checks/run first_run [--all | COMMAND ..]
+    checks/run first_run [--all] [--only WORD]
 
 The tree is a copy of the sources. Of what is built it has only what `rt ci` has proved, the libraries, and not a
 program; so a command that builds a program does so for the first time. With --all each command begins with the
-libraries alone. Without, it has all but what it is there to build, and one command is tried, in turn by the day; words
-name others. There is no terminal and no input, and the home folder is empty. The last line is 'N passed, M failed'; the
-status is 0 if something was tried and nothing failed.
+libraries alone. Without, it has all but what it is there to build, and one command is tried, in turn by the day, or
+those that contain WORD. There is no terminal and no input, and the home folder is empty. A command is a case.
 """
 
-import argparse
 import datetime
 import os
 import shutil
 import subprocess
-import sys
 import tempfile
+import time
 from typing import NamedTuple
 
-from checks.lib.tally import Tally
+from checks.lib.harness import run_main
 from precopy_dev.tree import TOP
 
 SECONDS = 3 * 3600
@@ -96,34 +94,38 @@ def run(command, folder, home):
     return done.returncode, done.stdout[-2000:]
 
 
-def try_first(tally, first, without):
+def try_first(case, first, without):
     with tempfile.TemporaryDirectory(prefix="first-run-") as room:
         folder, home = os.path.join(room, "tree"), os.path.join(room, "home")
         os.makedirs(home)
         copy_tree(folder, without)
-        begun = datetime.datetime.now()
+        begun = time.monotonic()
         status, said = run(first.words, folder, home)
         there = subprocess.run(["sh", "-c", f"ls {first.leaves}"], cwd=folder, capture_output=True).returncode == 0
-        seconds = (datetime.datetime.now() - begun).seconds
-        print(f"{first.words}: status {status}, {seconds} s", flush=True)
-        tally.add(status == 0 and there, f"{first.words}: status {status}, {first.leaves} there: {there}\n{said}")
+        print(f"{first.words}: status {status}, {time.monotonic() - begun:.0f} s", flush=True)
+        case.add(status == 0 and there, f"status {status}, {first.leaves} there: {there}\n{said}")
 
 
-def main(words):
-    parser = argparse.ArgumentParser(
-        prog="first_run", description=__doc__, formatter_class=argparse.RawDescriptionHelpFormatter
-    )
-    parser.add_argument("--all", action="store_true", help="each command, with nothing but the libraries")
-    parser.add_argument("command", metavar="COMMAND", nargs="*", help="words that a command contains")
-    asked = parser.parse_args(words)
+def mark_proved(case):
+    """Lets what `rt ci` has just proved count as built: the libraries below each part that a command builds."""
+    for name in ("precopy", "precopy_view", "precopy_schedule", "precopy_c", "browser_planner"):
+        done = subprocess.run([os.path.join(TOP, "dev", "build"), "--below", "--proved", name], capture_output=True)
+        case.add(done.returncode == 0, f"the libraries below {name}: {done.stderr.decode()[-1000:]}")
+
+
+def check(tally, given):
+    with tally.case("the libraries are proved") as case:
+        mark_proved(case)
     of_today = COMMANDS[datetime.date.today().toordinal() % len(COMMANDS)]
-    chosen = [it for it in COMMANDS if any(word in it.words for word in asked.command)] or [of_today]
-    tally = Tally()
-    for first in COMMANDS if asked.all else chosen:
-        try_first(tally, first, set(BUILT) if asked.all else set(first.builds))
-    print(tally)
-    return 0 if tally.passed and not tally.failed else 1
+    chosen = [it for it in COMMANDS if any(word in it.words for word in given.only or ())] or [of_today]
+    for first in COMMANDS if given.all else chosen:
+        with tally.case(first.words) as case:
+            try_first(case, first, set(BUILT) if given.all else set(first.builds))
+
+
+def more(parser):
+    parser.add_argument("--all", action="store_true", help="each command, with nothing but the libraries")
 
 
 if __name__ == "__main__":
-    sys.exit(main(sys.argv[1:]))
+    run_main(check, __doc__, more=more)

@@ -110,7 +110,8 @@ def run_cases(tally: Tally, cases, *words, at_once: int = 1, only=None) -> None:
 
 
 def arguments(doc: str, programs: tuple[str, ...], more) -> argparse.Namespace:
-    parser = argparse.ArgumentParser(description=doc, formatter_class=argparse.RawDescriptionHelpFormatter)
+    name = f"checks/run {os.path.basename(os.path.dirname(sys.argv[0]))}"
+    parser = argparse.ArgumentParser(prog=name, description=doc, formatter_class=argparse.RawDescriptionHelpFormatter)
     parser.add_argument("--seed", type=int, metavar="N", help="what is drawn is drawn from it, as an earlier run told")
     parser.add_argument("--only", action="append", metavar="CASE", help="a case of a check whose cases have names")
     if more:
