@@ -66,8 +66,8 @@ class Guest(NamedTuple):
 
 
 def rate_in_words(bandwidth: float) -> float:
-    """A rate as a word of precopy-view: exact in KiB or KB a second, or else in Kbit, rounded."""
-    return bandwidth if bandwidth % 1024 == 0 or bandwidth % 1000 == 0 else round(bandwidth / 125) * 125
+    """A rate as a word of precopy-view: exact if its bytes are whole, or else in Kbit, rounded."""
+    return round(bandwidth / 125) * 125 if bandwidth % 1 else bandwidth
 
 
 def tick_factor(guest: Guest, bandwidth: float, downtime: int) -> int:

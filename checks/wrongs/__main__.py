@@ -1,74 +1,152 @@
-"""Tries checks/refusals and checks/refused_calls: with right programs they pass, with wrong ones they fail.
+"""Plants faults into the product, and looks whether its checks see them.
 
-    checks/run wrongs [--calls CALLS] [PROGRAM [WRONG ...]]
+    checks/run wrongs [--all] [--check CHECK ..] [--list]
 
-PROGRAM is crates/precopy/out/precopy of this repository if none is given, and CALLS that of crates/refused_calls. The
-wrongs are those of checks/wrongs/wrong.c, by name; all of them if none is named. Those whose names begin with CALL_ are
-for calls. Each line has how many cases passed and failed; a check ends early if much fails. The last line is 'N passed,
-M failed': a wrong program passes if a case of it failed. It takes up to half a minute for each.
+checks/wrongs/faults.py has the faults. Some are wrong programs round the built ones (checks/wrongs/wrong.c), others are
+edits of the sources, in a copy of them that uses what is built. The check runs until its first failure, which must tell
+of what is wrong. Without words some faults are tried, in turn by the day. With right programs the checks of the wrongs
+of refusals pass, by the wrongs NOTHING and CALL_NOTHING, which --all tries too. A fault is a case.
 """
 
-import argparse
+import datetime
 import os
 import re
+import shutil
+import signal
 import subprocess
-import sys
 import tempfile
+import time
 
+from checks.lib.harness import run_main
+from checks.lib.tally import LeftOut, expect, need
+from checks.wrongs.faults import FAULTS, Edit, Wrong
 from precopy_dev import tree
 
 HERE = os.path.join(tree.TOP, "checks", "wrongs")
-PROGRAM, CALLS = tree.program("precopy"), tree.program("refused_calls")
+SECONDS, OF_A_DAY = 900, 8
+# The wrongs with which nothing is wrong, so that the checks pass.
+RIGHT = [Wrong("refusals", "", "precopy", "NOTHING"), Wrong("refused_calls", "", "refused_calls", "CALL_NOTHING")]
+# What of the tree a copy has as links: nothing of it is edited.
+LINKED = ("crates", "out", "target", ".git")
 
 
-def wrongs():
-    """The wrongs of checks/wrongs/wrong.c, each with what it does."""
-    with open(os.path.join(HERE, "wrong.c"), encoding="utf-8") as file:
-        return dict(re.findall(r"^    ([A-Z0-9_]+), +/\* (.*) \*/$", file.read(), re.M))
+def in_turn(faults):
+    """The faults in an order in which those of one check are far from each other."""
+    rank, seen = {}, {}
+    for fault in faults:
+        rank[fault] = seen[fault.check] = seen.get(fault.check, 0) + 1
+    return sorted(faults, key=rank.get)
 
 
-def compile_wrong(name, program, folder):
-    to = os.path.join(folder, name.lower())
-    words = ["cc", "-O2", "-Wno-unused-result", f'-DPROGRAM="{program}"', f"-DWRONG={name}", "-o", to]
-    if subprocess.run([*words, os.path.join(HERE, "wrong.c")]).returncode:
-        raise SystemExit("checks/wrongs: cc does not compile checks/wrongs/wrong.c\n0 passed, 1 failed")
+def of_today():
+    faults = in_turn(FAULTS)
+    first = datetime.date.today().toordinal() * OF_A_DAY
+    return [faults[number % len(faults)] for number in range(first, first + OF_A_DAY)]
+
+
+# ---- A wrong product.
+
+
+def compiled(fault, folder):
+    """A wrong program round a built one."""
+    need("cc")
+    to, program = os.path.join(folder, "wrong"), tree.program(fault.program)
+    texts = {"PROGRAM": program, "WHEN": fault.when, "OLD": fault.old, "NEW": fault.new}
+    defined = ["-D" + name + '="' + text.replace('"', '\\"') + '"' for name, text in texts.items()]
+    words = ["cc", "-O2", "-Wno-unused-result", *defined, f"-DWRONG={fault.name}", "-o", to, f"{HERE}/wrong.c"]
+    done = subprocess.run(words, capture_output=True, text=True)
+    expect(done.returncode == 0, f"checks/wrongs/wrong.c is not compiled: {done.stderr[-600:]}")
     return to
 
 
-def arguments():
-    parser = argparse.ArgumentParser(description=__doc__.splitlines()[0])
-    parser.add_argument("--calls", default=CALLS, help="the built program of crates/refused_calls")
-    parser.add_argument("program", nargs="?", default=PROGRAM, help="the built program; crates/precopy/out/precopy")
-    parser.add_argument("wrong", nargs="*", help=f"one of {', '.join(wrongs())}")
-    given = parser.parse_args()
-    unknown = sorted({*given.wrong} - {*wrongs()})
-    if unknown:
-        parser.error(f"there is no wrong {unknown[0]} in checks/wrongs/wrong.c")
-    return given
+def edited(fault, folder):
+    """A copy of the tree with one text changed."""
+    top = os.path.join(folder, "tree")
+    os.makedirs(top)
+    for name in os.listdir(tree.TOP):
+        source, to = os.path.join(tree.TOP, name), os.path.join(top, name)
+        if name in LINKED:
+            os.symlink(source, to)
+        elif os.path.isdir(source):
+            shutil.copytree(source, to, symlinks=True, ignore=shutil.ignore_patterns("__pycache__", "target"))
+        else:
+            shutil.copy2(source, to)
+    path = os.path.join(top, fault.path)
+    with open(path, encoding="utf-8") as file:
+        text = file.read()
+    expect(text.count(fault.old) == 1, f"{fault.old!r} stands {text.count(fault.old)} times in {fault.path}")
+    with open(path, "w", encoding="utf-8") as file:
+        file.write(text.replace(fault.old, fault.new))
+    return top
 
 
-def main():
-    given = arguments()
-    programs = {"refusals": os.path.abspath(given.program), "refused_calls": os.path.abspath(given.calls)}
-    passed = failed = 0
-    with tempfile.TemporaryDirectory() as folder:
-        for name in given.wrong or wrongs():
-            check = "refused_calls" if name.startswith("CALL_") else "refusals"
-            program = programs[check]
-            if not os.access(program, os.X_OK):
-                raise SystemExit(f"checks/wrongs: there is no program {program}; rt ci builds it\n0 passed, 1 failed")
-            command = [os.path.join(tree.TOP, "checks", "run"), check, compile_wrong(name, program, folder)]
-            done = subprocess.run(command, stdout=subprocess.PIPE, text=True)
-            counts = re.search(r"(\d+) passed, (\d+) failed\n\Z", done.stdout)
-            is_found = bool(counts) and done.returncode == 1 and int(counts[2]) > 0
-            is_clean = bool(counts) and done.returncode == 0 and int(counts[1]) > 0
-            good = is_clean if name.endswith("NOTHING") else is_found
-            told = counts[0].strip() if counts else "no count"
-            print(f"{'' if good else 'FAILED '}{name} ({wrongs()[name]}): {told}", flush=True)
-            passed, failed = passed + good, failed + (not good)
-    print(f"{passed} passed, {failed} failed")
-    return 0 if passed and not failed else 1
+def programs_of(fault, wrong):
+    """The words that name the programs of a check, with the wrong one in the place of the right one."""
+    programs = {
+        "evacuation": ("precopy_schedule", "precopy_view"),
+        "view": ("precopy_view", "precopy"),
+        "predictions": ("precopy_view",),
+        "refused_calls": ("refused_calls",),
+    }.get(fault.check, ("precopy",))
+    return [wrong if name == fault.program else tree.program(name) for name in programs]
+
+
+def run_check(fault, folder):
+    """The status and the output of a check of a wrong product."""
+    top, words = tree.TOP, [*fault.words]
+    if isinstance(fault, Edit):
+        top = edited(fault, folder)
+    else:
+        words += programs_of(fault, compiled(fault, folder))
+    room = os.path.join(folder, "room")
+    os.makedirs(room)
+    environment = {**os.environ, "CHECKS_END_EARLY": "1", "TMPDIR": room}
+    command = [os.path.join(top, "checks", "run"), fault.check, *words]
+    how = {"stdout": subprocess.PIPE, "stderr": subprocess.STDOUT, "text": True, "start_new_session": True}
+    started = subprocess.Popen(command, env=environment, stdin=subprocess.DEVNULL, **how)
+    try:
+        told, _ = started.communicate(timeout=SECONDS)
+    finally:
+        # What the check had started goes with it.
+        try:
+            os.killpg(started.pid, signal.SIGKILL)
+        except ProcessLookupError:
+            pass
+    return started.wait(), told
+
+
+def try_fault(fault):
+    begun = time.monotonic()
+    with tempfile.TemporaryDirectory(prefix="wrongs-", ignore_cleanup_errors=True) as folder:
+        status, told = run_check(fault, folder)
+    failure = re.search(r"^  FAILED .*(?:\n    .*)*", told, re.M)
+    if re.search(r"^0 passed, 0 failed, [0-9]+ skipped$", told, re.M):
+        raise LeftOut(f"checks/{fault.check} is left out here")
+    if fault in RIGHT:
+        expect(status == 0 and not failure, f"the check fails with a right program: {told[-1500:]}")
+    else:
+        expect(status == 1 and failure, f"it is not seen: {told[-1500:]}")
+        expect(fault.sign in failure[0], f"the failure does not tell of {fault.sign!r}: {failure[0][:1500]}")
+    print(f"  {fault}: seen in {time.monotonic() - begun:.0f} s", flush=True)
+
+
+def more(parser):
+    parser.add_argument("--all", action="store_true", help="all faults")
+    parser.add_argument("--check", action="append", help="all faults of this check")
+    parser.add_argument("--list", action="store_true", help="only tell the faults")
+
+
+def check(tally, given):
+    chosen = [*FAULTS, *RIGHT] if given.all else of_today()
+    if given.check:
+        chosen = [fault for fault in FAULTS if fault.check in given.check]
+    if given.list:
+        print("\n".join(map(str, chosen)))
+        chosen = []
+    for fault in chosen:
+        tally.tries(str(fault), try_fault, fault)
+    print(f"{len(chosen)} of {len(FAULTS)} faults were tried")
 
 
 if __name__ == "__main__":
-    sys.exit(main())
+    run_main(check, __doc__, more=more)

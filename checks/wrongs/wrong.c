@@ -44,9 +44,26 @@ enum wrong {
     CALL_MEMORY,     /* want of memory in place of a thread that was not started */
     CALL_THREAD,     /* a thread that was not started in place of want of memory */
     CALL_SIGNALLED,  /* death by a signal in place of a call's refusal */
+    EXCHANGED,       /* NEW in the place of OLD, in what is written for the word WHEN */
+    COUNTED_ON,      /* another digit behind OLD, in what is written for the word WHEN */
+    BYTE_CHANGED,    /* another last byte of what is written for the word WHEN */
+    REFUSED,         /* the refusal NEW, whatever comes, for the word WHEN */
+    REFUSED_FOR,     /* the refusal NEW in place of each refusal, for the word WHEN */
+    DROPPED,         /* the word OLD taken away from the command */
 };
 
-static char output[1 << 20], faults[1 << 18];
+/* The word of a command at which something is wrong, and the texts that are exchanged. */
+#ifndef WHEN
+#define WHEN ""
+#endif
+#ifndef OLD
+#define OLD ""
+#endif
+#ifndef NEW
+#define NEW ""
+#endif
+
+static char output[1 << 25], faults[1 << 18];
 static size_t output_size, fault_size;
 static int status; /* as `wait` gives it */
 
@@ -176,6 +193,43 @@ static void do_wrong(int is_refused) {
     if (WRONG > CALL_NOTHING && is_refused_call()) do_wrong_to_call();
 }
 
+/* Puts a text in the place of another one of any length. */
+static size_t put_text(char *in, size_t size, size_t room) {
+    char *place = size ? memmem(in, size, OLD, strlen(OLD)) : NULL;
+    size_t old = strlen(OLD), new = strlen(NEW);
+    if (!place || size + new > room) return size;
+    memmove(place + new, place + old, in + size - (place + old));
+    memcpy(place, NEW, new);
+    return size + new - old;
+}
+
+static int has_word(char **words, const char *word) {
+    for (; *words; words++)
+        if (!strcmp(*words, word)) return 1;
+    return !*word;
+}
+
+static void drop_word(char **words) {
+    while (*words && strcmp(*words, OLD)) words++;
+    for (; *words; words++) *words = words[1];
+}
+
+static void do_wrong_to_text(int is_refused) {
+    if (WRONG == EXCHANGED) {
+        output_size = put_text(output, output_size, sizeof output);
+        fault_size = put_text(faults, fault_size, sizeof faults);
+    }
+    if (WRONG == COUNTED_ON) {
+        char *place = place_of(OLD);
+        if (place) {
+            place += strlen(OLD);
+            *place = *place == '9' ? '8' : *place + 1;
+        }
+    }
+    if (WRONG == BYTE_CHANGED && output_size) output[output_size - 1] ^= 1;
+    if (WRONG == REFUSED || (WRONG == REFUSED_FOR && is_refused)) refuse(NEW);
+}
+
 int main(int count, char **words) {
     (void)count;
     signal(SIGPIPE, SIG_IGN);
@@ -183,12 +237,15 @@ int main(int count, char **words) {
     if (WRONG == ASKING_AGAIN || WRONG == CARELESS) own = malloc(96);
     if (WRONG == ASKING_AGAIN && !own) own = malloc(96);
     if (own) *own = 1;
+    int is_meant = has_word(words, WHEN);
+    if (WRONG == DROPPED && is_meant) drop_word(words);
     run(words, 0);
     int is_refused = WIFEXITED(status) && WEXITSTATUS(status) == 1;
     if (answers(is_refused))
         run(words, 1);
     else
         do_wrong(is_refused);
+    if (is_meant) do_wrong_to_text(WIFEXITED(status) && WEXITSTATUS(status) != 0);
     if (!put(STDOUT_FILENO, output, output_size)) refuse("precopy: write\n");
     put(STDERR_FILENO, faults, fault_size);
     if (WIFSIGNALED(status)) kill(getpid(), WTERMSIG(status));

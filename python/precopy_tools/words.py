@@ -55,11 +55,12 @@ def link(word: str) -> float:
     return float(rate(word))
 
 
-def rate_word(bandwidth: int) -> str:
-    """A word that `rate` takes for so many bytes a second."""
-    if bandwidth % (1 << 20) == 0:
-        return f"{bandwidth >> 20}MiB"
-    return f"{bandwidth // 1_000}.{bandwidth % 1_000:03}KB"
+def rate_word(bandwidth: float) -> str:
+    """A word that `rate` takes for so many bytes a second; if they are not whole, to the nearest Kbit."""
+    if bandwidth % 1:
+        return f"{bandwidth / 125:.0f}Kbit"
+    size = int(bandwidth)
+    return f"{size >> 20}MiB" if size % (1 << 20) == 0 else f"{size // 1_000}.{size % 1_000:03}KB"
 
 
 def time_word(length: float) -> str:

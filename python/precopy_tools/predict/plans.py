@@ -7,6 +7,7 @@ import subprocess
 from typing import NamedTuple
 
 from precopy_tools.record.memory import PAGE
+from precopy_tools.words import rate_word
 
 # Bytes in the smallest unit of a link, and the most pages in 1,000 ticks.
 LEAST_LINK, MOST_RATE = 125, 1_000_000
@@ -77,14 +78,6 @@ class Scale(NamedTuple):
     def rate(self, bandwidth: float) -> float:
         """Pages of the trace in 1,000 ticks, for bytes a second."""
         return bandwidth * self.tick * self.sampled / (1000 * self.page * self.guest)
-
-
-def rate_word(bandwidth: float) -> str:
-    """Bytes a second as precopy-view takes them, in the unit in which they are whole."""
-    for unit, size in (("KiB", 1024), ("KB", 1000)):
-        if bandwidth % size == 0:
-            return f"{bandwidth / size:.0f}{unit}"
-    return f"{bandwidth / 125:.0f}Kbit"
 
 
 def limits(bandwidth: float, downtime: float, scale: Scale) -> list[str]:
