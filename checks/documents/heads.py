@@ -23,6 +23,16 @@ DIFFERS = (
     "Allocators are `Global`",
     "Some edits only approximate a wrong body, and only tests refuse some",
 )
+CLAIMS = (
+    "accepted",
+    "tables, planned rounds",
+    "sweep lines",
+    "written",
+    "under every schedule",
+    "the image, at the stop and the end",
+    "no older version replaces a newer",
+    "no changed page is left out",
+)
 PROOF_OF = (
     "Proved",
     "Proved of calls",
@@ -53,7 +63,7 @@ def compared():
     for head in DIFFERS:
         yield bool(items.get(head)), f"docs/DECISIONS.md no longer tells what differs: {head}"
     yield set(items) <= set(DIFFERS), f"checks/documents/heads.py lacks {sorted(set(items) - set(DIFFERS))}"
-    table = section("README.md", "What is proved, only tested, and trusted")
-    rows = dict(re.findall(r"^\| ([^|]+?) \| ([^|]+?) \|$", table, re.M))
-    for head in PROOF_OF:
-        yield bool(rows.get(head)), f"the table of README.md has no row for: {head}"
+    for title, heads in (("The theorem", CLAIMS), ("What is proved, only tested, and trusted", PROOF_OF)):
+        rows = dict(re.findall(r"^\| ([^|]+?) \| ([^|]+?) \|$", section("README.md", title), re.M))
+        for head in heads:
+            yield bool(rows.get(head)), f"README.md, {title}: the table has no row for {head}"

@@ -51,6 +51,7 @@ COMMANDS = (
     FirstRun("make lib", ("precopy_c", "library"), "out/library/libprecopy.so.*"),
     FirstRun("make install-lib DESTDIR=installed PREFIX=/usr", ("library",), "installed/usr/include/precopy.h"),
     FirstRun("make page", ("page",), "out/precopy.html"),
+    FirstRun("make docs", (), "docs/INDEX.md"),
     FirstRun(f"make lib && cc {PLAN} -o plan && ./plan examples/gzip.pcwt > said", ("library",), "said"),
     FirstRun("make lib && cargo test --offline --manifest-path bindings/rust/Cargo.toml && touch done", (), "done"),
     FirstRun("make lib && python3 -m venv of && of/bin/pip install ./bindings/python && touch done", (), "done"),

@@ -86,7 +86,7 @@ def main():
         # A script whose program is older than a source would build it while it is timed.
         subprocess.run([script, "--help"], stdout=subprocess.DEVNULL, check=True)
         programs = {"`./precopy`": script, "Installed": called, "Bare": asked.program, "Fast": built()["fast"]}
-        print(f"| | {' | '.join(programs)} |\n|---|---|---|---|---|")
+        print(f"| Trace, command | {' | '.join(programs)} |\n|---|---|---|---|---|")
         for trace, name, words in rows:
             taken = {program: [] for program in programs}
             for _ in range(asked.n):

@@ -224,7 +224,7 @@ def main():
             text = file.read()
         if text.startswith("Lanes of"):
             pages.update(of_pages(text))
-        elif text.startswith("| | `./precopy`"):
+        elif text.startswith("| Trace, command | `./precopy`"):
             installed = of_installed(text)
         else:
             warm, memory = of_run(text)

@@ -38,7 +38,7 @@ def read(path):
 
 
 def crates():
-    """The names of all crates, lowest first."""
+    """The names of all crates, in the order of crates.txt."""
     lines = read(os.path.join(TOP, "crates.txt")).split("\n")
     heads = [line.split("#")[0].partition(":")[0].split() for line in lines]
     return [head[0] for head in heads if head]

@@ -20,8 +20,8 @@ COLUMNS = 120
 MODEL = "migration_model"
 HEAD = """# Index
 
-`make docs` makes this page from the sources. Crates come lowest first, files and names as they stand there. A line is
-the first sentence of the comment in the source.
+`make docs` makes this index from the sources. Crates come in the order of `crates.txt`, files and names as they stand
+there. A line is the first sentence of the comment in the source.
 
 - **Calls**, by file of `src/`: what a caller outside of the crate sees. In brackets stand the clauses that a call
   ensures; one without a name is `result`. An indented line is what a comment says of clauses. Clauses determine by

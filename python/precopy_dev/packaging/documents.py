@@ -26,6 +26,7 @@ RENAMED = {
     "They read a trace from standard input.": "They read a trace from standard input. Copy the folder `examples` here\n"
     "to where you may write, and run them there.",
     " (made by `make docs`)": "",
+    "after `make lib` five lines": "with the package `python3-precopy` five lines",
     "`make page` writes `out/precopy.html`": "`precopy-page` prints where `precopy.html` is",
     "`make lib` builds a static and a shared library": "the package `libprecopy-dev` has the library",
     "`make deb` makes `python3-precopy`": "the package `python3-precopy` has the module",
