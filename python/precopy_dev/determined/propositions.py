@@ -228,6 +228,8 @@ def fitted(pattern, tree, names, found):
     base, dot, fields = pattern[1].partition(".") if pattern[0] == "id" else ("", "", "")
     if dot and base in names and tree[0] == "id" and tree[1].endswith(f".{fields}"):
         return fitted(("id", base), ("id", tree[1].removesuffix(f".{fields}")), names, found)
+    if dot and base in names and tree[0] == "app" and tree[1] == ("id", f"field.{fields}"):
+        return fitted(("id", base), tree[2][0], names, found)
     if pattern[0] != tree[0] or pattern[0] not in ("app", "bin"):
         return found if shown(pattern) == shown(tree) else None
     if pattern[0] == "bin":

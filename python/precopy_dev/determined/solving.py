@@ -342,8 +342,25 @@ def by_cases(crate, path, name, at):
     return frozenset(found)
 
 
+def cases_of(meant, arguments):
+    """Yields what each case of a relation says of these arguments, or None for a case that is want of memory."""
+    where = f"{contracts.TOP}/crates/{meant.crate}/specs/{meant.path}"
+    for patterns, text in meant.equations:
+        if text != "⊥" and len(patterns) == len(arguments):
+            is_name = [re.fullmatch(r"[a-z_]\w*", pattern) is not None for pattern in patterns]
+            values = {name: tree for name, tree, known in zip(patterns, arguments, is_name) if known}
+            solver = Solver(where, (), {})
+            solver.add(put(parsed(text), values), where, 2)
+            yield None if re.search(r"\bMemory\)*$", patterns[-1]) else solver.said
+
+
 def excluding(one, other):
     """Returns the law by which two cases exclude each other, in a set that is empty if their texts show it, or None."""
+    for law, names, has, lacks in laws().apart:
+        for first, second in ((one, other), (other, one)):
+            for found in filter(None, (fitted(has, tree, names, {}) for tree in first.values())):
+                if any(fitted(lacks, tree, names, found) is not None for tree in second.values()):
+                    return {law}
     for first, second in ((one, other), (other, one)):
         for text in first:
             if f"(¬ {text})" in second or f"({text} → ⊥)" in second:

@@ -20,7 +20,7 @@ from dataclasses import dataclass, field
 from precopy_dev import contracts
 from precopy_dev.determined.laws import clauses_of, conjuncts, parts_of
 from precopy_dev.determined.propositions import applied, fitted, parsed, put, shown
-from precopy_dev.determined.solving import Solver, excluding
+from precopy_dev.determined.solving import Solver, cases_of, excluding
 from precopy_dev.determined.typed import split_at_commas
 
 FORM, LAW, MEMORY, NOT = "form", "law", "memory", "not"
@@ -204,6 +204,10 @@ class Reading:
         if self.kind == "result" and (self.is_memory_alone() or says_memory(other.said)):
             return (MEMORY, ())
         by = excluding(solver.said, other.said)
+        for meant, arguments, _, _ in other.uses if by is None else []:
+            if meant and len(meant.equations) > 1 and arguments[-1] == ERR:
+                cases = [excluding(solver.said, said) for said in cases_of(meant, arguments) if said is not None]
+                by = set().union(*cases) if cases and None not in cases else None
         if by is not None:
             return (MEMORY, ()) if other.may_lack_memory else (LAW if by else FORM, tuple(by))
         return self.by_only(solver, {"(IsOk result)": FORM})

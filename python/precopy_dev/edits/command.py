@@ -124,21 +124,15 @@ def refused(crate, edits, room, records):
 def open_goal(crate, edits, room):
     """Checks the crate with these edits in place. Returns the first that the prover cannot show, or "" if it is
     proved."""
-    for edit in edits:
-        for path, text in edit.put_in(room).items():
-            write(text, f"{room}/{path}")
-    here = f"{room}/crates/{crate}"
-    ran = subprocess.run(
-        ["rt", "check"],
-        cwd=here,
-        stdin=subprocess.DEVNULL,
-        stdout=subprocess.PIPE,
-        stderr=subprocess.STDOUT,
-        text=True,
-        errors="replace",
-    )
-    for path in {path for edit in edits for path in edit.put_in(ROOT)}:
-        shutil.copy2(f"{ROOT}/{path}", f"{room}/{path}")
+    try:
+        for edit in edits:
+            for path, text in edit.put_in(room).items():
+                write(text, f"{room}/{path}")
+        how = {"cwd": f"{room}/crates/{crate}", "stdin": subprocess.DEVNULL, "stdout": subprocess.PIPE}
+        ran = subprocess.run(["rt", "check"], stderr=subprocess.STDOUT, text=True, errors="replace", **how)
+    finally:
+        for path in {path for edit in edits for path in edit.put_in(ROOT)}:
+            shutil.copy2(f"{ROOT}/{path}", f"{room}/{path}")
     lines = ran.stdout.splitlines()
     goals = (line for line in lines if (told := OPEN.match(line)) and (told[1] or told[2]))
     return "" if ran.returncode == 0 else next(goals, " ".join(lines[-3:]))
