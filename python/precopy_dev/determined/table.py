@@ -18,7 +18,7 @@ import re
 from dataclasses import dataclass, field
 
 from precopy_dev import contracts
-from precopy_dev.determined.laws import clauses_of, conjuncts, parts_of
+from precopy_dev.determined.laws import clauses_of, parts_of
 from precopy_dev.determined.propositions import applied, fitted, parsed, put, shown
 from precopy_dev.determined.solving import Solver, cases_of, excluding
 from precopy_dev.determined.typed import split_at_commas
