@@ -32,8 +32,8 @@ TICKS = os.sysconf("SC_CLK_TCK")
 LOOKS = 0.1  # seconds from one look at a prover's processor time to the next
 # What the prover calls the parts of a function's proof.
 PARTS = (
-    "Answers Code Goals Given Held Invariants Key Kinds Layout Lts Met Mir Named Proof Reads Spent Statement Symbol "
-    "TheLink Tie View"
+    "Answers Carried Code Goals Given Held Invariants Key Kinds Layout Lts Met Mir Named Proof Reads Spent Statement "
+    "Symbol TheLink Tie View"
 ).split()
 SEARCHED = ("Proof", "Answers")
 FOLLOWED = ("Lts", "Tie")
@@ -127,7 +127,7 @@ def function_of(file):
         linked = steps[steps.index("TheLinks") + 1 :]
         return "::".join(linked[0].split("-")[1:]) if linked else "", "TheLink"
     at = len(steps)
-    while at and steps[at - 1] in PARTS:
+    while at and steps[at - 1].split("-")[0] in PARTS:
         at -= 1
     return "::".join(steps[:at]), steps[at] if at < len(steps) else ""
 

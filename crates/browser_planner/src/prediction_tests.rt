@@ -95,77 +95,72 @@ fn settings_of_limits(rt: HostRuntime) {
     );
 }
 
+/// Returns whether a question is refused with this number, before anything is written.
+fn is_refused(question: &Question, number: u32) -> bool {
+    let mut made = settings(0, None, 0);
+    let status = lent_question(question, &mut made);
+    status == number && made.min == 2 && predicted(question, 30) == (number, UNANSWERED)
+}
+
 #[test]
-fn refused_questions_have_numbers(rt: HostRuntime) {
-    let cases = [
-        (81, Question { tick: 0, ..ASKED }),
-        (
-            82,
-            Question {
-                page: 8192,
-                ..ASKED
-            },
-        ),
-        (
-            83,
-            Question {
-                sampled: 17,
-                ..ASKED
-            },
-        ),
-        (84, Question { link: 0, ..ASKED }),
-        (
-            85,
-            Question {
-                first: 2048,
-                has_first: 1,
-                ..ASKED
-            },
-        ),
-        (
-            86,
-            Question {
-                reserve: 200_001,
-                ..ASKED
-            },
-        ),
-        (
-            87,
-            Question {
-                downtime: 4_097_000_000,
-                ..ASKED
-            },
-        ),
-        (
-            25,
-            Question {
-                rounds: 65,
-                ..ASKED
-            },
-        ),
-        (
-            30,
-            Question {
-                base: 1,
-                has_base: 1,
-                ..ASKED
-            },
-        ),
-    ];
-    for (number, asked) in cases {
-        let mut made = settings(0, None, 0);
-        assert!(rt; lent_question(&asked, &mut made) == number, "{number}");
-        assert!(rt;
-            made.min == 2 && predicted(&asked, 30) == (number, UNANSWERED),
-            "{number}"
-        );
-    }
+fn refused_units_have_numbers(rt: HostRuntime) {
+    assert!(rt; is_refused(&Question { tick: 0, ..ASKED }, 81));
+    let wide = Question {
+        page: 8192,
+        ..ASKED
+    };
+    assert!(rt; is_refused(&wide, 82));
+    let many = Question {
+        sampled: 17,
+        ..ASKED
+    };
+    assert!(rt; is_refused(&many, 83));
+    assert!(rt; is_refused(&Question { link: 0, ..ASKED }, 84));
+}
+
+#[test]
+fn refused_limits_have_numbers(rt: HostRuntime) {
+    let fast = Question {
+        first: 2048,
+        has_first: 1,
+        ..ASKED
+    };
+    assert!(rt; is_refused(&fast, 85));
+    let reserved = Question {
+        reserve: 200_001,
+        ..ASKED
+    };
+    assert!(rt; is_refused(&reserved, 86));
+    let long = Question {
+        downtime: 4_097_000_000,
+        ..ASKED
+    };
+    assert!(rt; is_refused(&long, 87));
+}
+
+#[test]
+fn refused_settings_have_numbers(rt: HostRuntime) {
+    let many = Question {
+        rounds: 65,
+        ..ASKED
+    };
+    assert!(rt; is_refused(&many, 25));
+    let late = Question {
+        base: 1,
+        has_base: 1,
+        ..ASKED
+    };
+    assert!(rt; is_refused(&late, 30));
+}
+
+#[test]
+fn questions_that_misfit_the_trace_have_numbers(rt: HostRuntime) {
     let wide = Question { page: 32, ..ASKED };
+    assert!(rt; predicted(&wide, 30) == (88, UNANSWERED));
     let few = Question {
         sampled: 3,
         ..ASKED
     };
-    assert!(rt; predicted(&wide, 30) == (88, UNANSWERED));
     assert!(rt; predicted(&few, 30) == (89, UNANSWERED));
     assert!(rt; predicted(&ASKED, 29) == (61, UNANSWERED));
 }

@@ -64,30 +64,21 @@ fn amounts_that_keep_a_limit(rt: HostRuntime) {
         has_increment: 0,
         ..given
     };
-    let cases: [(Question, Told); 5] = [
-        (ASKED, (0, 1, [250, 10_009, 0], [1, 1, 0])),
-        (few_rounds, (0, 0, [1500, 135_156, 0], [1, 1, 0])),
-        (late, (0, 0, [2625, 0, 40], [1, 0, 1])),
-        (given, (0, 0, [750, 250_000, 80], [1, 1, 1])),
-        (not_given, (0, 1, [250, 1562, 0], [1, 1, 0])),
-    ];
-    for (question, expected) in cases {
-        assert!(rt; remedies(&question, 64) == expected);
-    }
+    assert!(rt; remedies(&ASKED, 64) == (0, 1, [250, 10_009, 0], [1, 1, 0]));
+    assert!(rt; remedies(&few_rounds, 64) == (0, 0, [1500, 135_156, 0], [1, 1, 0]));
+    assert!(rt; remedies(&late, 64) == (0, 0, [2625, 0, 40], [1, 0, 1]));
+    assert!(rt; remedies(&given, 64) == (0, 0, [750, 250_000, 80], [1, 1, 1]));
+    assert!(rt; remedies(&not_given, 64) == (0, 1, [250, 1562, 0], [1, 1, 0]));
+}
+
+/// Returns whether a question is refused with this number, before anything is written.
+fn is_refused(question: &Question, slots: usize, number: u32) -> bool {
+    remedies(question, slots) == (number, 7, [7; 3], [7; 3])
 }
 
 #[test]
 fn refusals_leave_the_amounts(rt: HostRuntime) {
-    let wide = Question { page: 32, ..ASKED };
-    let cases: [(u32, Question, usize); 3] = [
-        (61, ASKED, 63),
-        (81, Question { tick: 0, ..ASKED }, 64),
-        (88, wide, 64),
-    ];
-    for (number, question, slots) in cases {
-        assert!(rt;
-            remedies(&question, slots) == (number, 7, [7; 3], [7; 3]),
-            "{number}"
-        );
-    }
+    assert!(rt; is_refused(&ASKED, 63, 61));
+    assert!(rt; is_refused(&Question { tick: 0, ..ASKED }, 64, 81));
+    assert!(rt; is_refused(&Question { page: 32, ..ASKED }, 64, 88));
 }
