@@ -25,12 +25,15 @@ WHERE = --prefix "$(PREFIX)" --destdir "$(DESTDIR)" --bindir "$(BINDIR)" --libdi
 	--docdir "$(DOCDIR)" --bashdir "$(BASHDIR)" --zshdir "$(ZSHDIR)" \
 	--systemddir "$(SYSTEMDDIR)" --librarydir "$(LIBRARYDIR)" --includedir "$(INCLUDEDIR)" --sharedir "$(SHAREDIR)"
 
-all:
+all: notices
 	./precopy --help > /dev/null
 	./precopy-view --help > /dev/null
 	dev/build --if-needed precopy_schedule
 
-lib:
+notices:
+	$(PACK) notices
+
+lib: notices
 	$(PACK) lib
 
 scan:
@@ -58,4 +61,4 @@ deb dist: all lib page
 release: all lib page
 	$(PACK) $@ --output out/release $(if $(MAINTAINER),--maintainer "$(MAINTAINER)")
 
-.PHONY: all lib scan page docs install install-lib uninstall uninstall-lib deb dist release
+.PHONY: all notices lib scan page docs install install-lib uninstall uninstall-lib deb dist release

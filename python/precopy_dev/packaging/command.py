@@ -2,12 +2,13 @@
 
     dev/package lib
     dev/package scan
+    dev/package notices
     dev/package install | install-lib [--prefix DIR] [--destdir DIR]
     dev/package uninstall | uninstall-lib [--prefix DIR] [--destdir DIR]
     dev/package deb | dist | release [--output DIR]
 
 `lib` proves and builds what is not built yet, and `scan` builds out/scan.so, with which tools/record takes less time
-for a look. `install-lib` installs the library alone, and needs only that it is built. `install`, `deb` and `dist` need
+for a look. `notices` writes out/NOTICES, of the libraries that are linked. `install-lib` installs the library alone, and needs only that it is built. `install`, `deb` and `dist` need
 the programs and the page's module too. The status is 0 if all was done, 1 if not, and 2 if the words are refused.
 """
 
@@ -141,7 +142,7 @@ PACKED = {
     "dist": lambda asked: archive.build(asked.output),
     "release": lambda asked: release.build(asked.output, asked.maintainer),
 }
-WORK = {"lib": library.make, "scan": build_scan, "install": install, "install-lib": install}
+WORK = {"lib": library.make, "notices": notices.make, "scan": build_scan, "install": install, "install-lib": install}
 WORK |= {"uninstall": uninstall, "uninstall-lib": uninstall}
 
 

@@ -7,14 +7,15 @@ and from what the sources of each library use of others.
 import functools
 import os
 import re
+import shutil
 import subprocess
 
 from precopy_dev.tree import TOP
 
 USE = re.compile(r"^\s*(?:pub )?use ([a-z_0-9]+)::", re.M)
 # Programs and libraries that users get, by the crates that they are built from.
-SHIPPED = ("precopy", "precopy_view", "precopy_schedule", "precopy_c")
-PLANNER = ("browser_planner",)
+SHIPPED = ("precopy", "precopy_view", "precopy_schedule", "precopy_c", "browser_planner")
+KEPT = os.path.join(TOP, "out", "NOTICES")
 HEAD = """\
 The programs, the library and the planner of precopy hold code of the libraries below, which the toolchain's authors
 have ported. Their licences ask that these notices go with it.
@@ -80,11 +81,28 @@ def notices_of(library: str) -> list[str]:
     return texts
 
 
-def notices(crates: tuple[str, ...] = SHIPPED + PLANNER) -> str:
-    """The notices of all that these crates hold, once for each text, with the libraries that it is of."""
+def told_by_toolchain() -> str:
+    """The notices of all that is shipped, once for each text, with the libraries that it is of."""
     texts: dict[str, list[str]] = {}
-    for library in linked(crates):
+    for library in linked(SHIPPED):
         for text in notices_of(library):
             texts.setdefault(text, []).append(library)
     parts = (f"{', '.join(names)}\n{'=' * 78}\n\n{text}\n" for text, names in texts.items())
     return HEAD + "\n" + "\n\n".join(parts)
+
+
+def make(_) -> None:
+    """Writes the notices to KEPT, so that an installation of what is built needs no toolchain."""
+    if shutil.which("rt"):
+        os.makedirs(os.path.dirname(KEPT), exist_ok=True)
+        with open(KEPT, "w", encoding="utf-8") as file:
+            file.write(told_by_toolchain())
+
+
+def notices() -> str:
+    """The notices as `make` has kept them."""
+    try:
+        with open(KEPT, encoding="utf-8") as file:
+            return file.read()
+    except FileNotFoundError as fault:
+        raise Lacks("the notices of the toolchain's libraries are not there: make writes them") from fault
