@@ -39,7 +39,7 @@ lib: notices
 scan:
 	$(PACK) scan
 
-page:
+page: notices
 	dev/page-module --if-needed out/browser_planner.wasm
 	dev/join-page out/browser_planner.wasm out/precopy.html
 

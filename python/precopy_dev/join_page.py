@@ -18,6 +18,7 @@ import posixpath
 import re
 import sys
 
+from precopy_dev.packaging import notices
 from precopy_dev.tree import TOP
 from precopy_tools.formats import traces
 from precopy_tools.refusals import Refused
@@ -107,7 +108,9 @@ def page_of(module):
     links = "".join(f'<link rel="stylesheet" href="{name}">' for name in STYLES)
     page = replaced(page, links, f"<style>{style}</style>")
     program = f'<script type="module" id="program">{script}</script>'
-    return replaced(page, '<script type="module" src="page.js"></script>', "".join(holders) + program)
+    page = replaced(page, '<script type="module" src="page.js"></script>', "".join(holders) + program)
+    # A comment of HTML has no two dashes in a row.
+    return f"{page}<!--\n{notices.notices(notices.PLANNER).replace('--', '- -')}-->\n"
 
 
 def main(words):
@@ -120,7 +123,7 @@ def main(words):
         os.makedirs(os.path.dirname(os.path.abspath(words[1])), exist_ok=True)
         with open(words[1], "w", encoding="utf-8") as file:
             file.write(page)
-    except (OSError, Refused) as error:
+    except (OSError, Refused, notices.Lacks) as error:
         print(f"dev/join-page: {error}", file=sys.stderr)
         return 1
     return 0

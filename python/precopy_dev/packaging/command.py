@@ -8,8 +8,9 @@
     dev/package deb | dist | release [--output DIR]
 
 `lib` proves and builds what is not built yet, and `scan` builds out/scan.so, with which tools/record takes less time
-for a look. `notices` writes out/NOTICES, of the libraries that are linked. `install-lib` installs the library alone, and needs only that it is built. `install`, `deb` and `dist` need
-the programs and the page's module too. The status is 0 if all was done, 1 if not, and 2 if the words are refused.
+for a look. `notices` writes out/NOTICES, of the libraries that are linked. `install-lib` installs the library alone,
+and needs only that it is built. `install`, `deb` and `dist` need the programs and the page's module too. The status is
+0 if all was done, 1 if not, and 2 if the words are refused.
 """
 
 import argparse

@@ -14,8 +14,10 @@ from precopy_dev.tree import TOP
 
 USE = re.compile(r"^\s*(?:pub )?use ([a-z_0-9]+)::", re.M)
 # Programs and libraries that users get, by the crates that they are built from.
-SHIPPED = ("precopy", "precopy_view", "precopy_schedule", "precopy_c", "browser_planner")
-KEPT = os.path.join(TOP, "out", "NOTICES")
+PLANNER = ("browser_planner",)
+SHIPPED = ("precopy", "precopy_view", "precopy_schedule", "precopy_c", *PLANNER)
+# Where the notices are kept: of all that is shipped, and of the planner's page alone.
+KEPT = {SHIPPED: os.path.join(TOP, "out", "NOTICES"), PLANNER: os.path.join(TOP, "out", "NOTICES.planner")}
 HEAD = """\
 The programs, the library and the planner of precopy hold code of the libraries below, which the toolchain's authors
 have ported. Their licences ask that these notices go with it.
@@ -81,10 +83,10 @@ def notices_of(library: str) -> list[str]:
     return texts
 
 
-def told_by_toolchain() -> str:
-    """The notices of all that is shipped, once for each text, with the libraries that it is of."""
+def told_by_toolchain(crates: tuple[str, ...]) -> str:
+    """The notices of what these crates hold, once for each text, with the libraries that it is of."""
     texts: dict[str, list[str]] = {}
-    for library in linked(SHIPPED):
+    for library in linked(crates):
         for text in notices_of(library):
             texts.setdefault(text, []).append(library)
     parts = (f"{', '.join(names)}\n{'=' * 78}\n\n{text}\n" for text, names in texts.items())
@@ -93,16 +95,16 @@ def told_by_toolchain() -> str:
 
 def make(_) -> None:
     """Writes the notices to KEPT, so that an installation of what is built needs no toolchain."""
-    if shutil.which("rt"):
-        os.makedirs(os.path.dirname(KEPT), exist_ok=True)
-        with open(KEPT, "w", encoding="utf-8") as file:
-            file.write(told_by_toolchain())
+    for crates, path in KEPT.items() if shutil.which("rt") else ():
+        os.makedirs(os.path.dirname(path), exist_ok=True)
+        with open(path, "w", encoding="utf-8") as file:
+            file.write(told_by_toolchain(crates))
 
 
-def notices() -> str:
+def notices(crates: tuple[str, ...] = SHIPPED) -> str:
     """The notices as `make` has kept them."""
     try:
-        with open(KEPT, encoding="utf-8") as file:
+        with open(KEPT[crates], encoding="utf-8") as file:
             return file.read()
     except FileNotFoundError as fault:
         raise Lacks("the notices of the toolchain's libraries are not there: make writes them") from fault
