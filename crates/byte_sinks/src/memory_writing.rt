@@ -1,6 +1,6 @@
 //! Memory that is written to a sink, piece by piece.
 
-ghost use Rattle.std.specs.Prelude.{◌≡◌, ◌≢◌, ◌⊎◌, ◌≤◌, ℕ, List, IfErr, OnErr, OnOk, drop, false, length, true};
+ghost use Rattle.std.specs.Prelude.{◌≡◌, ◌≢◌, ◌⊎◌, ◌≤◌, ℕ, List, IfErr, OnErr, OnOk, drop, false, length, max, true};
 ghost use Rattle.std.specs.List.{All, between};
 ghost use Rattle.std.specs.Io.KnownBytes.{Appends};
 ghost use Rattle.byte_sinks.specs.Pieces.{AreCuts, HasRoom};
@@ -80,6 +80,7 @@ fn write_pieces<R: Threads + Sync, K: Sink, M: PagedMemory + Sync>(
 fn threads_for(shape: Shape, workers: usize) -> usize
     ensures some { 1 ≤ result }
     ensures few { result ≤ 16 }
+    ensures workers { result ≤ max 1 workers }
 {
     let bytes = (shape.pages as usize) << shape.shift;
     if workers < 2 || bytes < WORTH_THREADS {

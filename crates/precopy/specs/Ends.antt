@@ -1,5 +1,5 @@
 -- How the program ends if it has not done what the words ask for.
-use Rattle.std.specs.Prelude.{◌≡◌, ◌≢◌, ◌↔◌, ℕ, Bool, List, Option, codes, true}
+use Rattle.std.specs.Prelude.{◌≡◌, ◌≢◌, ◌↔◌, ℕ, Bool, List, Option, None, codes, true}
 use Rattle.std.specs.Io.KnownBytes.{Keeps}
 use Rattle.byte_sinks.specs.Sink.{AppendsPart}
 use Rattle.job_kinds.specs.declared.job.Job.{Job}
@@ -27,10 +27,10 @@ pub record HasFailed (known : Option (List ℕ)) (job : Job) (unread unwritten :
 
 -- the fault line of a failed run was told
 abbrev pub TellsRun : RunError → Option (List ℕ) → Option (List ℕ) → Bool → Type 0
-TellsRun (errors.Trace e) old new has_failed = TellsLine Precopy old new has_failed
+TellsRun (errors.Trace e) old new has_failed = TellsLine Precopy None old new has_failed
 TellsRun errors.Memory old new has_failed = IsTold (memory_line Precopy) old new has_failed
 TellsRun errors.Thread old new has_failed = IsTold (line_of Precopy (codes "thread")) old new has_failed
-TellsRun (errors.Live e) old new has_failed = TellsLine Precopy old new has_failed
+TellsRun (errors.Live e) old new has_failed = TellsLine Precopy None old new has_failed
 TellsRun errors.Write old new has_failed = IsTold (write_line Precopy) old new has_failed
 
 -- words are refused, and that was told

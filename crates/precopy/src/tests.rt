@@ -5,6 +5,7 @@ ghost use Rattle.std.specs.Prelude.{◌≡◌, false};
 mod live;
 mod report;
 mod sweep;
+mod writers;
 
 use crate::starting::start;
 use byte_sinks::TestSink;

@@ -68,15 +68,18 @@ word_at [] i d low = absurd (omega arith)
 word_at (w ∷ ws) zero d low = refl
 word_at (w ∷ ws) (suc i) d low = word_at ws i d (omega arith)
 
--- one line that is no plan
-pub no_plan_there : (words : List (Bor (List ℕ))) (i : ℕ) (d : Bor (List ℕ)) → i < length words
-    → IsNoPlan (get_or words i d).now → RefusesLine (map (λ w. w.now) words) (i + 1)
-no_plan_there words i d low none = record {
+-- the first line that is no plan
+pub no_plan_there : (words : List (Bor (List ℕ))) (i : ℕ) (d : Bor (List ℕ)) (plans : List HostPlan) (number : ℕ)
+    → number ≡ i + 1 → i < length words → AllZip SpellsPlan (take i (map (λ w. w.now) words)) plans
+    → IsNoPlan (get_or words i d).now → RefusesLine (map (λ w. w.now) words) number
+no_plan_there words i d plans number is low before none = record {
   place = i;
-  number_is = refl;
+  number_is = is;
   line = (get_or words i d).now;
   line_is = word_at words i d low;
   refused = none;
+  plans = plans;
+  before = before;
 }
 
 -- words are one list of numbers at most

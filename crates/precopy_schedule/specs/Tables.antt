@@ -2,7 +2,7 @@
 -- a deadline, and for each guest its time, its bytes, its downtime, whether its limits are kept, and its group. 0 is no
 -- deadline, limits that are not kept, and no group. This project's own.
 use Rattle.std.specs.Prelude.{◌≡◌, ℕ, ◌+◌, ◌-◌, ◌*◌, ◌/◌, ◌%◌, ◌^◌, ◌<◌, ◌==◌, ◌&&◌, nat_le, not, Bool, true}
-use Rattle.std.specs.Prelude.{⊤, if◌then◌else◌, List, length, map, slice_index, Option, Some, None}
+use Rattle.std.specs.Prelude.{⊤, if◌then◌else◌, List, length, map, slice_index, take, Option, Some, None}
 use Rattle.std.specs.List.{AllZip, range_with_len, slice_get, slice_split}
 use Rattle.std.specs.Str.{IsUtf8}
 use Rattle.std.specs.Str.Lines.{lines}
@@ -70,13 +70,15 @@ pub record SpellsTable (bytes : List ℕ) (plans : List HostPlan) : Type 0 where
   pub text : IsUtf8 bytes
   pub each : AllZip SpellsPlan (lines bytes) plans
 
--- of these lines that with this number, from 1 on, is no plan
+-- of these lines that with this number, from 1 on, is the first that is no plan
 pub record RefusesLine (all : List (List ℕ)) (number : ℕ) : Type 0 where
   pub place : ℕ
   pub number_is : number ≡ place + 1
   pub line : List ℕ
   pub line_is : slice_get all place ≡ Some line
   pub refused : IsNoPlan line
+  pub plans : List HostPlan
+  pub before : AllZip SpellsPlan (take place all) plans
 
 -- why the lines are no plans, and why bytes are no table; nothing is said of a want of memory
 abbrev pub RefusesLines : List (List ℕ) → TableError → Type 0

@@ -1,6 +1,6 @@
 //! What is told of plans, as a text.
 
-ghost use Rattle.std.specs.Prelude.{◌≡◌, ◌++◌, ◌<◌, [], IfErr, IfOk, OnOk, length, map};
+ghost use Rattle.std.specs.Prelude.{◌≡◌, ◌↔◌, ◌++◌, ◌<◌, [], Err, IfErr, IfOk, OnOk, length, map};
 ghost use Rattle.std.specs.List.{flat_map};
 ghost use Rattle.precopy_schedule.specs.Answers.{IsAnswerText, answer_text, best_line, cost_line, mark_of};
 ghost use Rattle.precopy_schedule.specs.Answers.{placement_line, wide_field};
@@ -101,7 +101,7 @@ fn text_of(
 
 /// Returns what is told of some plans: a line on the schedule of each, the place of the best, and a line on each of its
 /// moves.
-pub(crate) fn told(alloc: Global, plans: &[Plan]) -> Result<Vec<u8>, TableError>
+fn text_of_plans(alloc: Global, plans: &[Plan]) -> Result<Vec<u8>, TableError>
     ensures told { IfOk result (λ text. IsAnswerText plans.now text.items) }
     ensures refused { IfErr result (RefusesPlans plans.now) }
 {
@@ -111,4 +111,16 @@ pub(crate) fn told(alloc: Global, plans: &[Plan]) -> Result<Vec<u8>, TableError>
         Some(best) => Ok(text_of(alloc, &costs, best, placed_of(&answers[best]))?),
         None => Err(TableError::NoPlans),
     }
+}
+
+/// Returns what is told of some plans. That there is none is told without any memory.
+pub(crate) fn told(alloc: Global, plans: &[Plan]) -> Result<Vec<u8>, TableError>
+    ensures told { IfOk result (λ text. IsAnswerText plans.now text.items) }
+    ensures refused { IfErr result (RefusesPlans plans.now) }
+    ensures none { (result ≡ Err TableError.NoPlans) ↔ (plans.now ≡ []) }
+{
+    if plans.is_empty() {
+        return Err(TableError::NoPlans);
+    }
+    text_of_plans(alloc, plans)
 }

@@ -1,5 +1,5 @@
 -- How words that make no view end, and what is told of that and of a failed view.
-use Rattle.std.specs.Prelude.{ℕ, Bool, List, Option, ⊤}
+use Rattle.std.specs.Prelude.{ℕ, Bool, List, Option, None, ⊤}
 use Rattle.byte_sinks.specs.declared.error.SinkError.{SinkError}
 use Rattle.byte_sinks.specs.declared.error.SinkError.TheVariants as sinks
 use Rattle.job_commands.specs.Commands.{IsWordsRefusal}
@@ -32,7 +32,7 @@ FailsAs Is words = (e : ViewWordsError) × WordsFail words e × Is e
 -- what was told of words that make no view
 abbrev pub TellsViewWords : ViewWordsError → Option (List ℕ) → Option (List ℕ) → Bool → Type 0
 TellsViewWords (asked.Words e) old new has_failed = TellsWords PrecopyView e old new has_failed
-TellsViewWords (asked.Limits refusal) old new has_failed = TellsLine PrecopyView old new has_failed
+TellsViewWords (asked.Limits refusal) old new has_failed = TellsLine PrecopyView None old new has_failed
 
 -- words are refused, and that was told
 pub record TellsRefusal (words : List (List ℕ)) (old new : Option (List ℕ)) (has_failed : Bool) : Type 0 where
@@ -43,12 +43,12 @@ pub record TellsRefusal (words : List (List ℕ)) (old new : Option (List ℕ)) 
 
 -- the fault line of a view that failed was told
 abbrev pub TellsShow : ShowError → Option (List ℕ) → Option (List ℕ) → Bool → Type 0
-TellsShow (shows.Trace e) old new has_failed = TellsLine PrecopyView old new has_failed
+TellsShow (shows.Trace e) old new has_failed = TellsLine PrecopyView None old new has_failed
 TellsShow shows.Memory old new has_failed = IsTold (memory_line PrecopyView) old new has_failed
 TellsShow shows.Write old new has_failed = IsTold (write_line PrecopyView) old new has_failed
-TellsShow (shows.PageSize size) old new has_failed = TellsLine PrecopyView old new has_failed
-TellsShow (shows.TooManyPages pages) old new has_failed = TellsLine PrecopyView old new has_failed
-TellsShow (shows.View e) old new has_failed = TellsLine PrecopyView old new has_failed
+TellsShow (shows.PageSize size) old new has_failed = TellsLine PrecopyView None old new has_failed
+TellsShow (shows.TooManyPages pages) old new has_failed = TellsLine PrecopyView None old new has_failed
+TellsShow (shows.View e) old new has_failed = TellsLine PrecopyView None old new has_failed
 
 -- why a view was not written
 abbrev pub error_of_sink : SinkError → ShowError

@@ -10,11 +10,11 @@ FitsScale None shift pages = ⊤
 FitsScale (Some scale) shift pages =
     (2 ^ shift ≡ scale.page) × (scale.sampled < scale.guest → pages ≤ scale.sampled)
 
--- the error says how the trace does not have the scale
+-- the error says how the trace does not have the scale: first comes the size of its pages
 abbrev pub IsMisfitOf : TraceScale → ℕ → ℕ → ShowError → Type 0
 IsMisfitOf scale shift pages (errors.PageSize size) = (size ≡ 2 ^ shift) × (size ≢ scale.page)
 IsMisfitOf scale shift pages (errors.TooManyPages count) =
-    (count ≡ pages) × (scale.sampled < scale.guest) × (scale.sampled < pages)
+    (count ≡ pages) × (2 ^ shift ≡ scale.page) × (scale.sampled < scale.guest) × (scale.sampled < pages)
 IsMisfitOf scale shift pages (errors.Trace e) = ⊥
 IsMisfitOf scale shift pages errors.Memory = ⊥
 IsMisfitOf scale shift pages errors.Write = ⊥

@@ -1,6 +1,6 @@
 //! What is written on standard error, and the statuses that go with it.
 
-ghost use Rattle.std.specs.Prelude.{◌≡◌, ◌≤◌, ◌⊎◌, IfErr, List, OnOk, ℕ, false, true};
+ghost use Rattle.std.specs.Prelude.{◌≡◌, ◌≤◌, ◌⊎◌, IfErr, List, None, OnOk, ℕ, false, true};
 ghost use Rattle.std.specs.Io.KnownBytes.{Appends};
 ghost use Rattle.byte_sinks.specs.Sink.{AppendsPart};
 ghost use Rattle.program_messages.specs.Ends.{IsTold, TellsLine, memory_line, write_line};
@@ -111,7 +111,7 @@ struct ExplainedTrace(TraceError, &'static str);
 fn trace_fault<E: Sink>(faults: &mut E, error: TraceError) -> u8
     requires { E.has_failed faults.old ≡ false }
     ensures status { result ≡ 1 }
-    ensures told { TellsLine Program.PrecopyView (E.contents faults.old) (E.contents faults.new)
+    ensures told { TellsLine Program.PrecopyView None (E.contents faults.old) (E.contents faults.new)
         (E.has_failed faults.new) }
 {
     let explained = ExplainedTrace(error, cause_of(&error));

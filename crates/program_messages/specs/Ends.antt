@@ -1,5 +1,6 @@
 -- How a program ends whose words make nothing that it can run, and what it tells of that and of an error.
-use Rattle.std.specs.Prelude.{◌≡◌, ◌⊎◌, ◌++◌, ◌∷◌, [], ℕ, Bool, false, true, List, Option, codes, string_bytes}
+use Rattle.std.specs.Prelude.{◌≡◌, ◌≤◌, ◌⊎◌, ◌++◌, ◌∷◌, [], ℕ, Bool, false, true, List, Option, None, IfSome, codes}
+use Rattle.std.specs.Prelude.{length, string_bytes}
 use Rattle.std.specs.Io.KnownBytes.{Appends}
 use Rattle.byte_sinks.specs.Sink.{AppendsPart}
 use Rattle.job_commands.specs.declared.command.WordsError.{WordsError}
@@ -41,9 +42,16 @@ memory_line program = line_of program (codes "memory")
 abbrev pub write_line : Program → List ℕ
 write_line program = line_of program (codes "write")
 
--- a fault line of a program was told; nothing is said of its cause
-pub record TellsLine (program : Program) (old new : Option (List ℕ)) (has_failed : Bool) : Type 0 where
+-- a cause is this text, or is cut and has 128 bytes
+abbrev pub IsWholeOrCut : List ℕ → List ℕ → Type 0
+IsWholeOrCut cause text = (cause ≡ text) ⊎ (length cause ≡ 128)
+
+-- A fault line of a program was told, whose cause has at most 128 bytes. If the text of the cause is known, it is whole
+-- or cut.
+pub record TellsLine (program : Program) (text old new : Option (List ℕ)) (has_failed : Bool) : Type 0 where
   pub cause : List ℕ
+  pub short : length cause ≤ 128
+  pub whole : IfSome text (IsWholeOrCut cause)
   pub told : IsTold (line_of program cause) old new has_failed
 
 -- What was told of an error of words: that help could not be written, a want of memory, the text on words that are not
@@ -52,4 +60,4 @@ abbrev pub TellsWords : Program → WordsError → Option (List ℕ) → Option 
 TellsWords program (errors.Help text) old new has_failed = IsTold (write_line program) old new has_failed
 TellsWords program errors.Memory old new has_failed = IsTold (memory_line program) old new has_failed
 TellsWords program (errors.Usage text) old new has_failed = IsTold (string_bytes text) old new has_failed
-TellsWords program (errors.Refused refusal) old new has_failed = TellsLine program old new has_failed
+TellsWords program (errors.Refused refusal) old new has_failed = TellsLine program None old new has_failed

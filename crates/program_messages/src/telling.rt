@@ -1,10 +1,10 @@
 //! What is told on standard output and standard error in place of a program's own output.
 
-ghost use Rattle.std.specs.Prelude.{◌≡◌, ◌≤◌, ◌⊎◌, ◌↔◌, List, codes, length, ℕ, false, true};
+ghost use Rattle.std.specs.Prelude.{◌≡◌, ◌≤◌, ◌⊎◌, ◌↔◌, IfSome, List, codes, length, ℕ, false, true};
 ghost use Rattle.std.specs.Io.KnownBytes.{Appends};
 ghost use Rattle.byte_sinks.specs.Sink.{AppendsPart};
 ghost use Rattle.job_commands.specs.Commands.{IsWordsRefusal};
-ghost use Rattle.program_messages.specs.Ends.{IsHelpText, IsTold, TellsLine, TellsWords};
+ghost use Rattle.program_messages.specs.Ends.{IsHelpText, IsTold, IsWholeOrCut, TellsLine, TellsWords};
 ghost use Rattle.program_messages.specs.Ends.{line_of, memory_line, write_line};
 
 use crate::program::Program;
@@ -45,21 +45,44 @@ fn tell_cause<E: Sink>(program: Program, cause: &str, faults: &mut E)
     tell(faults, line.as_str());
 }
 
+/// Fills a text with dots.
+fn filled<const CAP: usize>(mut text: ArrayString<CAP>) -> ArrayString<CAP>
+    ensures { length result.bytes ≡ CAP }
+{
+    let room = text.remaining_capacity();
+    for _ in 0..room {
+        text.push('.');
+    }
+    text
+}
+
+/// Returns the text of a cause. One that has no room in 128 bytes is cut, and filled with dots.
+fn text_of<D: Display>(cause: &D) -> ArrayString<128>
+    ensures { IfSome (D.output cause.now) (IsWholeOrCut result.bytes) }
+{
+    let mut text = ArrayString::<128>::new();
+    match write!(text, "{cause}") {
+        Ok(()) => text,
+        Err(_) => filled(text),
+    }
+}
+
 /// Writes a fault line: the program's name, a cause of at most 128 bytes, and a newline. It allocates nothing.
 pub fn tell_line<E: Sink, D: Display>(program: Program, cause: &D, faults: &mut E)
     requires { E.has_failed faults.old ≡ false }
-    ensures { TellsLine program (E.contents faults.old) (E.contents faults.new) (E.has_failed faults.new) }
+    ensures { TellsLine program (D.output cause.now) (E.contents faults.old) (E.contents faults.new)
+        (E.has_failed faults.new) }
 {
-    let mut words = ArrayString::<128>::new();
-    let _ = write!(words, "{cause}");
-    tell_cause(program, words.as_str(), faults);
+    let text = text_of(cause);
+    tell_cause(program, text.as_str(), faults);
 }
 
 /// Writes the fault line of an error, and returns the error's status, 1.
 pub fn fault<E: Sink, D: Display>(program: Program, error: &D, faults: &mut E) -> u8
     requires { E.has_failed faults.old ≡ false }
     ensures status { result ≡ 1 }
-    ensures told { TellsLine program (E.contents faults.old) (E.contents faults.new) (E.has_failed faults.new) }
+    ensures told { TellsLine program (D.output error.now) (E.contents faults.old) (E.contents faults.new)
+        (E.has_failed faults.new) }
 {
     tell_line(program, error, faults);
     1

@@ -5,7 +5,8 @@ use Rattle.precopy_schedule.proofs.TableLemmas.{no_plan_there, plans_more}
 use Rattle.precopy_schedule.proofs.plans.plans_in_lines.Goals as goal
 
 pub returns-in-Err-NoPlan-clause-refused : goal.returns-in-Err-NoPlan-clause-refused
-returns-in-Err-NoPlan-clause-refused c = no_plan_there c.args.lines.now c.loop-number.number _ c.loop-number-test.true
+returns-in-Err-NoPlan-clause-refused c = no_plan_there c.args.lines.now c.loop-number.number _
+    c.loop-number.plans.items _ (omega arith) c.loop-number-test.true c.loop-number.invariant.spelled
     (c.in-Err-NoPlan.ensures.refused c.in-Err-NoPlan.field-0-is)
 
 pub loop-number-preserved : goal.loop-number-preserved

@@ -1,7 +1,7 @@
 use Rattle.std.proofs.Common.{◌≡◌, List, [], map, ap, sym, ◌∙◌}
 use Rattle.precopy_schedule.specs.Answers.{PlanAnswer, cost_in}
 use Rattle.precopy_schedule.proofs.TableLemmas.{no_plans}
-use Rattle.precopy_schedule.proofs.texts.told.Goals as goal
+use Rattle.precopy_schedule.proofs.texts.text_of_plans.Goals as goal
 
 pub returns-clause-refused : goal.returns-clause-refused
 returns-clause-refused c =
