@@ -8,7 +8,7 @@ use crate::carriage::{Carriage, Frame, Part};
 use crate::lanes::{lane, Giver, Taker};
 use crate::pages::{fetch, Body, Index, Rooms, RELEASE, ZEROS};
 use crate::plan::{Plan, Planner, Touches};
-use crate::trace::{Reader, Refused, Sizes};
+use crate::trace::{text, Reader, Refused, Sizes};
 use crate::words::Settings;
 use std::ops::Range;
 use std::sync::atomic::{AtomicBool, AtomicU32, AtomicU64, Ordering::*};
@@ -34,8 +34,9 @@ impl Guest {
     /// Reads the trace and plans its rounds. Before the first one all pages are dirty that the destination lacks.
     fn read(settings: &Settings) -> Result<Guest, Refused> {
         let open = |sizes: Sizes| (Touches::new(sizes), crate::memory::zeros::<u32>(sizes.writes));
-        let (sizes, text, (touches, positions)) = Reader::whole(open, |made, number, write| {
-            made.0.come(write);
+        let text = text()?;
+        let (sizes, (touches, positions)) = Reader::whole(text, open, |made, number, write| {
+            made.0.come(number, write);
             made.1[number] = if write.length == 0 { RELEASE } else { write.at as u32 };
         })?;
         let (plan, index) = scope(|scope| {

@@ -18,8 +18,7 @@ mod words;
 
 use plan::{Planner, Touches};
 use std::io::Write;
-use tables::Tables;
-use trace::{file, Reader, Refused};
+use trace::{file, Refused};
 use words::{Job, Settings};
 
 fn put(bytes: &[u8]) -> Result<(), Refused> {
@@ -27,25 +26,20 @@ fn put(bytes: &[u8]) -> Result<(), Refused> {
 }
 
 fn report(settings: &Settings) -> Result<(), Refused> {
-    let open = |sizes| (Tables::new(sizes, settings), Touches::new(sizes));
-    let each = |made: &mut (Tables, Touches), _: &[u8], write| {
-        made.0.come(write);
-        made.1.come(write);
-    };
-    let (_, (tables, touches)) = Reader::stream(open, each, |_, _| ())?;
-    let mut text = tables.end();
+    let (sizes, touches) = Touches::read()?;
+    let mut text = tables::tables(sizes, &touches, settings);
     Planner::new(&touches, None).plan(settings).lines(&mut text);
     put(&text.0)
 }
 
 fn sweep(cases: &[Settings], workers: usize) -> Result<(), Refused> {
-    let (_, touches) = Reader::stream(Touches::new, |touches, _, write| touches.come(write), |_, _| ())?;
+    let (_, touches) = Touches::read()?;
     put(&sweep::sweep(&touches, cases, workers).0)
 }
 
 fn run() -> Result<(), Refused> {
     match words::job(std::env::args().skip(1))? {
-        Job::Image => put(image::image()?),
+        Job::Image => image::image(),
         Job::Report(settings) => report(&settings),
         Job::Sweep(cases, workers) => sweep(&cases, workers),
         Job::Live(settings) if settings.encoded => live::live::<carriage::Encoded>(&settings),

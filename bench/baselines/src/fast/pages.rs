@@ -1,10 +1,19 @@
 //! Pages at their versions: where each page is written, memory for the bytes of pages, and how they are made.
 
-use crate::image::MASKS;
 use crate::memory::{prefetch, zeroed, zeros};
 use crate::plan::Touches;
 use crate::trace::number;
 use std::ptr::{copy_nonoverlapping, null_mut};
+
+const MASKS: [u128; 17] = {
+    let mut masks = [u128::MAX; 17];
+    let mut length = 0;
+    while length < 16 {
+        masks[length] = (1 << (8 * length)) - 1;
+        length += 1;
+    }
+    masks
+};
 
 /// The bytes of a page, or nothing if all are zeros. One thread at a time writes them: the copier of the page, and
 /// at the end whoever resumes the guest.

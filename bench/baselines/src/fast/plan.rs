@@ -6,7 +6,7 @@
 
 use crate::memory::zeros;
 use crate::text::Text;
-use crate::trace::{Sizes, Write};
+use crate::trace::{text, Reader, Refused, Sizes, Write};
 use crate::words::Settings;
 
 /// Ticks and pages of all writes.
@@ -14,21 +14,24 @@ pub struct Touches {
     pub pages: usize,
     pub tick: &'static mut [u64],
     pub page: &'static mut [u32],
-    count: usize,
 }
 
 impl Touches {
     pub fn new(sizes: Sizes) -> Touches {
-        Touches { pages: sizes.pages, tick: zeros(sizes.writes), page: zeros(sizes.writes), count: 0 }
+        Touches { pages: sizes.pages, tick: zeros(sizes.writes), page: zeros(sizes.writes) }
     }
 
     #[inline(always)]
-    pub fn come(&mut self, write: Write) {
+    pub fn come(&mut self, number: usize, write: Write) {
         unsafe {
-            *self.tick.get_unchecked_mut(self.count) = write.tick;
-            *self.page.get_unchecked_mut(self.count) = write.page;
+            *self.tick.get_unchecked_mut(number) = write.tick;
+            *self.page.get_unchecked_mut(number) = write.page;
         }
-        self.count += 1;
+    }
+
+    /// Those of the trace on standard input.
+    pub fn read() -> Result<(Sizes, Touches), Refused> {
+        Reader::whole(text()?, Touches::new, |touches, number, write| touches.come(number, write))
     }
 
     /// The number of the first write at this tick or later.
@@ -36,13 +39,12 @@ impl Touches {
         self.tick.partition_point(|it| *it < tick)
     }
 
-    /// For each write the number, from 1, of the write to its page before it, or 0.
-    pub fn index(&self) -> &'static [u32] {
-        let (last, index) = (zeros::<u32>(self.pages), zeros::<u32>(self.page.len()));
-        for (number, page) in self.page.iter().enumerate() {
-            let last = &mut last[*page as usize];
-            index[number] = *last;
-            *last = number as u32 + 1;
+    /// For each write the number, from 1, of the write to its page before it, or 0. Signed numbers are compared many at
+    /// a time.
+    pub fn index(&self) -> &'static [i32] {
+        let (last, index) = (zeros::<i32>(self.pages), zeros::<i32>(self.page.len()));
+        for ((page, before), number) in self.page.iter().zip(index.iter_mut()).zip(1..) {
+            *before = std::mem::replace(&mut last[*page as usize], number);
         }
         index
     }
@@ -79,14 +81,14 @@ fn count(bits: &[u64]) -> u64 {
 /// How a plan goes through the touches.
 pub struct Planner<'a> {
     touches: &'a Touches,
-    index: Option<&'a [u32]>,
+    index: Option<&'a [i32]>,
     /// The pages that are due, if that matters, and those written in the round.
     due: Vec<u64>,
     written: Vec<u64>,
 }
 
 impl Planner<'_> {
-    pub fn new<'a>(touches: &'a Touches, index: Option<&'a [u32]>) -> Planner<'a> {
+    pub fn new<'a>(touches: &'a Touches, index: Option<&'a [i32]>) -> Planner<'a> {
         let words = touches.pages.div_ceil(64);
         Planner { touches, index, due: vec![0; words], written: vec![0; words] }
     }
@@ -94,7 +96,10 @@ impl Planner<'_> {
     /// How many different pages these writes go to.
     fn dirtied(&mut self, from: usize, to: usize) -> u64 {
         match self.index {
-            Some(index) => index[from..to].iter().map(|before| (*before as usize <= from) as u32).sum::<u32>() as u64,
+            Some(index) => {
+                let from_here = |before: &i32| (*before <= from as i32) as u32;
+                index[from..to].iter().map(from_here).sum::<u32>() as u64
+            }
             None => {
                 self.written.fill(0);
                 mark(&mut self.written, &self.touches.page[from..to]);

@@ -1,83 +1,59 @@
-//! The windows and the hot pages of a report, made while the trace is read.
+//! The windows and the hot pages of a report, over the columns of ticks and pages.
 
 use crate::memory::zeros;
+use crate::plan::Touches;
 use crate::text::Text;
-use crate::trace::{Sizes, Write};
+use crate::trace::Sizes;
 use crate::words::Settings;
 
-pub struct Tables {
-    pub text: Text,
-    window: u64,
-    hot: u64,
-    /// Of each page the last row that has it (rows count from 1), and in how many rows it is.
-    pages: &'static mut [(u32, u32)],
-    row: u32,
-    number: u64,
-    end: u64,
-    /// The row before this one is of the window before.
-    follows: bool,
-    writes: u64,
-    different: u64,
-    again: u64,
-    fresh: u64,
+/// Of each page the last row that has it (rows count from 1), and in how many rows it is.
+type Seen = (u32, u32);
+
+/// Counts the pages of a row, without a branch: all, those of the row before if that follows, and those of no row.
+#[inline(always)]
+fn count(seen: &mut [Seen], pages: &[u32], row: u32, before: u32) -> [u64; 3] {
+    let (mut different, mut again, mut fresh) = (0, 0, 0);
+    for page in pages {
+        let (last, rows) = unsafe { seen.get_unchecked_mut(*page as usize) };
+        let is_new = (*last != row) as u32;
+        different += is_new;
+        again += (*last == before) as u32;
+        fresh += (*last == 0) as u32;
+        (*last, *rows) = (row, *rows + is_new);
+    }
+    [different, again, fresh].map(u64::from)
 }
 
-impl Tables {
-    pub fn new(sizes: Sizes, settings: &Settings) -> Tables {
-        let mut text = Text::new();
-        let size = sizes.page_size() as u64;
-        text.line(&[("trace pages ", sizes.pages as u64), (" size ", size), (" writes ", sizes.writes as u64)]);
-        let (window, hot) = (settings.window, settings.hot);
-        let pages = zeros(sizes.pages);
-        let (row, number, end, follows) = (1, 0, window, false);
-        Tables { text, window, hot, pages, row, number, end, follows, writes: 0, different: 0, again: 0, fresh: 0 }
-    }
-
-    #[inline(always)]
-    pub fn come(&mut self, write: Write) {
-        if write.tick >= self.end {
-            self.turn(write.tick);
-        }
-        self.writes += 1;
-        let page = unsafe { self.pages.get_unchecked_mut(write.page as usize) };
-        if page.0 != self.row {
-            self.different += 1;
-            self.again += (self.follows && page.0 + 1 == self.row) as u64;
-            self.fresh += (page.0 == 0) as u64;
-            *page = (self.row, page.1 + 1);
-        }
-    }
-
-    #[inline(never)]
-    fn turn(&mut self, tick: u64) {
-        let next = tick / self.window;
-        self.close();
-        self.follows = self.row > 1 && next == self.number + 1;
-        self.number = next;
-        self.end = (next + 1) * self.window;
-    }
-
-    fn close(&mut self) {
-        if self.writes == 0 {
-            return;
-        }
-        let pages = [(" pages ", self.different), (" again ", self.again), (" fresh ", self.fresh)];
+/// The lines of all windows that have writes.
+fn windows(seen: &mut [Seen], touches: &Touches, window: u64, text: &mut Text) {
+    let (ticks, mut first, mut row, mut follows) = (&touches.tick[..], 0, 1, None);
+    while first < ticks.len() {
+        let number = ticks[first] / window;
+        let limit = (number + 1) * window;
+        let end = first + ticks[first..].iter().position(|tick| *tick >= limit).unwrap_or(ticks.len() - first);
+        let before = if follows == Some(number) { row - 1 } else { u32::MAX };
+        let [different, again, fresh] = count(seen, &touches.page[first..end], row, before);
+        let pages = [(" pages ", different), (" again ", again), (" fresh ", fresh)];
         let [different, again, fresh] = pages;
-        self.text.line(&[("window ", self.number), (" writes ", self.writes), different, again, fresh]);
-        (self.writes, self.different, self.again, self.fresh) = (0, 0, 0, 0);
-        self.row += 1;
+        text.line(&[("window ", number), (" writes ", (end - first) as u64), different, again, fresh]);
+        (first, row, follows) = (end, row + 1, Some(number + 1));
     }
+}
 
-    pub fn end(mut self) -> Text {
-        self.close();
-        let is_hot = |page: &(u32, u32)| page.1 as u64 >= self.hot;
-        let hot = self.pages.iter().filter(|page| is_hot(page)).count() as u64;
-        self.text.line(&[("hot ", self.hot), (" pages ", hot)]);
-        for (number, page) in self.pages.iter().enumerate() {
-            if is_hot(page) {
-                self.text.line(&[("page ", number as u64)]);
-            }
+/// The text of the tables, from the first line of a report on.
+pub fn tables(sizes: Sizes, touches: &Touches, settings: &Settings) -> Text {
+    let mut text = Text::new();
+    let size = sizes.page_size() as u64;
+    text.line(&[("trace pages ", sizes.pages as u64), (" size ", size), (" writes ", sizes.writes as u64)]);
+    let seen = zeros::<Seen>(sizes.pages);
+    windows(seen, touches, settings.window, &mut text);
+    let is_hot = |page: &Seen| page.1 as u64 >= settings.hot;
+    let hot = seen.iter().filter(|page| is_hot(page)).count() as u64;
+    text.line(&[("hot ", settings.hot), (" pages ", hot)]);
+    for (number, page) in seen.iter().enumerate() {
+        if is_hot(page) {
+            text.line(&[("page ", number as u64)]);
         }
-        self.text
     }
+    text
 }

@@ -1,9 +1,7 @@
-//! Traces from standard input (`docs/FORMATS.md`): header and records, each looked at once.
-//!
-//! `Reader::stream` goes through one small buffer that is filled again and again, so that the bytes of a large trace
-//! are never memory of their own. `Reader::whole` keeps all of them, for a live run.
+//! Traces from standard input (`docs/FORMATS.md`): header and records, each looked at once. A file is mapped, so its
+//! bytes are never copied; of anything else all bytes are read.
 
-use crate::memory::zeros;
+use crate::memory::{mapped, prefetch, zeros};
 use std::fs::File;
 use std::io::Read;
 use std::mem::ManuallyDrop;
@@ -12,7 +10,8 @@ use std::os::fd::FromRawFd;
 pub const LONGEST: usize = 1 << 28;
 const HEADER: usize = 16;
 const RECORD: usize = 16;
-const CHUNK: usize = 1 << 18;
+/// How far ahead of a record the processor is told what comes: bytes, and records as long as this one.
+const AHEAD: (usize, usize) = (1024, 8);
 /// Bytes after a buffer that may be read, and are never used.
 pub const SLACK: usize = 64;
 
@@ -33,13 +32,13 @@ pub struct Sizes {
 }
 
 impl Sizes {
-    fn read(header: &[u8]) -> Result<Sizes, Refused> {
-        let word = |at| unsafe { number::<u32>(header, at) } as usize;
-        let is_header = header.len() == HEADER && header[..4] == *b"PCWT" && header[6..8] == [0, 0];
-        if !is_header || !(1..=2).contains(&header[4]) {
+    pub fn read(text: &[u8]) -> Result<Sizes, Refused> {
+        let is_header = text.len() >= HEADER && text[..4] == *b"PCWT" && text[6..8] == [0, 0];
+        if !is_header || !(1..=2).contains(&text[4]) {
             return Err("the header of the trace is refused".into());
         }
-        let (releases, shift) = (header[4] == 2, header[5] as u32);
+        let word = |at| unsafe { number::<u32>(text, at) } as usize;
+        let (releases, shift) = (text[4] == 2, text[5] as u32);
         let sizes = Sizes { releases, shift, pages: word(8), writes: word(12) };
         let fits = (4..=12).contains(&sizes.shift) && (1..=65_536).contains(&sizes.pages) && sizes.writes <= 1 << 20;
         fits.then_some(sizes).ok_or("the sizes of the trace are refused".into())
@@ -83,10 +82,13 @@ impl Reader {
 
     /// Takes records from the front of the bytes, until none is left or the next one is cut. Returns where it ended.
     #[inline(always)]
-    fn take(&mut self, bytes: &[u8], mut each: impl FnMut(&[u8], Write)) -> Result<usize, Refused> {
+    fn take(&mut self, bytes: &[u8], mut each: impl FnMut(usize, Write)) -> Result<usize, Refused> {
         let (size, pages, releases) = (self.sizes.page_size(), self.sizes.pages, self.sizes.releases);
-        let (mut at, mut done, mut tick) = (0, self.done, self.tick);
-        while done < self.sizes.writes && bytes.len() - at >= RECORD {
+        let (mut at, mut tick) = (0, self.tick);
+        for done in self.done..self.sizes.writes {
+            if bytes.len() - at < RECORD {
+                return Ok(at);
+            }
             let (next, page) = unsafe { (number::<u64>(bytes, at), number::<u32>(bytes, at + 8)) };
             let place = unsafe { number::<u32>(bytes, at + 12) } as usize;
             let (offset, length) = (place & 0xffff, place >> 16);
@@ -97,12 +99,13 @@ impl Reader {
             }
             let end = at + RECORD + length;
             if end > bytes.len() {
-                break;
+                return Ok(at);
             }
-            each(bytes, Write { tick: next, page, offset, length, at: at + RECORD });
-            (at, tick, done) = (end, next, done + 1);
+            prefetch(bytes.as_ptr().wrapping_add(end + AHEAD.0 + AHEAD.1 * (end - at)));
+            each(done, Write { tick: next, page, offset, length, at: at + RECORD });
+            (at, tick) = (end, next);
+            (self.done, self.tick) = (done + 1, tick);
         }
-        (self.done, self.tick) = (done, tick);
         Ok(at)
     }
 
@@ -111,57 +114,22 @@ impl Reader {
         ended.then_some(()).ok_or("the trace ends too early or too late".into())
     }
 
-    /// Reads all of standard input through one buffer. What `open` makes of the sizes is given to `each` for each
-    /// write, and to `passed` before the buffer is filled again.
-    #[inline(always)]
-    pub fn stream<T>(
-        open: impl FnOnce(Sizes) -> T,
-        mut each: impl FnMut(&mut T, &[u8], Write),
-        mut passed: impl FnMut(&mut T, &[u8]),
-    ) -> Result<(Sizes, T), Refused> {
-        let buffer = zeros::<u8>(CHUNK + SLACK);
-        let (mut held, mut total) = (fill(buffer, 0)?, 0);
-        let mut reader = Reader::new(Sizes::read(&buffer[..held.min(HEADER)])?);
-        let mut made = open(reader.sizes);
-        let mut front = HEADER;
-        loop {
-            let taken = reader.take(&buffer[front..held], |_, write| {
-                each(&mut made, buffer, Write { at: write.at + front, ..write })
-            })?;
-            passed(&mut made, buffer);
-            let left = front + taken;
-            total += left;
-            buffer.copy_within(left..held, 0);
-            let kept = held - left;
-            held = fill(buffer, kept)?;
-            front = 0;
-            if total + held > LONGEST {
-                return Err("the trace is too long".into());
-            }
-            if held == kept {
-                reader.end(held)?;
-                return Ok((reader.sizes, made));
-            }
-        }
-    }
-
-    /// Reads all of standard input and keeps it. `each` is given each write's number and the write; its bytes stand in
-    /// the text.
+    /// Looks at all records of a trace. What `open` makes of the sizes is given to `each` with each write's number and
+    /// the write; its bytes stand in the text.
     #[inline(always)]
     pub fn whole<T>(
+        text: &[u8],
         open: impl FnOnce(Sizes) -> T,
         mut each: impl FnMut(&mut T, usize, Write),
-    ) -> Result<(Sizes, &'static [u8], T), Refused> {
-        let text = text()?;
-        let mut reader = Reader::new(Sizes::read(&text[..text.len().min(HEADER)])?);
-        let (mut made, mut number) = (open(reader.sizes), 0);
+    ) -> Result<(Sizes, T), Refused> {
+        let mut reader = Reader::new(Sizes::read(text)?);
+        let mut made = open(reader.sizes);
         let body = &text[HEADER..];
-        let taken = reader.take(body, |_, write| {
+        let taken = reader.take(body, |number, write| {
             each(&mut made, number, Write { at: write.at + HEADER, ..write });
-            number += 1;
         })?;
         reader.end(body.len() - taken)?;
-        Ok((reader.sizes, text, made))
+        Ok((reader.sizes, made))
     }
 }
 
@@ -180,9 +148,16 @@ fn fill(buffer: &mut [u8], mut held: usize) -> Result<usize, Refused> {
 }
 
 /// All bytes of standard input; some more may be read after them.
-fn text() -> Result<&'static [u8], Refused> {
+pub fn text() -> Result<&'static [u8], Refused> {
     let known = file(0).metadata().map_err(|fault| fault.to_string())?;
-    let mut room = if known.is_file() { known.len() as usize + 1 } else { 1 << 20 }.min(LONGEST + 1);
+    let size = if known.is_file() { known.len() as usize } else { 0 };
+    if size > LONGEST {
+        return Err("the trace is too long".into());
+    }
+    if let Some(text) = mapped(0, size) {
+        return Ok(text);
+    }
+    let mut room = if size > 0 { size + 1 } else { 1 << 20 };
     let mut buffer = zeros::<u8>(room + SLACK);
     let mut held = fill(buffer, 0)?;
     while held == room && room <= LONGEST {
