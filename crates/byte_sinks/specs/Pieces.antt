@@ -1,20 +1,20 @@
 -- Pieces of memory, which are made side by side.
-use Rattle.std.specs.Prelude.{◌≡◌, ◌+◌, ◌*◌, ◌^◌, ◌<◌, ◌≤◌, ℕ, List, length, min, vec_capacity, slice_index_or}
+use Rattle.std.specs.Prelude.{◌≡◌, ◌+◌, ◌*◌, ◌^◌, ◌<◌, ◌≤◌, ℕ, List, length, vec_capacity, slice_index_or}
 use Rattle.std.specs.List.{between}
 use Rattle.migration_model.specs.Memory.{GuestMemory}
 use Rattle.byte_sinks.specs.declared.making.Piece.{Piece}
 
--- a piece has room for so many pages, and its buffer is as long as a page
-abbrev pub HasRoom : ℕ → ℕ → Piece → Type 0
-HasRoom shift pages piece = (length piece.page.items ≡ 2 ^ shift) × (pages * 2 ^ shift ≤ vec_capacity piece.bytes)
+-- a piece has room for its bytes, and its buffer is as long as a page
+abbrev pub HasRoom : ℕ → Piece → Type 0
+HasRoom shift piece = (length piece.page.items ≡ 2 ^ shift) × (2 ^ 18 ≤ vec_capacity piece.bytes)
 
--- the page at which a piece begins, if each has so many pages from the first on, and all end where memory does
-abbrev pub start_at : ℕ → ℕ → ℕ → ℕ → ℕ
-start_at all first pages number = min (first + number * pages) all
+-- the piece of this number: the bytes from its place on, as many as a piece has, or fewer if memory ends before
+abbrev pub piece_of : GuestMemory → ℕ → List ℕ
+piece_of memory number = between (number * 2 ^ 18) ((number + 1) * 2 ^ 18) memory.bytes
 
--- the byte of memory at which it begins
-abbrev pub byte_at : GuestMemory → ℕ → ℕ → ℕ → ℕ
-byte_at memory first pages number = start_at memory.pages first pages number * 2 ^ memory.shift
+-- the byte at which a piece begins, if they are counted from this one on
+abbrev pub start_from : ℕ → ℕ → ℕ
+start_from first number = (first + number) * 2 ^ 18
 
 -- the pieces hold what lies between these places of some bytes, one piece after the other
 abbrev pub AreCuts : (ℕ → ℕ) → List ℕ → List Piece → Type 0

@@ -7,16 +7,13 @@ ghost use Rattle.byte_sinks.specs.Pieces.{AreCuts, HasRoom};
 ghost use Rattle.byte_sinks.specs.Sink.{AppendsPart};
 
 use crate::error::SinkError;
-use crate::making::{Piece, fill_pieces, new_pieces, start_of};
-use crate::paged_memory::PagedMemory;
+use crate::making::{Piece, fill_pieces, new_pieces};
+use crate::pieced_memory::{PIECE, PiecedMemory, memory_size};
 use crate::sink::Sink;
 use crate::writing::{flush, write_all};
 use guest_log::Shape;
 use std::alloc::Global;
 use std::thread::Threads;
-
-/// Memory is written in pieces of this many bytes, which stay in the processor's cache between making and writing.
-const PIECE: usize = 1 << 18;
 
 /// Each of several threads makes this many pieces before any of them is written, so that starting it pays.
 const PIECES_EACH: usize = 4;
@@ -46,32 +43,30 @@ fn write_each<K: Sink>(sink: &mut K, pieces: &[Piece]) -> Result<(), SinkError>
 }
 
 /// Writes all of some memory, some pieces after others, which are made in at most so many threads.
-fn write_pieces<R: Threads + Sync, K: Sink, M: PagedMemory + Sync>(
+fn write_pieces<R: Threads + Sync, K: Sink, M: PiecedMemory + Sync>(
     rt: &R,
     sink: &mut K,
     memory: &M,
     pieces: &mut [Piece],
-    pages: u32,
     threads: usize,
 ) -> Result<(), SinkError>
     requires unfailed { K.has_failed sink.old ≡ false }
     requires threads { 1 ≤ threads }
-    requires some { 1 ≤ pages }
     requires pieces { 1 ≤ length pieces.old }
     requires few { length pieces.old ≤ 65536 }
-    requires room { All (HasRoom (M.memory memory.now).shift pages) pieces.old }
+    requires room { All (HasRoom (M.memory memory.now).shift) pieces.old }
     ensures written { OnOk result (Appends (K.contents sink.old) (K.contents sink.new) (M.memory memory.now).bytes) }
     ensures unfailed { OnOk result (K.has_failed sink.new ≡ false) }
     ensures part { OnErr result (AppendsPart (K.contents sink.old) (K.contents sink.new) (M.memory memory.now).bytes) }
     ensures error { IfErr result (λ e. e ≡ SinkError.Write) }
     ensures failed { OnErr result (K.has_failed sink.new ≡ true) }
 {
-    let all = memory.shape().pages;
+    let size = memory_size(memory.shape());
     let mut first = 0;
-    while first < all {
-        fill_pieces(rt, memory, first, pages, threads, pieces);
+    while first * PIECE < size {
+        fill_pieces(rt, memory, first, threads, pieces);
         write_each(sink, pieces)?;
-        first = start_of(first, pages, pieces.len(), all);
+        first += pieces.len();
     }
     Ok(())
 }
@@ -82,8 +77,7 @@ fn threads_for(shape: Shape, workers: usize) -> usize
     ensures few { result ≤ 16 }
     ensures workers { result ≤ max 1 workers }
 {
-    let bytes = (shape.pages as usize) << shape.shift;
-    if workers < 2 || bytes < WORTH_THREADS {
+    if workers < 2 || memory_size(shape) < WORTH_THREADS {
         return 1;
     }
     workers.min(MOST_THREADS)
@@ -104,7 +98,7 @@ fn pieces_for(threads: usize) -> usize
 
 /// Writes all of some memory and flushes. It allocates its pieces before it writes the first byte, and nothing later
 /// but what starting a thread takes.
-pub fn write_memory<R: Threads + Sync, K: Sink, M: PagedMemory + Sync>(
+pub fn write_memory<R: Threads + Sync, K: Sink, M: PiecedMemory + Sync>(
     rt: &R,
     alloc: Global,
     sink: &mut K,
@@ -122,10 +116,9 @@ pub fn write_memory<R: Threads + Sync, K: Sink, M: PagedMemory + Sync>(
     ensures failed { IfErr result (λ e. e ≡ SinkError.Write → K.has_failed sink.new ≡ true) }
 {
     let shape = memory.shape();
-    let pages = (PIECE >> shape.shift) as u32;
     let threads = threads_for(shape, workers);
     let count = pieces_for(threads);
-    let mut pieces = new_pieces(alloc, shape, pages, count).or(Err(SinkError::Memory))?;
-    write_pieces(rt, sink, memory, &mut pieces, pages, threads)?;
+    let mut pieces = new_pieces(alloc, shape, count).or(Err(SinkError::Memory))?;
+    write_pieces(rt, sink, memory, &mut pieces, threads)?;
     flush(sink)
 }

@@ -7,4 +7,4 @@ use Rattle.migration_jobs.specs.declared.output.Output.TheVariants as outputs
 abbrev pub bytes_in : Output → List ℕ
 bytes_in (outputs.Text text) = text.items
 bytes_in (outputs.Memory memory) = memory.bytes
-bytes_in (outputs.Replayed memory) = memory.bytes
+bytes_in (outputs.Dealt memory) = memory.bytes

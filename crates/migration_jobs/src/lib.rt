@@ -6,7 +6,6 @@ mod imaging;
 mod live;
 mod output;
 mod remains;
-mod replayed;
 mod running;
 mod shown;
 mod written_memory;

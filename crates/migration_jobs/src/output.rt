@@ -5,9 +5,9 @@ ghost use Rattle.std.specs.Io.KnownBytes.{Appends};
 ghost use Rattle.byte_sinks.specs.Sink.{AppendsPart};
 ghost use Rattle.migration_jobs.specs.Bytes.{bytes_in};
 
-use crate::replayed::ReplayedMemory;
 use crate::shown::ShownMemory;
 use byte_sinks::{Sink, SinkError, write_memory, write_out};
+use dealt_memory::DealtMemory;
 use std::alloc::Global;
 use std::thread::Threads;
 
@@ -16,10 +16,10 @@ use std::thread::Threads;
 pub(crate) enum Output {
     /// Bytes that are complete.
     Text(Vec<u8>),
-    /// The memory of a live run, written page by page.
+    /// The memory of a live run, written piece by piece.
     Memory(ShownMemory),
-    /// The memory after all writes of a trace, written page by page.
-    Replayed(ReplayedMemory),
+    /// The memory after all writes of a trace, written piece by piece.
+    Dealt(DealtMemory),
 }
 
 /// Writes all of an output and flushes. At most so many workers make memory. If memory runs out, nothing is written.
@@ -43,6 +43,6 @@ pub(crate) fn write_output<R: Threads + Sync, K: Sink>(
     match output {
         Output::Text(text) => write_out(sink, text),
         Output::Memory(memory) => write_memory(rt, alloc, sink, memory, workers),
-        Output::Replayed(memory) => write_memory(rt, alloc, sink, memory, workers),
+        Output::Dealt(memory) => write_memory(rt, alloc, sink, memory, workers),
     }
 }

@@ -162,7 +162,7 @@ fn read_output<R: Threads + Wait + Sync, S: Source, G: Gate>(
     ensures read_failed { (result ≡ Err (RunError.Trace ReadFault)) ↔ (S.has_failed source.new ≡ true) }
 {
     match job {
-        Job::Image => image_output(rt, alloc, source),
+        Job::Image => image_output(alloc, source),
         Job::Report(settings) => Ok(Output::Text(report_output(rt, alloc, settings, source)?)),
         Job::Live(settings, show) => {
             let memory = live_output(rt, alloc, settings, *show, source, gate)?;
@@ -174,14 +174,12 @@ fn read_output<R: Threads + Wait + Sync, S: Source, G: Gate>(
     }
 }
 
-/// How many threads make the memory that `image` writes page by page.
-const IMAGE_WORKERS: usize = 4;
-
-/// Returns how many threads may make the memory that a job writes: as many as there are workers.
+/// Returns how many threads may make the memory that a job writes: as many as a live run has workers. `image` makes
+/// its pieces in little more time than starting threads for them takes.
 fn workers_of(job: &Job) -> usize {
     match job {
         Job::Live(settings, _) => settings.asked().workers as usize,
-        _ => IMAGE_WORKERS,
+        _ => 1,
     }
 }
 

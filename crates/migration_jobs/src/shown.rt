@@ -6,7 +6,7 @@ ghost use Rattle.live_engine.specs.Runs.{IsStoppedAt};
 ghost use Rattle.migration_model.specs.Memory.{GuestMemory};
 ghost use Rattle.migration_jobs.specs.Shown.{memory_shown};
 
-use byte_sinks::PagedMemory;
+use byte_sinks::{PagedMemory, PiecedMemory, piece_by_pages};
 use job_kinds::Show;
 use live_engine::StoppedGuest;
 use std::marker::Model;
@@ -57,5 +57,17 @@ impl PagedMemory for ShownMemory {
             Show::Stop => self.stopped.memory.page_into(page, buffer),
             Show::End => self.stopped.resumed_page(&self.trace, page, buffer),
         }
+    }
+}
+
+impl PiecedMemory for ShownMemory {
+    ghost memory = { λ m. m };
+
+    fn shape(&self) -> Shape {
+        self.trace.shape()
+    }
+
+    fn piece_into(&self, number: usize, page: &mut Vec<u8>, piece: &mut Vec<u8>) {
+        piece_by_pages(self, number, page, piece);
     }
 }

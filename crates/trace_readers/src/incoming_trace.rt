@@ -10,12 +10,16 @@ ghost use Rattle.trace_readers.specs.Visits.{CanVisit, IsAllVisited, IsHeaderOf}
 
 use crate::held_trace::HeldTrace;
 use crate::pieces::Pieces;
+use crate::sampling::likely_length;
 use crate::text_reading::read_on;
 use crate::visiting::{Taken, fill_front, visit_rest};
 use crate::write_visitor::WriteVisitor;
 use std::alloc::Global;
 use std::marker::Model;
 use trace_codec::{Header, Source, TraceError, read_header};
+
+/// How many bytes must have come for a guess at a trace's length.
+const SAMPLE: usize = 65_536;
 
 /// All bytes of a trace that came from a source so far. Whoever knows its header decides how to continue: to hold the
 /// trace, or to hand its writes to a visitor, and hold none of them.
@@ -42,8 +46,40 @@ impl IncomingTrace {
         ensures failed { (result ≡ Err TraceError.ReadFault) ↔ (S.has_failed source.new ≡ true) }
     {
         let mut pieces = Pieces::new(alloc)?;
-        fill_front(source, &mut pieces)?;
+        fill_front(source, &mut pieces, 16)?;
         Ok(IncomingTrace { pieces })
+    }
+
+    /// Reads the header of a trace, and with it 64 KiB or all that the source has, from which `likely_length` guesses.
+    /// If the header is refused, it reads on to the end of the source, or past the longest trace and no further.
+    pub fn with_header<S: Source>(
+        alloc: Global,
+        source: &mut S,
+    ) -> Result<(IncomingTrace, Header), TraceError>
+        requires { S.has_failed source.old ≡ false }
+        ensures came { IfOk result (λ found. Consumes (S.remaining source.old) (S.remaining source.new) found.0) }
+        ensures header { IfOk result (λ found. IsHeaderOf found.0 found.1) }
+        ensures refused { IfErr result (SourceRefuses (S.remaining source.old)) }
+        ensures failed { (result ≡ Err TraceError.ReadFault) ↔ (S.has_failed source.new ≡ true) }
+    {
+        let mut pieces = Pieces::new(alloc)?;
+        fill_front(source, &mut pieces, SAMPLE)?;
+        if pieces.rest().len() < 16 {
+            return Err(TraceError::ShortHeader);
+        }
+        match read_header(pieces.rest()) {
+            Ok(header) => Ok((IncomingTrace { pieces }, header)),
+            Err(cause) => Err(pieces.read_on(source, cause)),
+        }
+    }
+
+    /// Returns how long the trace is if its records are as long, on average, as those that came. It is a guess: no
+    /// contract speaks of it, and nothing but time and memory may depend on it.
+    pub fn likely_length(&self, header: Header) -> usize
+        requires { IsHeaderOf self.now header }
+    {
+        let (_, records) = self.pieces.rest().split_at(16);
+        likely_length(header, records)
     }
 
     /// Returns the header, or what it is refused for.

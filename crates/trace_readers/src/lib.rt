@@ -8,6 +8,7 @@ mod front_records;
 mod held_trace;
 mod incoming_trace;
 mod pieces;
+mod sampling;
 mod text_reading;
 mod touch_log;
 mod visiting;

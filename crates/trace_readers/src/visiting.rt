@@ -104,20 +104,25 @@ fn visit_records<V: WriteVisitor>(
     (count, Ok(()))
 }
 
-/// Reads pieces until there are 16 bytes, or all that the source has. Returns true at the end of the source.
-pub(crate) fn fill_front<S: Source>(source: &mut S, pieces: &mut Pieces) -> Result<bool, TraceError>
+/// Reads pieces until there are `count` bytes, or all that the source has. Returns true at the end of the source.
+pub(crate) fn fill_front<S: Source>(
+    source: &mut S,
+    pieces: &mut Pieces,
+    count: usize,
+) -> Result<bool, TraceError>
     requires unfailed { S.has_failed source.old ≡ false }
     requires none { pieces.old ≡ pieces_state [] 0 }
+    requires few { count ≤ 262_144 }
     ensures untaken { OnOk result (IsUntaken (S.remaining source.old) (S.remaining source.new) pieces.new) }
     ensures short { OnOk result (pieces.new.count ≤ 2 ^ 28) }
-    ensures front { IfOk result (λ ended. ended ≡ false → 16 ≤ length pieces.new.rest) }
-    ensures few { IfOk result (λ ended. ended ≡ true → length pieces.new.rest < 16) }
+    ensures front { IfOk result (λ ended. ended ≡ false → count ≤ length pieces.new.rest) }
+    ensures few { IfOk result (λ ended. ended ≡ true → length pieces.new.rest < count) }
     ensures end { IfOk result (λ ended. ended ≡ true → IsAtEnd (S.remaining source.new)) }
     ensures unfailed { OnOk result (S.has_failed source.new ≡ false) }
     ensures refused { IfErr result (λ e. e ≡ TraceError.ReadFault) }
     ensures failed { OnErr result (S.has_failed source.new ≡ true) }
 {
-    while pieces.rest().len() < 16 {
+    while pieces.rest().len() < count {
         if !pieces.read_more(source)? {
             return Ok(true);
         }
@@ -137,7 +142,7 @@ pub(crate) fn take_header<S: Source>(
     ensures refused { IfErr result (SourceRefuses (S.remaining source.old)) }
     ensures failed { (result ≡ Err TraceError.ReadFault) ↔ (S.has_failed source.new ≡ true) }
 {
-    if fill_front(source, pieces)? {
+    if fill_front(source, pieces, 16)? {
         return Err(TraceError::ShortHeader);
     }
     match read_header(pieces.rest()) {

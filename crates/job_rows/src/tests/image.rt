@@ -1,5 +1,5 @@
-//! Memory that `image` makes page by page, since it is too large to be made whole, and memory that it makes whole once
-//! a quarter as many trace bytes have come.
+//! Memory that `image` makes in pieces, since its trace is short, and memory that it makes whole, since its trace is a
+//! quarter as long or longer.
 
 use super::{ran, refuses};
 use byte_sinks::TestSink;
@@ -10,7 +10,7 @@ use std::test::Fail;
 use std::thread::Threads;
 use trace_codec::{TestSource, TraceError};
 
-/// How many bytes a guest of 8,193 pages of 4,096 bytes has: one page more than memory that is made whole.
+/// How many bytes a guest of 8,193 pages of 4,096 bytes has: 128 pieces and one page more.
 const SIZE: usize = 33_558_528;
 
 /// Returns a trace of this guest: six writes, of its first page, one in the middle and its last one.

@@ -6,5 +6,5 @@ use Rattle.byte_sinks.proofs.making.new_pieces.Given as goal
 abbrev pub invariant-loop : goal.invariant-loop
 invariant-loop l = record {
   count : vec_len l.pieces ≡ l.counter;
-  room : All (HasRoom l.shape.shift l.pages) l.pieces.items;
+  room : All (HasRoom l.shape.shift) l.pieces.items;
 }

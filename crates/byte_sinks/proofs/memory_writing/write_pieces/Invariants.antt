@@ -6,14 +6,14 @@ use Rattle.byte_sinks.proofs.memory_writing.write_pieces.Given as goal
 
 abbrev pub invariant-loop-first : goal.invariant-loop-first
 invariant-loop-first g l =
-    let memory = g.M.PagedMemory.memory l.memory in
+    let memory = g.M.PiecedMemory.memory l.memory in
     record {
-      within : l.first ≤ l.all;
+      few : l.first ≤ 2 ^ 17;
       written : Appends (g.K.Sink.contents l.fn.sink) (g.K.Sink.contents l.sink)
-          (between 0 (l.first * 2 ^ memory.shift) memory.bytes);
+          (between 0 (l.first * 2 ^ 18) memory.bytes);
       unfailed : g.K.Sink.has_failed l.sink ≡ false;
-      room : All (HasRoom memory.shift l.pages) l.pieces;
+      room : All (HasRoom memory.shift) l.pieces;
     }
 
 abbrev pub decreases-loop-first : goal.decreases-loop-first
-decreases-loop-first g l = l.all - l.first
+decreases-loop-first g l = l.size - l.first * 2 ^ 18

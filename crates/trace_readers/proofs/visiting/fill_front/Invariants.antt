@@ -10,4 +10,4 @@ invariant-loop-pieces g l = record {
 }
 
 abbrev pub decreases-loop-pieces : goal.decreases-loop-pieces
-decreases-loop-pieces g l = 16 - length l.pieces.rest
+decreases-loop-pieces g l = l.count - length l.pieces.rest

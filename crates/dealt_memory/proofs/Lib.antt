@@ -1,0 +1,2 @@
+pub mod Spotted
+pub mod Joined
