@@ -64,9 +64,11 @@ def applied_edits(tally):
         except BadEdit as why:
             bad(str(edit), why)
     names = {str(edit) for edit in edits}
-    for edit in (edit for edit in edits if edit.kind == TWIN):
-        tally.add(f"{edit.crate}/{edit.twin_of()}" in names, f"{edit}: the crate has no such wrong body")
+    twins = {f"{edit.crate}/{edit.twin_of()}" for edit in edits if edit.kind == TWIN}
+    for name in sorted(twins):
+        tally.add(name in names, f"{name} has a twin, and is no wrong body")
     there = {str(edit) for edit in edits if edit.kind == GATE}
+    print(f"of {len(there)} bodies of the gate these have no twin: {' '.join(sorted(there - twins)) or 'none'}")
     listed = {f"{crate}/{name}" for crate, names in NAMED.items() for name in names.split()}
     for name in sorted(listed ^ there):
         tally.add(False, f"{name}: must-fail/ and the list in checks/edits differ, or it does not apply")
