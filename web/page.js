@@ -15,6 +15,7 @@ import { LimitsView } from "./views/limits-view.js";
 import { LinksView } from "./views/links-view.js";
 import { keptPredictions, PlanView } from "./views/plan-view.js";
 import { serve } from "./engine/planner-worker.js";
+import { MapView } from "./views/map-view.js";
 import { listenToPrinting } from "./views/paper.js";
 import { Past } from "./views/past.js";
 import { watchWidths } from "./views/plot.js";
@@ -70,6 +71,7 @@ class Page {
     this.times = new TimePlots(() => this.draw());
     this.windows = new WindowsView((tick) => this.startAt(tick), this.times);
     this.plans = new PlanView((name) => this.controls.focus(name), () => this.fitAnew(), this.planSoon, this.times);
+    this.map = new MapView(this.times);
     this.starts = new StartsView((tick) => this.startAt(tick), () => this.draw(), announce, this.times);
     this.limits = new LimitsView((settings, name) => this.controls.take(settings, [name]));
     this.links = new LinksView((settings, name) => this.controls.take(settings, [name]));
@@ -93,7 +95,7 @@ class Page {
     this.listenToDrops();
     addEventListener("popstate", () => this.follow());
     listenToPrinting(() => this.draw());
-    watchWidths([byId("windows-plot"), byId("starts-plot"), byId("links-plot")], this.planSoon);
+    watchWidths([byId("windows-plot"), byId("starts-plot"), byId("links-plot"), byId("map-plot")], this.planSoon);
   }
 
   listenToDrops() {
@@ -358,6 +360,9 @@ class Page {
     byId("keep").textContent = kept.length < MOST_KEPT ? "Keep to compare" : "Keep in place of the first";
     this.drawLimits();
     this.drawLinks();
+    if (this.windows.axis) {
+      this.map.follow(trace, this.windows.axis, settings, found.value);
+    }
     this.starts.follow(found.value, this.controls.begin);
     this.starts.draw(this.windows.axis);
     this.commands.draw(found.value, trace.sizes, this.controls.begin);

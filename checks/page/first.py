@@ -1,6 +1,7 @@
 """What the planner's page shows first: an answer in few words, with a picture, and the way back."""
 
-from checks.page.acts import require, typed
+from checks.page.acts import read, require, typed
+from checks.page.cases import example
 
 MOST_WORDS, FIRST_PICTURE, LEAST_LINE = 120, 500, 24
 
@@ -29,6 +30,18 @@ FIRST = """(() => {
   return [picture.top, picture.bottom <= innerHeight, parseFloat(getComputedStyle(line).fontSize),
     line.textContent.replaceAll("\\u00a0", " ")];
 })()"""
+
+
+def check_own_trace(page):
+    """A trace of one's own is answered in few words, too."""
+    page.browser.dress(1280, 900)
+    page.open()
+    page.wait_for_plan()
+    page.drop(*((f"own.{kind}", read(example(f"guests/sqlite.light.{kind}"))) for kind in ("pcwt", "json")))
+    page.rest()
+    words = page.browser.value(WORDS)
+    page.browser.dress(1400, 900)
+    require(len(words) <= MOST_WORDS, f"{len(words)} words above the fold: {' '.join(words)}")
 
 
 def check_first_look(page):
@@ -77,3 +90,6 @@ def check_past(page):
     typed(page, "rounds", "9")
     page.after("document.getElementById('undo').click()")
     require(page.browser.value(value) == "8", "a change that was not settled yet cannot be undone")
+    page.after("location.hash = location.hash.replace('rounds=8&', 'rounds=12&')")
+    page.after("document.getElementById('undo').click()")
+    require(page.browser.value(value) == "8", "an address that the user wrote cannot be undone")

@@ -12,6 +12,8 @@ from checks.page.shown import tried
 MOST_BYTES = 1 << 28
 # A change takes 20 ms on a quiet machine, and twice that on a busy one; with plans over the trace's bytes it was 137.
 MOST_MILLIS, MOST_TASK_MILLIS, MOST_CANCEL_SECONDS = 60, 50, 1
+# A zoom of the map takes 100 ms on a quiet machine.
+MOST_MAP_MILLIS = 300
 # By how many times a plan may take longer if each write has more bytes, and the bytes of each.
 MOST_TIMES, LENGTHS = 2, (1, 236)
 # What a trace that is read may add to the memory of the browser.
@@ -179,6 +181,7 @@ def speed_over(page, folder, length):
     )
     if min(middle, each) > MOST_MILLIS:
         raise Failure(f"a change takes {middle:.1f} ms, and {each:.1f} ms of a processor")
+    check_map(page)
     seconds = cancel_starts(page)
     print(f"  after a cancel the next plan takes {seconds:.2f} s")
     if seconds > MOST_CANCEL_SECONDS:
@@ -207,6 +210,27 @@ def check_late(page, folder):
         raise Failure("the plan waits for its errors, or has none")
     if more_memory() > MOST_MEMORY:
         raise Failure(f"{more_memory():,} bytes more than without the trace")
+
+
+# Draws the map of pages over all of a trace, which was near before, and tells after how many milliseconds it is drawn.
+ZOOM = """(async () => {
+  const plot = document.getElementById("map-plot");
+  const since = performance.now();
+  const before = plot.querySelector("canvas").nextSibling;
+  document.getElementById("NAME").click();
+  while (plot.querySelector("canvas").nextSibling === before) { await new Promise((resume) => setTimeout(resume, 1)); }
+  return performance.now() - since;
+})()"""
+
+
+def check_map(page):
+    """The map of pages is drawn soon after a zoom, and no task of the page's own thread takes long for it."""
+    times = []
+    for name in ("zoom-plan", "zoom-out") * 3:
+        require_free(page, f"the map by {name}", lambda: times.append(page.browser.value(ZOOM.replace("NAME", name))))
+    print(f"  the map is drawn {statistics.median(times):.0f} ms after a zoom in the middle, {max(times):.0f} at most")
+    if statistics.median(times) > MOST_MAP_MILLIS:
+        raise Failure(f"the map is drawn in {times} ms")
 
 
 def tell_starts(page, more_memory):

@@ -57,7 +57,7 @@ def check_records(page):
     require(not page.shown()["refused"], said)
     for name, value in (("trace_writes", 3), ("tick_seconds", 7), ("sampled_pages", 1), ("trace_sha256", "0" * 64)):
         said = page.drop(("b.json", json.dumps({**json.loads(record), name: value}).encode()))
-        require("b.json is not used: " in said and name in said, said)
+        require(f"b.json is not used: " in said and name in said, said)
         require(page.browser.value(VALUES) == wanted, f"{name} has changed {page.browser.value(VALUES)}")
 
 
@@ -109,8 +109,8 @@ def check_fitted(page):
     page.open()
     page.wait_for_plan()
     page.drop(*guest_with_record())
-    for name in ("link", "downtime"):
-        require(suggestion(page, name).startswith("Fitted to this trace."), f"{name}: {suggestion(page, name)!r}")
+    for name, words in (("link", "Fitted to this trace."), ("downtime", "Fitted, too.")):
+        require(suggestion(page, name).startswith(words), f"{name}: {suggestion(page, name)!r}")
     offered = page.browser.value(
         "[...document.querySelectorAll('[data-suggested=link]')]" ".map((each) => each.innerText)"
     )

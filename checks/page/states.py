@@ -19,8 +19,9 @@ FULL_WIDTHS = [360, *WIDTHS, 480, 600, 800, 1024, 1920]
 LEAST_MARK_CONTRAST = 3
 # The pixels of the name of a kept plan.
 ROOM_OF_NAME = 80
-# What can be saved with three kept plans and starts: PNG, SVG and CSV of seven pictures, and the prediction's CSV.
-SAVED = 7 * 3 + 1
+# What can be saved with three kept plans and starts: PNG, SVG and CSV of seven pictures, PNG and SVG of the map, and
+# the prediction's CSV.
+SAVED = 7 * 3 + 2 + 1
 
 
 def open_with(page, fragment):
@@ -323,6 +324,7 @@ def check_files(page, folder):
         page.browser.dress(1400, HEIGHT, is_dark)
         many_kept(page)
         plan_starts(page)
+        page.rest()
         files = saved_files(page, SAVED)
         require(len(files) == SAVED, f"files: {sorted(files)}")
         for name, data in files.items():

@@ -105,7 +105,7 @@ def page_of(module):
     embedded |= {name: read(path).encode() for name, path in RECORDS.items()}
     holders = [f'<script type="text/plain" id="{name}">{packed(some)}</script>\n' for name, some in embedded.items()]
     page = replaced(read("web", "index.html"), "content=\"default-src 'none'\"", f'content="{policy}"')
-    links = "".join(f'<link rel="stylesheet" href="{name}">' for name in STYLES)
+    links = "\n".join(f'<link rel="stylesheet" href="{name}">' for name in STYLES)
     page = replaced(page, links, f"<style>{style}</style>")
     program = f'<script type="module" id="program">{script}</script>'
     page = replaced(page, '<script type="module" src="page.js"></script>', "".join(holders) + program)

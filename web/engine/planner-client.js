@@ -35,7 +35,7 @@ export class PlannerClient {
     worker.onmessage = ({ data }) => worker === this.worker && this.hear(data);
     worker.onerror = () => worker === this.worker && this.restart();
     this.worker = worker;
-    const lock = `planner ${crypto.randomUUID()}`;
+    const lock = `planner ${performance.timeOrigin} ${Math.random()}`;
     const wait = (isHeld) => isHeld && navigator.locks.request(lock, () => {
       if (worker === this.worker) {
         this.restart();

@@ -6,12 +6,13 @@ import { readAnswer } from "../model/questions.js";
 import { Sha256 } from "./sha256.js";
 import { Slice } from "./slices.js";
 import { piecesOf } from "./trace-source.js";
+import { WritesMap } from "./writes-map.js";
 
 /** What is refused if another worker could not read the trace of the first again. */
 const UNREAD = 17;
 
 /** The worker's own state: the module, the trace, and the number of the many answers that are asked for. */
-const held = { module: null, planner: null, many: null };
+const held = { module: null, planner: null, map: null, many: null };
 
 /** The planner over the open trace. */
 function planner() {
@@ -19,6 +20,13 @@ function planner() {
     throw new Refusal(UNREAD);
   }
   return held.planner;
+}
+
+/** The writes of the open trace, which are read once. */
+function writesMap() {
+  const { sizes } = planner();
+  held.map ??= new WritesMap(writesIn(planner().traceBytes(), sizes.writes), sizes.pages);
+  return held.map;
 }
 
 /** The pieces of a blob; each goes into a digest, and the share that is read is told. */
@@ -38,6 +46,7 @@ async function openTrace({ number, blob }) {
   const opened = await Planner.open(held.module, blob.size, digested(blob, digest, number));
   const { sizes } = opened;
   held.planner = opened;
+  held.map = null;
   held.many = null;
   const isShorter = 2 * lightLength(sizes) < blob.size;
   const light = isShorter ? lightTrace(writesIn(opened.traceBytes(), sizes.writes), sizes) : null;
@@ -87,6 +96,7 @@ const ANSWERS = {
   errors: ({ question }) => planner().errors(question),
   remedies: ({ question }) => planner().remedies(question),
   windows: ({ settings }) => planner().windows(settings),
+  map: (grid) => writesMap().count(grid),
   answers: manyAnswers,
   cancel: () => {
     held.many = null;

@@ -1,5 +1,5 @@
-// The plans that are kept to compare: those over the open trace, whose settings are in the address, and before them those
-// over traces that were open before, each with the name of its trace.
+// The plans that are kept to compare: those over the open trace, whose settings are in the address, and before them
+// those over traces that were open before, each with the name of its trace.
 
 import { MOST_KEPT } from "./state.js";
 

@@ -3,8 +3,9 @@
 import { linkChoices, recordedSettings } from "./fitting.js";
 import { differencesFrom } from "./record.js";
 
-/** What is said of a limit that nobody chose. */
-const OF_FITTED = "Fitted to this trace.";
+/** What is said of a limit that nobody chose, and of a second one. */
+const OF_FITTED = "Fitted to this trace. ";
+const FITTED_TOO = "Fitted, too.";
 
 /** What the record says otherwise than the settings, with a choice that takes it, by the names of controls. */
 function recordSuggestions({ sizes, record, source }, settings) {
@@ -17,10 +18,10 @@ function recordSuggestions({ sizes, record, source }, settings) {
 
 /** That limits were fitted to the trace, and the links of today's networks. */
 function fittedSuggestions({ sizes }, settings, fitted) {
-  const choices = fitted.has("link") ? linkChoices(settings, fitted, sizes) : [];
-  const links = choices.map((some) => ({ value: some.link, settings: some }));
-  const choicesOf = (name) => (name === "link" ? links : []);
-  return [...fitted].map((name) => [name, { name: null, words: `${OF_FITTED} `, choices: choicesOf(name) }]);
+  const links = fitted.has("link") ? linkChoices(settings, fitted, sizes) : [];
+  const choices = { link: links.map((some) => ({ value: some.link, settings: some })), downtime: [] };
+  const words = { link: OF_FITTED, downtime: fitted.has("link") ? FITTED_TOO : OF_FITTED };
+  return [...fitted].map((name) => [name, { name: null, words: words[name], choices: choices[name] }]);
 }
 
 /** What is suggested at controls over a trace, by their names. */

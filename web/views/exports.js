@@ -68,6 +68,9 @@ function pictureName(picture) {
 
 /** What a colour of a picture means, as its parts, from `x` on in the line that begins at `y`. */
 function legendItem(item, x, y) {
+  if (!item.querySelector(".key")) {
+    return [textAbove(item, x, y + ABOVE_LINE / 2 + 4.5, item.textContent.trim())];
+  }
   const { width, height, backgroundColor } = getComputedStyle(item.querySelector(".key"));
   const [wide, high] = [width, height].map(parseFloat);
   const key = { x, y: y + (ABOVE_LINE - high) / 2, width: wide, height: high, fill: backgroundColor };

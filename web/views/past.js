@@ -34,12 +34,16 @@ export class Past {
     this.show();
   }
 
-  /** Learns that the user went to another address. Returns what belongs to it. */
+  /** Learns that the user went to another address, or wrote one. Returns what belongs to it. */
   follow() {
-    this.place = history.state?.place ?? this.place;
+    if (history.state?.place === undefined) {
+      this.lastPlace = this.place + 1;
+      history.replaceState({ place: this.lastPlace }, "");
+    }
+    this.place = history.state.place;
     this.lastPlace = Math.max(this.lastPlace, this.place);
     this.show();
-    return history.state ?? {};
+    return history.state;
   }
 
   show() {

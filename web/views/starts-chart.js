@@ -23,7 +23,7 @@ function errorWords(errors) {
     : errors ? `\u00a0\u00b1\u00a0${unbroken(errorTimeText(errors.downtime))}` : "";
 }
 
-/** What a migration costs, in words, with the standard error of its downtime. Of one that ends late nothing is known. */
+/** What a migration costs, in words, with the standard error of its downtime. Of one that ends late that is unknown. */
 export function costWords(cost, errors = null) {
   if (cost.kept === "unknown") {
     return "unknown, since the trace ends before the migration does";

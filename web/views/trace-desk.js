@@ -48,6 +48,11 @@ class OpenTrace {
     return this.client.ask("predict", { question });
   }
 
+  /** How often pages are written over time, counted into a grid. */
+  map(grid) {
+    return this.client.ask("map", grid);
+  }
+
   windows(settings) {
     return this.client.ask("windows", { settings });
   }
