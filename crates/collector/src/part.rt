@@ -1,6 +1,5 @@
 //! A part of a guest's memory.
 
-// `IsFate` holds of one value alone: `one_fate`.
 // `SpellsStream` holds of one value alone: `one_frame`.
 
 ghost use Rattle.std.specs.Prelude.{◌≡◌, ◌≤◌, List, [], IfErr, IfOk, IfSome, MatchResult, None, OnErr, OnOk, drop};

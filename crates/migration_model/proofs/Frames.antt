@@ -7,7 +7,7 @@ use Rattle.std.specs.List.{list_all}
 use Rattle.std.proofs.lemmas.Bool.{cases_Bool}
 use Rattle.std.proofs.lemmas.Bool.Decides.{Decides-by_and, Decides-eqb}
 use Rattle.std.specs.List.{All, flat_map}
-use Rattle.std.proofs.lemmas.List.{append-nil, take_at, drop_at, length-append, length-drop, take-append-drop}
+use Rattle.std.proofs.lemmas.List.{append-nil, take_at, drop_at, length-append}
 use Rattle.std.proofs.lemmas.List.Elements.{All-head, All-tail, All-replicate, All-same}
 use Rattle.migration_model.specs.Numbers.{text_of, number_in}
 use Rattle.migration_model.specs.Frames.{GuestShape, IsGuestShape, IsZeros, PageFrame, frame_with, IsFrame, content_of}
@@ -82,17 +82,6 @@ pub one_frame_lem : (shape : GuestShape) (bytes : List ℕ) (f g : PageFrame) �
 one_frame_lem shape bytes f g is spells_f spells_g =
     (same_front shape f g [] [] is spells_f.is_frame spells_g.is_frame
     (append-nil _ ∙ sym spells_f.text ∙ spells_g.text ∙ sym (append-nil _))).0
-
--- two frames at the front of the same bytes
-pub one_front_lem : (shape : GuestShape) (bytes : List ℕ) (f g : PageFrame) (n m : ℕ) → IsGuestShape shape
-    → n ≤ length bytes → m ≤ length bytes
-    → SpellsFrame shape (take n bytes) f → SpellsFrame shape (take m bytes) g → (f ≡ g) × (n ≡ m)
-one_front_lem shape bytes f g n m is low high spells_f spells_g =
-    let texts : frame_text f ++ drop n bytes ≡ frame_text g ++ drop m bytes =
-    ap (λ (x : List ℕ). x ++ drop n bytes) (sym spells_f.text) ∙ take-append-drop n bytes
-    ∙ sym (take-append-drop m bytes) ∙ ap (λ (x : List ℕ). x ++ drop m bytes) spells_g.text in
-    let same = same_front shape f g (drop n bytes) (drop m bytes) is spells_f.is_frame spells_g.is_frame texts in
-    (same.0, omega (arith, ap length same.1, length-drop n bytes, length-drop m bytes, low, high))
 
 pub none_begins_another_lem : (shape : GuestShape) (a b rest : List ℕ) (f g : PageFrame) → IsGuestShape shape
     → SpellsFrame shape a f → SpellsFrame shape b g

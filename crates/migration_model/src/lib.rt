@@ -4,12 +4,12 @@
 #![tactic(auto)]
 
 ghost use Rattle.std.specs.Prelude.{◌≡◌, ◌↔◌, ◌<◌, ◌≤◌, ◌*◌, ◌^◌, ℕ, ◌++◌, Bool, IsTrue, List, [], length};
-ghost use Rattle.std.specs.Prelude.{slice_index_or, take};
+ghost use Rattle.std.specs.Prelude.{slice_index_or};
 ghost use Rattle.std.specs.List.{All, Contains};
 ghost use Rattle.migration_model.specs.Frames.{GuestShape, IsGuestShape, IsFrame, PageFrame, SpellsFrame, SpellsStream};
 ghost use Rattle.migration_model.specs.Frames.{content_of, frame_text};
 ghost use Rattle.migration_model.specs.Final.{IsFinalCopy, shape_of_trace};
-ghost use Rattle.migration_model.specs.Images.{AreCurrent, AreNotBeyond, HaveCurrent, HaveFirst, LacksFirst, memory_in};
+ghost use Rattle.migration_model.specs.Images.{AreCurrent, AreNotBeyond, HaveCurrent, HaveFirst, memory_in};
 ghost use Rattle.migration_model.specs.Memory.{GuestMemory, image_before, page_of};
 ghost use Rattle.migration_model.specs.Parts.{Agree, FramesAgree, GuestPart, IsPart, join, join_all, part_of};
 ghost use Rattle.migration_model.specs.Parts.{with_frame, with_frames};
@@ -57,24 +57,6 @@ pub fn one_frame()
 pub fn no_frame_begins_another()
     ensures { (shape : GuestShape) (a b rest : List ℕ) (f g : PageFrame) → IsGuestShape shape
         → SpellsFrame shape a f → SpellsFrame shape b g → b ≡ a ++ rest → rest ≡ [] }
-{}
-
-/// At the front of bytes stands at most one frame.
-pub fn one_front_frame()
-    ensures frame { (shape : GuestShape) (bytes : List ℕ) (f g : PageFrame) (n m : ℕ) → IsGuestShape shape
-        → n ≤ length bytes → m ≤ length bytes
-        → SpellsFrame shape (take n bytes) f → SpellsFrame shape (take m bytes) g → f ≡ g }
-    ensures size { (shape : GuestShape) (bytes : List ℕ) (f g : PageFrame) (n m : ℕ) → IsGuestShape shape
-        → n ≤ length bytes → m ≤ length bytes
-        → SpellsFrame shape (take n bytes) f → SpellsFrame shape (take m bytes) g → n ≡ m }
-{}
-
-/// At most one page is the least that no part has, and none if each page is in some part.
-pub fn one_page_lacking()
-    ensures page { (shape : GuestShape) (parts : List GuestPart) (a b : ℕ) → LacksFirst shape parts a
-        → LacksFirst shape parts b → a ≡ b }
-    ensures none { (shape : GuestShape) (parts : List GuestPart) (page : ℕ) → LacksFirst shape parts page
-        → ¬ HaveFirst parts shape.pages }
 {}
 
 /// Parts may be joined in any order, and any of them again: of parts that agree, only what was joined counts. The join

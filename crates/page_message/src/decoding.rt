@@ -1,7 +1,5 @@
 //! Frames from bytes.
 
-// `SpellsFrame` holds of one value alone: `one_front_frame`.
-
 ghost use Rattle.std.specs.Prelude.{◌≡◌, ◌≤◌, ◌+◌, ◌^◌, ◌++◌, ◌==◌, ℕ, List, IfErr, IfOk, MatchResult, None, Ok, OnOk};
 ghost use Rattle.std.specs.Prelude.{Some, drop, length, option_map, take};
 ghost use Rattle.std.specs.List.{list_all};

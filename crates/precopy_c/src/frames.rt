@@ -1,7 +1,5 @@
 //! Frames: one encoded, and one decoded.
 
-// `SpellsFrame` holds of one value alone: `one_front_frame`.
-
 ghost use Rattle.std.specs.Prelude.{◌≡◌, ◌≢◌, ◌↔◌, ◌^◌, ◌<◌, ◌≤◌, ◌++◌, ℕ, List, IfErr, IfOk, IsOk, IsTrue, OnErr};
 ghost use Rattle.std.specs.Prelude.{length, take};
 ghost use Rattle.std.specs.List.{All};
