@@ -139,8 +139,24 @@ MARKS = """
 })()
 """
 STARTS_MARKS = [[name, None] for name in ("known", "limit", "best", "worst")]
-ALL_MARKS = [[name, None] for name in ("sent", "skipped", "dirtied", "rate", "link", "stop", "down", "again", "earlier",
-                                       "fresh", "span.top", "late", "halo")]
+ALL_MARKS = [
+    [name, None]
+    for name in (
+        "sent",
+        "skipped",
+        "dirtied",
+        "rate",
+        "link",
+        "stop",
+        "down",
+        "again",
+        "earlier",
+        "fresh",
+        "span.top",
+        "late",
+        "halo",
+    )
+]
 ALL_MARKS += [*STARTS_MARKS, ["dirtied", "sent"], ["again", "earlier"], ["earlier", "fresh"], ["link", "rate"]]
 
 
@@ -177,8 +193,10 @@ def check_look(page, name, is_long=False):
     gaps = browser.value(GAPS.replace("PLACES", ".pair"))
     require(not gaps, f"gaps, {name}: {gaps}")
     parts = "#comparison, #controls, pre" + ", .scrolls" * (not is_long)
-    cut = browser.value(f"[...document.querySelectorAll('{parts}')]"
-                        ".filter((part) => part.scrollWidth > part.clientWidth).map((part) => part.id)")
+    cut = browser.value(
+        f"[...document.querySelectorAll('{parts}')]"
+        ".filter((part) => part.scrollWidth > part.clientWidth).map((part) => part.id)"
+    )
     require(not cut, f"wider than their places, {name}: {cut}")
 
 
@@ -195,8 +213,10 @@ def check_shapes(page, folder):
         if number % 3 == 0:
             browser.value("document.getElementById('zoom-plan').click()")
         if number % 4 == 0:
-            page.after("document.getElementById('control-rounds').value = '99';"
-                       "document.getElementById('control-rounds').dispatchEvent(new Event('input'))")
+            page.after(
+                "document.getElementById('control-rounds').value = '99';"
+                "document.getElementById('control-rounds').dispatchEvent(new Event('input'))"
+            )
         page.rest()
         check_look(page, f"shape {number} at {width}", is_long=True)
         if folder:
@@ -222,10 +242,12 @@ def check_names(page):
     names = collections.Counter((node["role"]["value"], node["name"]["value"]) for node in found)
     twice = [name for name, count in names.items() if count > 1]
     require(not twice, f"names of two controls: {twice}")
-    dangling = page.browser.value("""
+    dangling = page.browser.value(
+        """
       [...document.querySelectorAll("[aria-describedby], [aria-labelledby], label[for]")].flatMap((element) =>
         ["aria-describedby", "aria-labelledby", "for"].flatMap((name) => (element.getAttribute(name) ?? "").split(" ")))
-        .filter((id) => id && !document.getElementById(id))""")
+        .filter((id) => id && !document.getElementById(id))"""
+    )
     require(not dangling, f"there is no {dangling}")
     page.browser.value("document.body.focus(); document.getElementById('past-settings').focus()")
     page.browser.press("Enter", 13)
@@ -261,8 +283,10 @@ def check_keyboard(page):
     browser.wait("ticksOf('start') === 0", 5)
     browser.press("+", 187)
     browser.wait("!document.getElementById('zoom-out').disabled", 5)
-    lost = browser.value("[...document.querySelectorAll('input, select, button, summary, .plot')]"
-                         ".filter((element) => element.tabIndex < 0).map((element) => element.id)")
+    lost = browser.value(
+        "[...document.querySelectorAll('input, select, button, summary, .plot')]"
+        ".filter((element) => element.tabIndex < 0).map((element) => element.id)"
+    )
     require(not lost, f"not reached by the keyboard: {lost}")
 
 
@@ -315,12 +339,18 @@ def check_stillness(page):
 
 def check_looks(tally, page, tried):
     tried(tally, "stillness", check_stillness, page)
-    for words, check in (("the first look", first.check_first_look), ("undo and redo", first.check_past),
-                         ("the first look at a trace of one's own", first.check_own_trace),
-                         ("keyboard", check_keyboard), ("address", check_address),
-                         ("focus", focus.check_focus), ("keys of the browser", focus.check_commands),
-                         ("fingers", focus.check_fingers), ("forced colours", focus.check_forced_colours),
-                         ("old browser", check_old_browser)):
+    for words, check in (
+        ("the first look", first.check_first_look),
+        ("undo and redo", first.check_past),
+        ("the first look at a trace of one's own", first.check_own_trace),
+        ("keyboard", check_keyboard),
+        ("address", check_address),
+        ("focus", focus.check_focus),
+        ("keys of the browser", focus.check_commands),
+        ("fingers", focus.check_fingers),
+        ("forced colours", focus.check_forced_colours),
+        ("old browser", check_old_browser),
+    ):
         tried(tally, words, check, page)
 
 
@@ -367,8 +397,10 @@ def heard_of(page, url):
     Listener.heard.clear()
     for name, code in ATTEMPTS.items():
         act = code.replace("'URL", f"'{url}/{name}")
-        page.browser.value(f"Promise.race([(async () => {act})().catch(() => 0),"
-                           " new Promise((end) => setTimeout(end, 1000))]).then(() => 0, () => 0)")
+        page.browser.value(
+            f"Promise.race([(async () => {act})().catch(() => 0),"
+            " new Promise((end) => setTimeout(end, 1000))]).then(() => 0, () => 0)"
+        )
     return sorted({path.strip("/") for path in Listener.heard})
 
 
@@ -388,8 +420,9 @@ def check_silence(tally, page):
     page.open()
     lines = browser.take_lines()
     tally.add(not lines, f"lines of the console: {lines[:3]}")
-    asked = [event["params"]["request"]["url"] for event in browser.events
-             if event["method"] == "Network.requestWillBeSent"]
+    asked = [
+        event["params"]["request"]["url"] for event in browser.events if event["method"] == "Network.requestWillBeSent"
+    ]
     loud = [url for url in asked if not url.startswith(("file:", "blob:", "data:", "about:"))]
     tally.add(asked and not loud, f"requests: {loud}")
     with http.server.ThreadingHTTPServer(("127.0.0.1", 0), Listener) as server:

@@ -13,7 +13,8 @@ from checks.view.limit_cases import RATES
 
 def saved_files(page, count):
     """Presses all buttons that save something, and returns the files by their names: so many, or as there are."""
-    page.browser.value("""(() => {
+    page.browser.value(
+        """(() => {
       window.saved = [];
       unfold();
       const made = URL.createObjectURL;
@@ -22,13 +23,16 @@ def saved_files(page, count):
       const buttons = [...document.querySelectorAll(".saves button")].filter((button) => button.checkVisibility());
       buttons.forEach((button) => button.click());
       window.pressed = buttons.length;
-    })()""")
+    })()"""
+    )
     page.browser.wait(f"saved.length === {'pressed' if count is None else count}", 20)
-    files = page.browser.value("""Promise.all(saved.map(([name, blob]) => new Promise((resume) => {
+    files = page.browser.value(
+        """Promise.all(saved.map(([name, blob]) => new Promise((resume) => {
       const reader = new FileReader();
       reader.onload = () => resume([name, reader.result.split(",")[1]]);
       reader.readAsDataURL(blob);
-    })))""")
+    })))"""
+    )
     return {name: base64.b64decode(text) for name, text in files}
 
 
@@ -36,15 +40,18 @@ def saved_files(page, count):
 HEADS = {
     "prediction": "plan,downtime_us,time_us,sent_bytes,rounds,left_pages,stop_us,start_us,reason,kept,converges",
     "rounds-this": "round,from_us,to_us,rate_bytes_per_second,pages,sent_pages,dirtied_pages,from_tick,to_tick,"
-                   "rate_pages_per_1000_ticks",
+    "rate_pages_per_1000_ticks",
     "working-set": "window,from_us,to_us,writes,pages,again_pages,fresh_pages",
     "starts": "tick,start_us,time_us,sent_bytes,downtime_us,kept",
     "links": "link_bytes_per_second,time_us,sent_bytes,downtime_us,kept",
 }
-LEGENDS = {"rounds-this": ["Rounds", "sent", "downtime"], "working-set": ["Working set", "never before", "stop"],
-           "starts": ["When to move", "by start", "worst"],
-           "links": ["Slower and faster links", "by link", "this plan"],
-           "map": ["Pages over time", "a round begins", "stop"]}
+LEGENDS = {
+    "rounds-this": ["Rounds", "sent", "downtime"],
+    "working-set": ["Working set", "never before", "stop"],
+    "starts": ["When to move", "by start", "worst"],
+    "links": ["Slower and faster links", "by link", "this plan"],
+    "map": ["Pages over time", "a round begins", "stop"],
+}
 
 
 def check_rounds(rows, shown):

@@ -51,10 +51,12 @@ def check_refused_below(page):
     page.browser.wait("document.getElementById('trace').getBoundingClientRect().bottom < 0", 5)
     page.browser.value("new Promise((resume) => setTimeout(resume, 200))")
     page.drop(("bad.txt", b"no trace"))
-    seen = page.browser.value("""[...document.querySelectorAll(".refusal")].filter((part) => {
+    seen = page.browser.value(
+        """[...document.querySelectorAll(".refusal")].filter((part) => {
       const { top, bottom, height } = part.getBoundingClientRect();
       return height > 0 && top >= 0 && bottom <= innerHeight;
-    }).map((part) => part.textContent)""")
+    }).map((part) => part.textContent)"""
+    )
     require(len(seen) == 1 and seen[0].startswith("bad.txt is refused: E1 "), f"in sight: {seen}")
     page.browser.value("document.getElementById('close-notice').click()")
     page.becomes("document.getElementById('notice').hidden", True, "a notice that was closed")
@@ -85,9 +87,13 @@ def check_files(page, folder):
     require("bad.pcwt is refused: E8 record" in said and "one.pcwt is still open." in said, said)
     require(page.shown() == before, "a bad file has changed the plan")
     require(page.browser.value("textOf('trace-state')").startswith("one.pcwt: 26,715 pages"), said)
-    require(not page.after("document.getElementById('control-rounds').value = '7';"
-                           "document.getElementById('control-rounds').dispatchEvent(new Event('input'))")["refused"],
-            "no plan after a bad file")
+    require(
+        not page.after(
+            "document.getElementById('control-rounds').value = '7';"
+            "document.getElementById('control-rounds').dispatchEvent(new Event('input'))"
+        )["refused"],
+        "no plan after a bad file",
+    )
     said = page.drop(("bad.pcwt", good[:-1]), ("good.pcwt", read(example("gzip.pcwt"))), ("more.pcwt", good))
     require("bad.pcwt is refused: E8 record" in said and "good.pcwt: 25 pages" in said, said)
     require("Not opened: more.pcwt." in said and "still open" not in said, said)
@@ -111,11 +117,23 @@ def check_files(page, folder):
 
 # What is typed into a control, its unit, and by how much what is taken then is further from what was typed than the
 # nearest that plans. A control whose unit is `ticks` shows seconds; a tick is a millisecond.
-REFUSED = [("link", "0.1", "Kbit", 1), ("link", "900000", "Gbit", 1), ("downtime", "90000", "s", 1),
-           ("reserve", "5", "s", 1), ("rounds", "0", None, 1), ("rounds", "99", None, 1), ("window", "0", "ticks", 1),
-           ("window", "2199023255.552", "ticks", 1), ("base", "999.999", "ticks", 1), ("tick", "0", "ms", 1),
-           ("tick", "5", "s", 1), ("start", "2199023255.552", "ticks", 1), ("first", "0", None, None),
-           ("sample", "99999999", None, None), ("sample", "0.5", None, None)]
+REFUSED = [
+    ("link", "0.1", "Kbit", 1),
+    ("link", "900000", "Gbit", 1),
+    ("downtime", "90000", "s", 1),
+    ("reserve", "5", "s", 1),
+    ("rounds", "0", None, 1),
+    ("rounds", "99", None, 1),
+    ("window", "0", "ticks", 1),
+    ("window", "2199023255.552", "ticks", 1),
+    ("base", "999.999", "ticks", 1),
+    ("tick", "0", "ms", 1),
+    ("tick", "5", "s", 1),
+    ("start", "2199023255.552", "ticks", 1),
+    ("first", "0", None, None),
+    ("sample", "99999999", None, None),
+    ("sample", "0.5", None, None),
+]
 
 
 def amount_in(word):
@@ -149,17 +167,21 @@ def check_refused(page, name, text, unit, grain):
     before = page.shown()
     page.browser.value("unfold()")
     if unit not in (None, "ticks"):
-        page.after(f"const unit = document.querySelector('[data-control={name}] select'); unit.value = '{unit}';"
-                   "unit.dispatchEvent(new Event('change'))")
+        page.after(
+            f"const unit = document.querySelector('[data-control={name}] select'); unit.value = '{unit}';"
+            "unit.dispatchEvent(new Event('change'))"
+        )
     page.browser.value(f"document.getElementById('control-{name}').focus()")
     found = typed(page, name, text)
     require(found["refused"] == name and found["stale"], f"{name} {text} {unit}: {found['refused']}, {found['fault']}")
     box = page.browser.value(FAULT_BOX.replace("NAME", name))
     require(box["least"] <= box["top"] and box["bottom"] <= box["most"], f"{name}: the fault is cut: {box}")
     require(found["rounds"] == before["rounds"], "the last plan does not stay")
-    enabled = page.browser.value("['#keep', '#ask', '[data-copies=command-predict]', '#zoom-plan',"
-                                 "'#outcome .saves button', '#plan-this .saves button']"
-                                 ".filter((each) => !document.querySelector(each).disabled)")
+    enabled = page.browser.value(
+        "['#keep', '#ask', '[data-copies=command-predict]', '#zoom-plan',"
+        "'#outcome .saves button', '#plan-this .saves button']"
+        ".filter((each) => !document.querySelector(each).disabled)"
+    )
     require(not page.enough(), f"enough without a plan: {page.enough()}")
     require(not enabled, f"enabled without a plan: {enabled}")
     label = page.browser.value(f"document.querySelector('label[for=control-{name}]').textContent")
@@ -189,12 +211,25 @@ def check_unread(page):
 
 
 # What a person types, and what it is in the control that it is typed into.
-TYPED = [("link", "1,000", "1000", "Mbit"), ("link", " 64", "64", "Mbit"), ("link", "1 Gbit/s", "1", "Gbit"),
-         ("link", "10 gbps", "10", "Gbit"), ("link", "64MiB/s", "64", "MiB"), ("downtime", "300ms", "300", "ms"),
-         ("downtime", ".5 s", "0.5", "s"), ("downtime", "2 min", "120", "s"), ("downtime", "900 \u00b5s", "900", "us"),
-         ("rounds", " 12 ", "12", None), ("start", "1,000 ticks", "1", None), ("start", "1500ms", "1.5", None),
-         ("start", "3", "3", None), ("first", "25 %", "25", None),
-         ("sample", ".5e", None, None), ("link", "1,00", None, None), ("link", "8 mb", None, None)]
+TYPED = [
+    ("link", "1,000", "1000", "Mbit"),
+    ("link", " 64", "64", "Mbit"),
+    ("link", "1 Gbit/s", "1", "Gbit"),
+    ("link", "10 gbps", "10", "Gbit"),
+    ("link", "64MiB/s", "64", "MiB"),
+    ("downtime", "300ms", "300", "ms"),
+    ("downtime", ".5 s", "0.5", "s"),
+    ("downtime", "2 min", "120", "s"),
+    ("downtime", "900 \u00b5s", "900", "us"),
+    ("rounds", " 12 ", "12", None),
+    ("start", "1,000 ticks", "1", None),
+    ("start", "1500ms", "1.5", None),
+    ("start", "3", "3", None),
+    ("first", "25 %", "25", None),
+    ("sample", ".5e", None, None),
+    ("link", "1,00", None, None),
+    ("link", "8 mb", None, None),
+]
 
 
 def check_typed(page):
@@ -207,8 +242,10 @@ def check_typed(page):
             continue
         require(found["refused"] is None, f"{name} {text!r}: {found['fault']}")
         page.browser.value(f"document.getElementById('control-{name}').dispatchEvent(new Event('change'))")
-        shown = page.browser.value(f"[document.getElementById('control-{name}').value, "
-                                   f"document.querySelector('[data-control={name}] select')?.value ?? null]")
+        shown = page.browser.value(
+            f"[document.getElementById('control-{name}').value, "
+            f"document.querySelector('[data-control={name}] select')?.value ?? null]"
+        )
         require(shown == [value, unit], f"{name} {text!r} is shown as {shown}")
 
 
@@ -223,14 +260,23 @@ def without_units(found):
 def check_units(page):
     """Another unit of a control is the same amount; a decimal is the amount that it says."""
     draw = random.Random(300)
-    for name, units, some in (("link", RATES, "64MiB"), ("downtime", TIMES, "300ms"), ("reserve", TIMES, "1500us"),
-                              ("link", RATES, "10Gbit"), ("tick", TIMES, "1ms")):
+    for name, units, some in (
+        ("link", RATES, "64MiB"),
+        ("downtime", TIMES, "300ms"),
+        ("reserve", TIMES, "1500us"),
+        ("link", RATES, "10Gbit"),
+        ("tick", TIMES, "1ms"),
+    ):
         page.ask(f"trace=sqlite&{name}={some}")
         before = without_units(page.shown())
         for _ in range(5):
             unit = draw.choice(sorted(units))
-            found = without_units(page.after(f"const unit = document.querySelector('[data-control={name}] select');"
-                                             f"unit.value = '{unit}'; unit.dispatchEvent(new Event('change'))"))
+            found = without_units(
+                page.after(
+                    f"const unit = document.querySelector('[data-control={name}] select');"
+                    f"unit.value = '{unit}'; unit.dispatchEvent(new Event('change'))"
+                )
+            )
             differing = [key for key in found if found[key] != before[key]]
             require(not differing, f"{name} {some} in {unit}: other {differing}")
         settled(page)
@@ -258,22 +304,26 @@ def check_back(page):
         page.browser.value(f"history.{act}()")
         page.browser.wait(f"{value} === '{wanted}' && location.hash.includes('rounds={wanted}&')", 5)
     start = page.browser.value("ticksOf('start')")
-    page.after("""
+    page.after(
+        """
       const plot = document.getElementById("windows-plot");
       const box = plot.getBoundingClientRect();
       const place = { clientX: box.left + box.width / 2, clientY: box.top + 50, bubbles: true };
       plot.dispatchEvent(new PointerEvent("click", { ...place, pointerType: "mouse" }));
-    """)
+    """
+    )
     moved = page.browser.value("ticksOf('start')")
     require(moved != start and "The start is moved" in page.browser.value("textOf('moved')"), f"{start}, {moved}")
     page.after("document.getElementById('undo-start').click()")
     require(page.browser.value("ticksOf('start')") == start, "Undo keeps the start")
-    page.browser.value("""(() => {
+    page.browser.value(
+        """(() => {
       const plot = document.getElementById("windows-plot");
       const box = plot.getBoundingClientRect();
       const place = { clientX: box.left + box.width / 2, clientY: box.top + 50, bubbles: true };
       plot.dispatchEvent(new PointerEvent("click", { ...place, pointerType: "touch" }));
-    })()""")
+    })()"""
+    )
     require(page.browser.value("ticksOf('start')") == start, "a finger takes a start")
     page.after("document.getElementById('windows-take').click()")
     require(page.browser.value("ticksOf('start')") != start, "a finger cannot take one")
@@ -287,14 +337,19 @@ def check_warm(page):
         base, at = page.browser.value("['base', 'start'].map(ticksOf)")
         require(base < at and found["rounds"][0][4] != "0", f"start {start}: copy {base}, start {at}")
     page.browser.value("document.getElementById('ask').click()")
-    page.browser.wait("document.querySelector('#starts-choice p') !== null && !document.getElementById("
-                      "'starts-answer').hidden && document.getElementById('starts-progress').hidden")
+    page.browser.wait(
+        "document.querySelector('#starts-choice p') !== null && !document.getElementById("
+        "'starts-answer').hidden && document.getElementById('starts-progress').hidden"
+    )
     page.after("document.getElementById('take-best').click()")
     best = page.browser.value("ticksOf('start')")
     require(best > base, f"the best start is {best}, the copy {base}")
     found = page.ask(f"trace=sqlite&link=1Gbit&start={base}&base={base}")
-    require("Nothing to send" in found["verdict"] and not page.browser.value(
-        "document.querySelector('#verdict .good') !== null"), found["verdict"])
+    require(
+        "Nothing to send" in found["verdict"]
+        and not page.browser.value("document.querySelector('#verdict .good') !== null"),
+        found["verdict"],
+    )
 
 
 def check_uses(tally, page, folder):
@@ -311,14 +366,27 @@ def check_uses(tally, page, folder):
 
 
 USES = {
-    "what is no number": check_unread, "what is typed": check_typed, "units": check_units, "warm starts": check_warm,
-    "back": check_back, "limits": limits.check_limits, "ways out": limits.check_ways,
-    "links": limits.check_links, "the best start": limits.check_saving,
+    "what is no number": check_unread,
+    "what is typed": check_typed,
+    "units": check_units,
+    "warm starts": check_warm,
+    "back": check_back,
+    "limits": limits.check_limits,
+    "ways out": limits.check_ways,
+    "links": limits.check_links,
+    "the best start": limits.check_saving,
     "a doubtful start": limits.check_doubtful,
-    "kept plans": kept.check_comparison, "shared axes": kept.check_axes,
-    "a second trace": kept.check_second_trace, "hypervisors": kept.check_hosts,
-    "saved files": saves.check_files_saved, "a refusal out of sight": check_refused_below, "names": check_names,
-    "looking": looking.check_looking, "looking together": looking.check_together,
-    "the map": map.check_map, "what is announced": told.check_told, "the worker": worker.check_worker,
+    "kept plans": kept.check_comparison,
+    "shared axes": kept.check_axes,
+    "a second trace": kept.check_second_trace,
+    "hypervisors": kept.check_hosts,
+    "saved files": saves.check_files_saved,
+    "a refusal out of sight": check_refused_below,
+    "names": check_names,
+    "looking": looking.check_looking,
+    "looking together": looking.check_together,
+    "the map": map.check_map,
+    "what is announced": told.check_told,
+    "the worker": worker.check_worker,
     "an ended worker": worker.check_ended,
 }
