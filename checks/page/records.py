@@ -57,7 +57,7 @@ def check_records(page):
     require(not page.shown()["refused"], said)
     for name, value in (("trace_writes", 3), ("tick_seconds", 7), ("sampled_pages", 1), ("trace_sha256", "0" * 64)):
         said = page.drop(("b.json", json.dumps({**json.loads(record), name: value}).encode()))
-        require(f"b.json is not used: " in said and name in said, said)
+        require("b.json is not used: " in said and name in said, said)
         require(page.browser.value(VALUES) == wanted, f"{name} has changed {page.browser.value(VALUES)}")
 
 
