@@ -5,20 +5,17 @@
 The tree is a copy of the sources. Of what is built it has only what `rt ci` has proved, the libraries, and not a
 program; so a command that builds a program does so for the first time. With --all each command begins with the
 libraries alone. Without, it has all but what it is there to build, and one command is tried, in turn by the day; words
-name others. There is no terminal and no input, and the home folder is empty. The last line is 'N passed, M failed'; the
-status is 0 if something was tried and nothing failed.
+name others. There is no terminal and no input, and the home folder is empty. A command is a case.
 """
 
-import argparse
 import datetime
 import os
 import shutil
 import subprocess
-import sys
 import tempfile
 from typing import NamedTuple
 
-from checks.lib.tally import Tally
+from checks.lib.harness import run_main
 from precopy_dev.tree import TOP
 
 SECONDS = 3 * 3600
@@ -109,21 +106,17 @@ def try_first(tally, first, without):
         tally.add(status == 0 and there, f"{first.words}: status {status}, {first.leaves} there: {there}\n{said}")
 
 
-def main(words):
-    parser = argparse.ArgumentParser(
-        prog="first_run", description=__doc__, formatter_class=argparse.RawDescriptionHelpFormatter
-    )
+def more(parser):
     parser.add_argument("--all", action="store_true", help="each command, with nothing but the libraries")
     parser.add_argument("command", metavar="COMMAND", nargs="*", help="words that a command contains")
-    asked = parser.parse_args(words)
+
+
+def check(tally, asked):
     of_today = COMMANDS[datetime.date.today().toordinal() % len(COMMANDS)]
     chosen = [it for it in COMMANDS if any(word in it.words for word in asked.command)] or [of_today]
-    tally = Tally()
     for first in COMMANDS if asked.all else chosen:
         try_first(tally, first, set(BUILT) if asked.all else set(first.builds))
-    print(tally)
-    return 0 if tally.passed and not tally.failed else 1
 
 
 if __name__ == "__main__":
-    sys.exit(main(sys.argv[1:]))
+    run_main(check, __doc__, more=more)

@@ -12,7 +12,7 @@ from concurrent.futures import ThreadPoolExecutor
 
 from checks.lib import harness
 from checks.lib.amount_texts import size_text, time_text
-from checks.lib.harness import expect
+from checks.lib.harness import cases_of, expect
 from checks.recording.recorder_runs import SECONDS, TOP
 from precopy_tools import places, refusals
 from precopy_tools.formats import samples, traces
@@ -474,16 +474,4 @@ def pictures_of_any_starts(_, folder):
             expect(inside and top - 0.1 <= y <= top + day_chart.HEIGHT + 0.1, f"seed {seed}: {text} at {x}, {y}")
 
 
-CASES = [
-    damaged_fields,
-    damaged_beside_tools,
-    refused_traces,
-    thinned_pages,
-    predicted,
-    longer_ticks,
-    converted,
-    whole_sample,
-    bias_over_seeds,
-    predicted_series,
-    pictures_of_any_starts,
-]
+CASES = cases_of(__name__)
