@@ -44,8 +44,7 @@ COPY = """\
     memcpy(frame.bytes, memory + page * PAGE, PAGE);
 """
 PROTECT = """\
-    for (size_t at = 0; at < listed_count; at++)
-        protect(listed[at], UFFDIO_WRITEPROTECT_MODE_WP);
+    for (size_t at = 0; at < listed_count; at++) protect(listed[at], UFFDIO_WRITEPROTECT_MODE_WP);
 """
 SEND = """\
     if (fwrite(&frame,"""
