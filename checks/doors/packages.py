@@ -54,7 +54,7 @@ def make_twice(tally, what, folder):
 def try_tarball(tally, folder):
     files = make_twice(tally, "dist", folder)
     if not files:
-        return
+        return []
     ran = run("sha256sum", "-c", os.path.basename(files[1]), cwd=os.path.dirname(files[1]))
     tally.add(ran.returncode == 0, f"the checksum of the tarball: {ran.stdout}")
     tree = os.path.join(folder, "a tarball")
@@ -69,6 +69,7 @@ def try_tarball(tally, folder):
     wanted = "".join(f"precopy-{name} (precopy) {contents.version.VERSION}\n" for name in ("record", "view"))
     wanted = f"102400\n{wanted}<!doctype html>"
     tally.add(ran.stdout == wanted, f"the programs of the tarball, where it was unpacked: {ran.stdout}")
+    return files
 
 
 # ---- The package.
@@ -194,11 +195,28 @@ def fresh_debian(folder):
             subprocess.run(["umount", f"{tree}/{name}"], stderr=subprocess.DEVNULL)
 
 
+def try_release(tally, folder, made):
+    """A release has the packages and the tarball to the byte, and its checksums hold. It wants a clean tree."""
+    if run("git", "status", "--porcelain", cwd=TOP).stdout:
+        left_out("a release", "the tree has changes that are not committed")
+        return
+    ran, names = make("release", os.path.join(folder, "release"))
+    tally.add(ran.returncode == 0, f"make release: {ran.stdout}")
+    for path in made:
+        at = os.path.join(folder, "release", os.path.basename(path))
+        tally.add(os.path.exists(at) and same(path, at), f"{os.path.basename(path)} of a release differs")
+    others = {"CHANGES.md", "NOTICES", "SHA256SUMS", contents.PAGE}
+    tally.add(set(names) == others | set(map(os.path.basename, made)), f"a release has {names}")
+    ran = run("sha256sum", "--strict", "-c", "SHA256SUMS", cwd=os.path.join(folder, "release"))
+    tally.add(ran.returncode == 0 and ran.stdout.count(": OK\n") == len(names) - 1, f"its checksums: {ran.stdout}")
+
+
 def check(tally, folder):
-    try_tarball(tally, folder)
+    tarball = try_tarball(tally, folder)
     if not has("dpkg-deb", "dpkg", "the package for Debian"):
         return
     files = make_twice(tally, "deb", folder)
+    try_release(tally, folder, [*files, *tarball])
     for package in files:
         print(f"  {os.path.basename(package)}: {os.path.getsize(package):,} bytes", flush=True)
         try_lintian(tally, package)
