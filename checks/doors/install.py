@@ -149,7 +149,7 @@ def check_edits(tally, folder):
         (["--only", "no_such_edit", "collector"], "nothing was tried"),
         (["--unknown"], "name the crates"),
     ]:
-        ran = subprocess.run([f"{TOP}/edits", *words], capture_output=True, text=True, timeout=SECONDS)
+        ran = subprocess.run([f"{TOP}/dev/edits", *words], capture_output=True, text=True, timeout=SECONDS)
         good = ran.returncode == 2 and told in ran.stderr and ran.stdout.endswith("0 passed, 1 failed\n")
         tally.add(good, f"edits {words}: status {ran.returncode}, {ran.stdout!r}, {ran.stderr!r}")
 

@@ -11,7 +11,7 @@ from typing import NamedTuple
 
 from checks.evacuation import model
 from checks.lib.amount_texts import time_text
-from checks.lib.harness import draws, expect, run
+from checks.lib.harness import cases_of, draws, expect, run
 from checks.lib.tally import expect_in_time
 from checks.lib.view_texts import keeps_schema
 from precopy_dev.tree import TOP
@@ -498,16 +498,4 @@ def spent() -> float:
     return used.ru_utime + used.ru_stime
 
 
-CASES = (
-    random_tables,
-    tables_that_are_none,
-    a_lost_reader,
-    random_costs,
-    whole_runs,
-    deadlines,
-    refusals,
-    settings,
-    costs_of_other_hosts,
-    refused_words,
-    a_hundred_guests,
-)
+CASES = cases_of(__name__)

@@ -1,6 +1,7 @@
 """How a check runs: its words and its seed, the commands that it runs, its cases, and its last line."""
 
 import argparse
+import inspect
 import os
 import random
 import subprocess
@@ -66,6 +67,23 @@ def draws(name: object) -> random.Random:
 
 
 # ---- Cases.
+
+
+def is_case(it, module: str) -> bool:
+    if not inspect.isfunction(it) or it.__module__ != module:
+        return False
+    words = list(inspect.signature(it).parameters.values())
+    names, others = tuple(word.name for word in words[:2]), words[2:]
+    is_free = all(word.default is not word.empty or word.kind is word.VAR_POSITIONAL for word in others)
+    return (
+        names[:1] in (("program",), ("programs",), ("_",)) and names[1:] in (("folder",), ("_",), ("__",)) and is_free
+    )
+
+
+def cases_of(module: str) -> list:
+    """The cases of a module, in their order: its functions of the program or programs and of a folder of their own. One
+    that does not use one of them names it _ or __."""
+    return [it for it in vars(sys.modules[module]).values() if is_case(it, module)]
 
 
 def outcome(case, words: tuple) -> Failure | None:
@@ -150,4 +168,17 @@ def run_main(check, doc: str, *programs: str, more=None) -> None:
     sys.exit(main(check, doc, *programs, more=more))
 
 
-__all__ = ["Failure", "LeftOut", "Run", "Tally", "draws", "expect", "left_out", "run", "run_cases", "run_main", "seed"]
+__all__ = [
+    "Failure",
+    "LeftOut",
+    "Run",
+    "Tally",
+    "cases_of",
+    "draws",
+    "expect",
+    "left_out",
+    "run",
+    "run_cases",
+    "run_main",
+    "seed",
+]

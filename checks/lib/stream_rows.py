@@ -14,6 +14,30 @@ RIGHT = [(0, 1, ONE), (1, 2, OLD), (2, 0, ZEROS), (3, 0, ZEROS), (1, 3, NEW)]
 FIFTH, SIXTH = 25 + 25 + 9 + 9, 25 + 25 + 9 + 9 + 25
 
 
+# The statuses of the library for pages that did not come, or not as they must, and for frames.
+OF_PAGES = PAGE_MISSING, PAGE_BEHIND = 65, 75
+STATUSES = {"F1": 41, "F2": 42, "F3": 43, "F4": 44, "F5": 45}
+STATUSES |= {"no version": 71, "after the stop": 72, "older": 73, "bytes": 74}
+
+
+def told_by_model(wrong):
+    """What the library is to tell where the model finds this."""
+    if wrong is None:
+        return None
+    if isinstance(wrong, WrongPage):
+        status = PAGE_MISSING if wrong.stamp is None else PAGE_BEHIND
+        return status, 0, 0, 0, wrong.page, wrong.stamp or 0, wrong.wanted, wrong.missing, wrong.tick
+    place = wrong.stream, wrong.number, wrong.offset
+    return STATUSES[wrong.cause], *place, wrong.page, wrong.stamp, wrong.wanted, 0, 0
+
+
+def told_by_library(found):
+    if found is None:
+        return None
+    place = found.stream, found.frame, found.offset
+    return found.status, *place, found.page, found.stamp, found.wanted, found.missing, found.tick
+
+
 def frame(page, stamp, content):
     kind = b"\1" + content if any(content) else b"\0"
     return struct.pack("<II", page, stamp) + kind

@@ -9,7 +9,7 @@ from checks.lib.tally import left_out, why_not
 from precopy_tools import version
 
 # What of the sources an installation of the library needs besides what is built: no program, and no crate.
-ENOUGH = ("dev", "packaging", "python", "include", "bindings", "out/library")
+ENOUGH = ("dev", "packaging", "python", "tools", "include", "bindings", "out/library")
 SOURCES = ("share/precopy/rust/Cargo.toml", "share/precopy/rust/build.rs", "share/precopy/rust/src/lib.rs")
 
 

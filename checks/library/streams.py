@@ -105,33 +105,12 @@ def cut_off(chosen, guest, streams, texts, at, number):
 
 
 MISTAKES = [other_bytes, old_bytes, other_stamp, other_page, left_out, old_frame_late, damaged, cut_off]
-PAGE_MISSING, PAGE_BEHIND = 65, 75
-STATUSES = {"F1": 41, "F2": 42, "F3": 43, "F4": 44, "F5": 45}
-STATUSES |= {"no version": 71, "after the stop": 72, "older": 73, "bytes": 74}
-
-
-def told_by_model(wrong):
-    """What the library is to tell where the model finds this."""
-    if wrong is None:
-        return None
-    if isinstance(wrong, stream_model.WrongPage):
-        status = PAGE_MISSING if wrong.stamp is None else PAGE_BEHIND
-        return status, 0, 0, 0, wrong.page, wrong.stamp or 0, wrong.wanted, wrong.missing, wrong.tick
-    place = wrong.stream, wrong.number, wrong.offset
-    return STATUSES[wrong.cause], *place, wrong.page, wrong.stamp, wrong.wanted, 0, 0
-
-
-def told_by_library(found):
-    if found is None:
-        return None
-    place = found.stream, found.frame, found.offset
-    return found.status, *place, found.page, found.stamp, found.wanted, found.missing, found.tick
 
 
 def is_named(told, page, at, number, offset, length):
     """Whether what is told is the frame in which a mistake was planted, or the one behind it if the mistake is one more
     frame, or the frame's page, which does not come as it must."""
-    if told[0] in (PAGE_MISSING, PAGE_BEHIND):
+    if told[0] in stream_rows.OF_PAGES:
         return told[4] == page
     return told[1] == at and told[2] in (number, number + 1) and offset <= told[3] <= offset + length
 
@@ -157,10 +136,10 @@ def trial(chosen, tally, number):
         return None
     sent = [b"".join(it) for it in texts]
     wrong = stream_model.first_wrong(guest, stop, sent)
-    told = told_by_library(precopy.check_streams(trace, stop, sent))
+    told = stream_rows.told_by_library(precopy.check_streams(trace, stop, sent))
     name = f"streams {number}: {mistake.__name__} in frame {place} of stream {at}"
-    tally.add(told == told_by_model(wrong), f"{name}: the library tells {told}, and the model {wrong}")
-    pieces = told_by_library(in_pieces(chosen, trace, stop, sent))
+    tally.add(told == stream_rows.told_by_model(wrong), f"{name}: the library tells {told}, and the model {wrong}")
+    pieces = stream_rows.told_by_library(in_pieces(chosen, trace, stop, sent))
     tally.add(pieces == told, f"{name}: in pieces the library tells {pieces}, and at once {told}")
     if wrong is None:
         return None

@@ -3,6 +3,7 @@
 import struct
 
 import precopy
+from checks.lib import stream_model
 
 # Each setting with the ends of its range; the base may be as late as the start, which is 0.
 RANGES = [
@@ -73,26 +74,18 @@ def ends_of(frames):
     return ends
 
 
+class Sized:
+    """A guest of which only the sizes are known, as the model of streams takes it."""
+
+    def __init__(self, sizes):
+        self.size, self.pages, self.write_count = sizes.page_length, range(sizes.pages), sizes.writes
+
+
 def decoded(sizes, text):
     """The frames at the front of a stream, the bytes after them, and why those are no frame."""
-    whole = []
-    while text:
-        if len(text) < 9:
-            return whole, text, "frame F1"
-        page, stamp, kind = struct.unpack_from("<IIB", text)
-        behind = text[9 : 9 + sizes.page_length]
-        for cause, holds in (
-            ("frame F2", page >= sizes.pages),
-            ("frame F3", stamp > sizes.writes),
-            ("frame F4", kind > 1),
-            ("frame F1", kind == 1 and len(behind) < sizes.page_length),
-            ("frame F5", kind == 1 and not any(behind)),
-        ):
-            if holds:
-                return whole, text, cause
-        whole.append((page, stamp, behind if kind else bytes(sizes.page_length)))
-        text = text[9 + sizes.page_length * kind :]
-    return whole, b"", None
+    whole, cause = stream_model.whole_frames(Sized(sizes), text)
+    found = [tuple(it[1:]) for it in stream_model.frames(Sized(sizes), whole)]
+    return found, text[len(whole) :], cause and f"frame {cause}"
 
 
 def joined(_sizes, frames):

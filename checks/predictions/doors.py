@@ -167,7 +167,7 @@ class Page(Door):
         done = subprocess.run(command, input=json.dumps(questions), capture_output=True, text=True, check=False)
         if done.returncode:
             raise Failure(done.stderr[-300:])
-        return [found.get("refusal", found) for found in json.loads(done.stdout)]
+        return [found.get("refusal", without(found)) for found in json.loads(done.stdout)]
 
     def wanted(self, asked: Asked, answer: Answer) -> object:
         """Large numbers are words."""

@@ -21,7 +21,7 @@ import sys
 import threading
 import time
 
-from checks.lib.harness import expect, run_cases, run_main
+from checks.lib.harness import cases_of, expect, run_cases, run_main
 from checks.lib.tally import LeftOut, expect_in_time
 from checks.lib.traces import Trace
 from checks.recording import compare_cases, forecast_cases, memory_cases, sample_cases, scan_cases, series_cases
@@ -395,28 +395,7 @@ def machine_gone(program, folder):
 
 
 CASES = [
-    a_file,
-    a_file_compact,
-    a_process,
-    a_process_compact,
-    light,
-    signal_in_the_middle,
-    terminated_in_the_middle,
-    given_length,
-    shown_on_a_terminal,
-    nobody_reads,
-    named_as_called,
-    most_writes,
-    most_bytes,
-    most_pages,
-    first_too_large,
-    guest_too_large,
-    process_ends,
-    file_ends,
-    bad_sources,
-    paused,
-    paused_before,
-    machine_gone,
+    *cases_of(__name__),
     *sample_cases.CASES,
     *memory_cases.CASES,
     *series_cases.CASES,

@@ -5,7 +5,7 @@ import subprocess
 import sys
 
 from checks.lib import harness
-from checks.lib.harness import expect
+from checks.lib.harness import cases_of, expect
 from checks.recording.recorder_runs import SECONDS, TOP
 from precopy_tools.qemu import guest, migration
 
@@ -78,9 +78,4 @@ def pages_that_were_sent(_, __):
     expect(real.sent == 3500 and real.reached() == 1250 * PAGE, f"{vars(real)}")
 
 
-CASES = [
-    nodes_of_any_size,
-    added_to_a_guest,
-    words_of_a_comparison,
-    pages_that_were_sent,
-]
+CASES = cases_of(__name__)

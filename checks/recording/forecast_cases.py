@@ -11,8 +11,8 @@ import xml.etree.ElementTree
 from concurrent.futures import ThreadPoolExecutor
 
 from checks.lib import harness
-from checks.lib.amount_texts import size_text, time_text
-from checks.lib.harness import expect
+from checks.lib.amount_texts import size_text
+from checks.lib.harness import cases_of, expect
 from checks.recording.recorder_runs import SECONDS, TOP
 from precopy_tools import places, refusals
 from precopy_tools.formats import samples, traces
@@ -202,42 +202,11 @@ def thinned_pages(_, folder):
     expect(left == ["less.json", "less.pcwt", "part.json", "part.pcwt", "text", "whole.pcwt"], f"left: {left}")
 
 
-def numbers_of(printed):
-    """What tools/predict prints: bytes sent, the time and the downtime as texts."""
-    sent, unit = re.search(r"^sent: ([0-9.]+) (\w+)", printed, re.M).groups()
-    time = re.search(r"^total time: ([0-9.]+ \w+)$", printed, re.M)[1]
-    downtime = re.search(r"^downtime: ([0-9.]+ \w+),", printed, re.M)[1]
-    return float(sent) * {"KiB": 1 << 10, "MiB": 1 << 20, "GiB": 1 << 30}[unit], time, downtime
-
-
-def reported(program, trace, weight, factor=1):
-    """The plan of `precopy report` for LINK, over a trace whose ticks are `factor` times longer."""
-    writes = sorted({(tick // factor, page) for tick, page, *_ in trace.records()})
-    rate = int(8192 * factor / weight)
-    settings = plans.Settings(rate, 100 // factor * rate // 1000 + 1)
-    return plans.report(program, forecast.encoded(trace.pages, writes, 4096), settings, 1000 // factor)
-
-
-def expect_prediction(printed, plan, weight, factor=1):
-    sent, time, downtime = numbers_of(printed)
-    expect(abs(sent / (plan.sent * weight * 4096) - 1) < 1e-3, printed)
-    expect(time == time_text(1000 * (factor * (plan.tick + plan.down) - 1000)), printed)
-    expect(downtime == time_text(1000 * factor * plan.down), printed)
-
-
-def thinned(folder, one_in):
-    """A part of the recorded trace: its path, the trace, how many of the pages each stands for, and its prediction."""
+def predicted(_, folder):
+    """The status says whether the limit is kept. What the lines say of a migration is tested by checks/predictions."""
     path = os.path.join(folder, "guest.light.pcwt")
-    run_thin(RECORDED, path, "--one-in", str(one_in), "--start", "1000")
-    trace = read_trace(path)
+    run_thin(RECORDED, path, "--one-in", "4", "--start", "1000")
     printed, _ = run_predict(path, *LINK)
-    return path, trace, 26_715 / trace.pages, printed
-
-
-def predicted(program, folder):
-    """The answers are those of `precopy report` times the weight; the status says whether the limit is kept."""
-    path, trace, weight, printed = thinned(folder, 4)
-    expect_prediction(printed, reported(program, trace, weight), weight)
     expect("converges: yes, " in printed and "at half the link: " in printed, printed)
     hosts = ["max-bandwidth 33554432B", "downtime-limit 100", "migrate-setspeed DOMAIN 32", "setmaxdowntime DOMAIN 100"]
     expect(all(f"{words}\n" in printed for words in hosts) and "precopy live" not in printed, printed)
@@ -261,13 +230,6 @@ def predicted(program, folder):
         is_cut = "a plan takes no longer limit than that: 65,535 pages of the sample" in printed
         expect(is_cut == ("9s" in words or "128Gbit" in words), printed)
         expect(("QEMU: " in printed) == (status not in (1, 2) and not is_cut), printed)
-
-
-def longer_ticks(program, folder):
-    """If so few pages are drawn that their rate would be 128, ticks are five times as long."""
-    _, trace, weight, printed = thinned(folder, 64)
-    expect_prediction(printed, reported(program, trace, weight, 5), weight, 5)
-    expect("limit: 100 ms" in printed and "decided the stop" in printed, printed)
 
 
 def converted(_, folder):
@@ -323,17 +285,6 @@ def converted(_, folder):
         _, words = warm.words(forecast.Link(8 << 20, 0.1))
         expect(" ".join(words).endswith(wanted), f"{words}")
         expect(warm.text(5) == asked.text(5), f"{base}: {list(traces.read(warm.text(5)).records())}")
-
-
-def whole_sample(program, folder):
-    """A sample of all pages has no error, and the plan of the trace itself."""
-    path = os.path.join(folder, "guest.light.pcwt")
-    run_thin(RECORDED, path, "--one-in", "1", "--start", "1000")
-    printed, _ = run_predict(path, "--link", "64MiB", "--downtime", "50ms")
-    with open(RECORDED, "rb") as file:
-        plan = plans.report(program, file.read(), plans.settings_of(64 << 20, 0.05, 0.001), 1000)
-    expect_prediction(printed, plan, 1)
-    expect("standard errors" not in printed, printed)
 
 
 def bias_over_seeds(program, folder):
@@ -474,16 +425,4 @@ def pictures_of_any_starts(_, folder):
             expect(inside and top - 0.1 <= y <= top + day_chart.HEIGHT + 0.1, f"seed {seed}: {text} at {x}, {y}")
 
 
-CASES = [
-    damaged_fields,
-    damaged_beside_tools,
-    refused_traces,
-    thinned_pages,
-    predicted,
-    longer_ticks,
-    converted,
-    whole_sample,
-    bias_over_seeds,
-    predicted_series,
-    pictures_of_any_starts,
-]
+CASES = cases_of(__name__)

@@ -15,7 +15,7 @@ import uuid
 
 from checks.lib import harness
 from checks.lib.amount_texts import size_text
-from checks.lib.harness import expect
+from checks.lib.harness import cases_of, expect
 from checks.lib.tally import expect_in_time
 from checks.recording import known_guest
 from checks.recording.recorder_runs import RECORD, SECONDS, TOP, read_until_recording
@@ -482,16 +482,4 @@ def listed_guests(_, folder):
 
 
 NEED_WRITES = {writes_of_two_nodes}
-CASES = [
-    asked_by_monitor,
-    writes_of_two_nodes,
-    plugged_in_meanwhile,
-    never_the_guest,
-    largest_or_refused,
-    named_mappings,
-    lying_monitors,
-    hostile_sockets,
-    guests_that_end,
-    asked_by_domain,
-    listed_guests,
-]
+CASES = cases_of(__name__)

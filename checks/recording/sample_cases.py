@@ -9,7 +9,7 @@ import tempfile
 import time
 
 from checks.lib import harness
-from checks.lib.harness import expect
+from checks.lib.harness import cases_of, expect
 from checks.recording.recorder_runs import RECORD
 from checks.recording.sample_runs import PAGE, PAGES, Drawn, Pages
 from precopy_tools.formats import samples
@@ -401,28 +401,5 @@ def cause_of_no_writes():
     return causes[0].partition(": ")[2] if causes else None
 
 
-CASES = [
-    exact_private,
-    exact_shared,
-    exact_huge,
-    exact_of_few,
-    exact_by_values,
-    mapped_anew,
-    killed_recorder,
-    killed_recorder_while_opening,
-    killed_process,
-    process_ends_during_a_look,
-    signals,
-    memory_runs_out,
-    causes_stood_in,
-    other_userfaultfd,
-    traced_already,
-    stopped_process,
-    filtered_process,
-    larger_than_a_trace,
-    a_sparse_file,
-    a_file_that_ends,
-    most_writes_drawn,
-    bad_words,
-]
+CASES = cases_of(__name__)
 NEED_WRITES = {*CASES} - {exact_by_values, a_sparse_file, a_file_that_ends, bad_words}

@@ -7,7 +7,7 @@ import subprocess
 import sys
 
 from checks.lib import harness
-from checks.lib.harness import expect
+from checks.lib.harness import cases_of, expect
 from checks.lib.tally import need
 from checks.recording.recorder_runs import SECONDS, TOP
 from checks.recording.sample_cases import exact, mapped_anew
@@ -122,8 +122,4 @@ def expect_told(library, watched, pages, drawn, draws):
 
 
 NEED_WRITES = {looks_in_machine_code, looks_with_a_bad_library, same_by_both}
-CASES = [
-    looks_in_machine_code,
-    looks_with_a_bad_library,
-    same_by_both,
-]
+CASES = cases_of(__name__)

@@ -10,7 +10,7 @@ import time
 import uuid
 
 from checks.lib import harness
-from checks.lib.harness import expect
+from checks.lib.harness import cases_of, expect
 from checks.lib.tally import LeftOut, expect_in_time
 from checks.recording.memory_cases import Known, virsh_in
 from checks.recording.recorder_runs import RECORD, SECONDS, TOP, Started, read_until_recording
@@ -330,16 +330,4 @@ NEED_WRITES = {
     a_full_disk,
     words_of_a_series,
 }
-CASES = [
-    nothing_lost,
-    full_segments,
-    full_from_the_first,
-    killed_twice,
-    kept_segments,
-    guest_of_a_series_ends,
-    values_of_a_series,
-    no_room_left,
-    a_full_disk,
-    words_of_a_series,
-    service_of_a_guest,
-]
+CASES = cases_of(__name__)

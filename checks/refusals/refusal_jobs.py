@@ -40,11 +40,7 @@ best 0
 # 8,193 pages of 4,096 bytes: one page more than memory that `image` makes whole.
 LARGE_PAGES = 8193
 LARGE = header(LARGE_PAGES, 3, shift=12) + b"".join(
-    [
-        record(0, 0, 0, b"\x01"),
-        record(4, 5000, 16, b"\x02\x03"),
-        record(9, 8192, 4095, b"\x04"),
-    ]
+    [record(0, 0, 0, b"\x01"), record(4, 5000, 16, b"\x02\x03"), record(9, 8192, 4095, b"\x04")]
 )
 LARGE_MEMORY = b"\x01" + bytes(20480015) + b"\x02\x03" + bytes(13078509) + b"\x04"
 assert len(LARGE_MEMORY) == LARGE_PAGES * 4096

@@ -16,11 +16,7 @@ from checks.refused_calls.jobs import CALLS
 MOST = 20000
 # So often are growths counted that only start threads.
 COUNTS = 4
-WHAT = {
-    "REFUSE_GROWTH": "growth",
-    "REFUSE_THREAD": "thread start",
-    "REFUSE_INNER": "growth of the C library itself",
-}
+WHAT = {"REFUSE_GROWTH": "growth", "REFUSE_THREAD": "thread start", "REFUSE_INNER": "growth of the C library itself"}
 
 
 def is_whole(call, run):

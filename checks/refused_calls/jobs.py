@@ -114,12 +114,7 @@ BY_WORKERS = Call(
 
 # ---- A core of two marked pages: both are harvested, page 1 is stored, marked and given back, page 0 is read.
 
-RAN = [
-    "ran",
-    "page 0 place 0 marked false held false",
-    "page 1 place 1 marked true held false",
-    "pending None",
-]
+RAN = ["ran", "page 0 place 0 marked false held false", "page 1 place 1 marked true held false", "pending None"]
 RUN = Call("run", [*RAN, "again", *RAN], {"Memory": ["run (0, Memory)", "again", *RAN]})
 
 # ---- A cache of two pages, which keeps pages 0 and 1, is asked for others, and then for all pages at all versions.

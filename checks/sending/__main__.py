@@ -26,7 +26,7 @@ from typing import NamedTuple
 from checks.lib import stream_rows
 from checks.lib.harness import run_main
 from checks.lib.library_runs import is_done, program_says, read, run
-from checks.lib.stream_model import Guest, WrongFrame, WrongPage, first_wrong, frames
+from checks.lib.stream_model import Guest, first_wrong, frames
 from checks.lib.tally import left_out, why_not
 from checks.sending import bugs
 from precopy_dev.tree import TOP
@@ -38,13 +38,6 @@ PAGE, AT_ONCE, AGAIN, SECONDS = 4096, 4, 3, 120
 WAYS, NOT_OFFERED = ("kernel", "thread"), 3
 CANNOT = "pages cannot be watched so that the {} takes protections away"
 TOLD = re.compile(r"stopped at tick (\d+), after (\d+) of (\d+) writes and (\d+) rounds; the (\w+) takes .*\n")
-
-
-# What the library tells of streams, and its statuses.
-TOLD_BY_LIBRARY = ("status", "stream", "frame", "offset", "page", "stamp", "wanted", "missing", "tick")
-STATUSES = {"F1": 41, "F2": 42, "F3": 43, "F4": 44, "F5": 45}
-STATUSES |= {"no version": 71, "after the stop": 72, "older": 73, "bytes": 74}
-PAGE_MISSING, PAGE_BEHIND = 65, 75
 
 
 class Load(NamedTuple):
@@ -166,24 +159,14 @@ def taken(done):
     return flat.memory, [flat.stamp(page) for page in range(flat.sizes.pages)]
 
 
-def as_library_tells(wrong):
-    """What the library tells where the model finds this."""
-    if isinstance(wrong, WrongFrame):
-        place = wrong.stream, wrong.number, wrong.offset
-        return STATUSES[wrong.cause], *place, wrong.page, wrong.stamp, wrong.wanted, 0, 0
-    if isinstance(wrong, WrongPage):
-        status = PAGE_MISSING if wrong.stamp is None else PAGE_BEHIND
-        return status, 0, 0, 0, wrong.page, wrong.stamp or 0, wrong.wanted, wrong.missing, wrong.tick
-    return None
-
-
 def trials_of_check(done, wrong):
     """The library's own check of the streams tells the same as the model."""
     import precopy
 
     found = precopy.check_streams(done.trace, done.stop, done.streams)
-    told = found and tuple(getattr(found, name) for name in TOLD_BY_LIBRARY)
-    yield told == as_library_tells(wrong), f"the library tells {found}, and the model {wrong}"
+    yield stream_rows.told_by_library(found) == stream_rows.told_by_model(
+        wrong
+    ), f"the library tells {found}, and the model {wrong}"
 
 
 def trials_of_right(done, guest):

@@ -44,8 +44,7 @@ COPY = """\
     memcpy(frame.bytes, memory + page * PAGE, PAGE);
 """
 PROTECT = """\
-    for (size_t at = 0; at < listed_count; at++)
-        protect(listed[at], UFFDIO_WRITEPROTECT_MODE_WP);
+    for (size_t at = 0; at < listed_count; at++) protect(listed[at], UFFDIO_WRITEPROTECT_MODE_WP);
 """
 SEND = """\
     if (fwrite(&frame,"""
@@ -82,20 +81,14 @@ BUGS = {
         has_old_bytes,
     ),
     # Pages are protected after they were sent, and not before: what is written in between is not seen.
-    "lost": Bug(
-        [(PROTECT, ""), (END, WAIT + PROTECT + END)],
-        is_stale_page,
-    ),
+    "lost": Bug([(PROTECT, ""), (END, WAIT + PROTECT + END)], is_stale_page),
     # A loop ends one page too early.
     "left out": Bug(
         [("at < listed_count; at++) {\n        if (listed", "at + 1 < listed_count; at++) {\n        if (listed")],
         is_page_behind,
     ),
     # The last round is sent while threads still write.
-    "early": Bug(
-        [(STOP + ROUND, ROUND + WAIT + STOP)],
-        is_stale_page,
-    ),
+    "early": Bug([(STOP + ROUND, ROUND + WAIT + STOP)], is_stale_page),
 }
 
 # Not a bug, but a kernel that offers nothing.

@@ -16,13 +16,11 @@ from dataclasses import dataclass
 
 from checks.lib import harness
 from checks.lib.traces import header, record
-from checks.lib.worked import A_AT_2000, A_IMAGE, A_REPORT, RECORDS, A
+from checks.lib.worked import A_AT_2000, A_IMAGE, A_REPORT, RECORDS, A, C, damaged
 from precopy_dev.tree import TOP
 
 SECONDS = 20
 
-# In version 2, with page 1 released in place of its last write.
-C = header(4, 5, version=2) + b"".join(RECORDS[:4]) + record(2500, 1, 0, b"")
 C_IMAGE = b"\x01" + bytes(15) + bytes(16) + bytes(16) + b"\x00\x00\x04\x05" + bytes(12)
 
 HELP_HINT = "\n\nFor more information, try '--help'.\n"
@@ -308,41 +306,6 @@ def bytes_for_words(check):
     for size in [255, 256, 257, 100_000]:
         check.refuses(["sweep", CASE, "2" * size], "case 1")
         check.misuses(["x" * size], f"unrecognized subcommand '{'x' * size}'", USAGE[""])
-
-
-def damaged():
-    """Traces that are refused, each with its line, by the tables of docs/FORMATS.md."""
-    rest = b"".join(RECORDS)
-    yield b"", "E1"
-    yield A[:15], "E1"
-    yield b"PCWS" + A[4:], "E2"
-    yield header(4, 5, version=0) + rest, "E3"
-    yield header(4, 5, version=3) + rest, "E3"
-    yield header(4, 5, magic=b"QCWT", version=3) + rest, "E2"
-    yield header(4, 5, shift=3) + rest, "E4"
-    yield header(4, 5, shift=13) + rest, "E4"
-    yield header(4, 5, reserved=b"\0\1") + rest, "E5"
-    yield header(0, 5) + rest, "E6"
-    yield header(65_537, 5) + rest, "E6"
-    yield header(4, 1_048_577) + rest, "E7"
-    yield A[:16], "E8 record 0"
-    yield A[:-1], "E8 record 4"
-    yield header(4, 6) + rest, "E8 record 5"
-    yield header(4, 2) + record(5, 0, 0, b"x") + record(4, 0, 0, b"x"), "E9 record 1"
-    yield header(4, 1) + record(1 << 40, 0, 0, b"x"), "E10 record 0"
-    yield header(4, 1) + record(0, 4, 0, b"x"), "E11 record 0"
-    yield header(4, 1) + record(0, 0, 0, b""), "E12 record 0"
-    yield header(4, 5) + C[16:], "E12 record 4"
-    yield header(4, 5, version=2) + b"".join(RECORDS[:4]) + record(2500, 1, 1, b""), "E12 record 4"
-    yield header(4, 1, version=2) + record(0, 0, 17, b""), "E12 record 0"
-    yield header(4, 1, version=2) + record(0, 4, 0, b""), "E11 record 0"
-    yield header(4, 2, version=2) + record(5, 0, 0, b"") + record(4, 0, 0, b""), "E9 record 1"
-    yield header(4, 1, version=2) + record(0, 0, 0, b"")[:15], "E8 record 0"
-    yield C + b"\0", "E14"
-    yield header(4, 1) + record(0, 0, 15, b"xy"), "E13 record 0"
-    yield header(4, 1) + record(0, 0, 0, b"x", 17), "E8 record 0"
-    yield A + b"\0", "E14"
-    yield header(4, 0) + b"\0", "E14"
 
 
 LONGEST = 1 << 28

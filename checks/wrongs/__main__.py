@@ -2,13 +2,14 @@
 
     checks/run wrongs [--all] [--check CHECK ..] [--list]
 
-checks/wrongs/faults.py has the faults. Some are wrong programs round the built ones (checks/wrongs/wrong.c), others are
+checks/wrongs/faults.tsv has them. Some are wrong programs round the built ones (checks/wrongs/wrong.c), others are
 edits of the sources, in a copy of them that uses what is built. The check runs until its first failure, which must tell
 of what is wrong. Without words some faults are tried, in turn by the day. With right programs the checks of the wrongs
 of refusals pass, by the wrongs NOTHING and CALL_NOTHING, which --all tries too. A fault is a case.
 """
 
 import datetime
+import json
 import os
 import re
 import shutil
@@ -19,13 +20,17 @@ import time
 
 from checks.lib.harness import run_main
 from checks.lib.tally import LeftOut, expect, need
-from checks.wrongs.faults import FAULTS, Edit, Wrong
+from checks.wrongs.faults import Fault, read
 from precopy_dev import tree
 
 HERE = os.path.join(tree.TOP, "checks", "wrongs")
 SECONDS, OF_A_DAY = 900, 8
 # The wrongs with which nothing is wrong, so that the checks pass.
-RIGHT = [Wrong("refusals", "", "precopy", "NOTHING"), Wrong("refused_calls", "", "refused_calls", "CALL_NOTHING")]
+RIGHT = [
+    Fault(check, "", "", program, name, "", "", "")
+    for check, program, name in (("refusals", "precopy", "NOTHING"), ("refused_calls", "refused_calls", "CALL_NOTHING"))
+]
+FAULTS = read()
 # What of the tree a copy has as links: nothing of it is edited.
 LINKED = ("crates", "out", "target", ".git")
 
@@ -50,9 +55,9 @@ def of_today():
 def compiled(fault, folder):
     """A wrong program round a built one."""
     need("cc")
-    to, program = os.path.join(folder, "wrong"), tree.program(fault.program)
+    to, program = os.path.join(folder, "wrong"), tree.program(fault.where)
     texts = {"PROGRAM": program, "WHEN": fault.when, "OLD": fault.old, "NEW": fault.new}
-    defined = ["-D" + name + '="' + text.replace('"', '\\"') + '"' for name, text in texts.items()]
+    defined = [f"-D{name}={json.dumps(text)}" for name, text in texts.items()]
     words = ["cc", "-O2", "-Wno-unused-result", *defined, f"-DWRONG={fault.name}", "-o", to, f"{HERE}/wrong.c"]
     done = subprocess.run(words, capture_output=True, text=True)
     expect(done.returncode == 0, f"checks/wrongs/wrong.c is not compiled: {done.stderr[-600:]}")
@@ -71,10 +76,10 @@ def edited(fault, folder):
             shutil.copytree(source, to, symlinks=True, ignore=shutil.ignore_patterns("__pycache__", "target"))
         else:
             shutil.copy2(source, to)
-    path = os.path.join(top, fault.path)
+    path = os.path.join(top, fault.where)
     with open(path, encoding="utf-8") as file:
         text = file.read()
-    expect(text.count(fault.old) == 1, f"{fault.old!r} stands {text.count(fault.old)} times in {fault.path}")
+    expect(text.count(fault.old) == 1, f"{fault.old!r} stands {text.count(fault.old)} times in {fault.where}")
     with open(path, "w", encoding="utf-8") as file:
         file.write(text.replace(fault.old, fault.new))
     return top
@@ -88,13 +93,13 @@ def programs_of(fault, wrong):
         "predictions": ("precopy_view",),
         "refused_calls": ("refused_calls",),
     }.get(fault.check, ("precopy",))
-    return [wrong if name == fault.program else tree.program(name) for name in programs]
+    return [wrong if name == fault.where else tree.program(name) for name in programs]
 
 
 def run_check(fault, folder):
     """The status and the output of a check of a wrong product."""
-    top, words = tree.TOP, [*fault.words]
-    if isinstance(fault, Edit):
+    top, words = tree.TOP, [word for name in fault.cases.split() for word in ("--only", name)]
+    if not fault.name:
         top = edited(fault, folder)
     else:
         words += programs_of(fault, compiled(fault, folder))
