@@ -167,7 +167,7 @@ class Page(Door):
         done = subprocess.run(command, input=json.dumps(questions), capture_output=True, text=True, check=False)
         if done.returncode:
             raise Failure(done.stderr[-300:])
-        return [found.get("refusal", without(found)) for found in json.loads(done.stdout)]
+        return [found.get("refusal", found) for found in json.loads(done.stdout)]
 
     def wanted(self, asked: Asked, answer: Answer) -> object:
         """Large numbers are words."""
@@ -296,9 +296,6 @@ def amounts_of(found: Remedies) -> dict[str, Optional[int]]:
     """The amounts that are enough, with the link in bytes a second."""
     return {"link": found.link and 125 * found.link, "downtime": found.downtime, "speed": found.speed}
 
-
-def without(members: dict) -> dict:
-    return {name: it for name, it in members.items() if name not in TWICE}
 
 
 def difference(door: Door, asked: Asked, found: object, answer: Optional[Answer]) -> str:
