@@ -297,6 +297,9 @@ def amounts_of(found: Remedies) -> dict[str, Optional[int]]:
     return {"link": found.link and 125 * found.link, "downtime": found.downtime, "speed": found.speed}
 
 
+def without(members: dict) -> dict:
+    return {name: it for name, it in members.items() if name not in TWICE}
+
 
 def difference(door: Door, asked: Asked, found: object, answer: Optional[Answer]) -> str:
     """What differs at a door from what should be told, or nothing."""
