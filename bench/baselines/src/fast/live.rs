@@ -8,7 +8,7 @@ use crate::carriage::{Carriage, Frame, Part};
 use crate::lanes::{lane, Giver, Taker};
 use crate::pages::{fetch, Body, Index, Rooms, RELEASE, ZEROS};
 use crate::plan::{Plan, Planner, Touches};
-use crate::trace::{text, Reader, Refused, Sizes};
+use crate::trace::{read, text, Refused, Sizes};
 use crate::words::Settings;
 use std::ops::Range;
 use std::sync::atomic::{AtomicBool, AtomicU32, AtomicU64, Ordering::*};
@@ -35,7 +35,7 @@ impl Guest {
     fn read(settings: &Settings) -> Result<Guest, Refused> {
         let open = |sizes: Sizes| (Touches::new(sizes), crate::memory::zeros::<u32>(sizes.writes));
         let text = text()?;
-        let (sizes, (touches, positions)) = Reader::whole(text, open, |made, number, write| {
+        let (sizes, (touches, positions)) = read(text, open, |made, number, write| {
             made.0.come(number, write);
             made.1[number] = if write.length == 0 { RELEASE } else { write.at as u32 };
         })?;

@@ -6,7 +6,7 @@
 
 use crate::memory::zeros;
 use crate::text::Text;
-use crate::trace::{text, Reader, Refused, Sizes, Write};
+use crate::trace::{read, text, Refused, Sizes, Write};
 use crate::words::Settings;
 
 /// Ticks and pages of all writes.
@@ -31,7 +31,7 @@ impl Touches {
 
     /// Those of the trace on standard input.
     pub fn read() -> Result<(Sizes, Touches), Refused> {
-        Reader::whole(text()?, Touches::new, |touches, number, write| touches.come(number, write))
+        read(text()?, Touches::new, |touches, number, write| touches.come(number, write))
     }
 
     /// The number of the first write at this tick or later.

@@ -68,69 +68,42 @@ pub unsafe fn number<T: Copy>(bytes: &[u8], at: usize) -> T {
     (bytes.as_ptr().add(at) as *const T).read_unaligned()
 }
 
-/// Where the records tested so far are.
-pub struct Reader {
-    pub sizes: Sizes,
-    done: usize,
-    tick: u64,
+/// Looks at all records of a trace. What `open` makes of the sizes is given to `each` with each write's number and the
+/// write; its bytes stand in the text.
+#[inline(always)]
+pub fn read<T>(
+    text: &[u8],
+    open: impl FnOnce(Sizes) -> T,
+    mut each: impl FnMut(&mut T, usize, Write),
+) -> Result<(Sizes, T), Refused> {
+    let sizes = Sizes::read(text)?;
+    let mut made = open(sizes);
+    let (size, pages, releases) = (sizes.page_size(), sizes.pages, sizes.releases);
+    let (mut at, mut tick) = (HEADER, 0);
+    for done in 0..sizes.writes {
+        if at + RECORD > text.len() {
+            return Err(refused(done));
+        }
+        let (next, page) = unsafe { (number::<u64>(text, at), number::<u32>(text, at + 8)) };
+        let place = unsafe { number::<u32>(text, at + 12) } as usize;
+        let (offset, length) = (place & 0xffff, place >> 16);
+        let end = at + RECORD + length;
+        prefetch(text.as_ptr().wrapping_add(end + AHEAD.0 + AHEAD.1 * (end - at)));
+        let out_of_range = (next < tick) | (next >= 1 << 40) | (page as usize >= pages) | (offset + length > size);
+        let empty = (length == 0) & !(releases & (offset == 0));
+        if out_of_range | empty | (end > text.len()) {
+            return Err(refused(done));
+        }
+        each(&mut made, done, Write { tick: next, page, offset, length, at: at + RECORD });
+        (at, tick) = (end, next);
+    }
+    let ended = at == text.len();
+    ended.then_some((sizes, made)).ok_or("the trace ends too late".into())
 }
 
-impl Reader {
-    fn new(sizes: Sizes) -> Reader {
-        Reader { sizes, done: 0, tick: 0 }
-    }
-
-    /// Takes records from the front of the bytes, until none is left or the next one is cut. Returns where it ended.
-    #[inline(always)]
-    fn take(&mut self, bytes: &[u8], mut each: impl FnMut(usize, Write)) -> Result<usize, Refused> {
-        let (size, pages, releases) = (self.sizes.page_size(), self.sizes.pages, self.sizes.releases);
-        let (mut at, mut tick) = (0, self.tick);
-        for done in self.done..self.sizes.writes {
-            if bytes.len() - at < RECORD {
-                return Ok(at);
-            }
-            let (next, page) = unsafe { (number::<u64>(bytes, at), number::<u32>(bytes, at + 8)) };
-            let place = unsafe { number::<u32>(bytes, at + 12) } as usize;
-            let (offset, length) = (place & 0xffff, place >> 16);
-            let bad = (next < tick) | (next >= 1 << 40) | (page as usize >= pages);
-            let empty = (length == 0) & !(releases & (offset == 0));
-            if bad | empty | (offset + length > size) {
-                return Err(format!("record {done} of the trace is refused"));
-            }
-            let end = at + RECORD + length;
-            if end > bytes.len() {
-                return Ok(at);
-            }
-            prefetch(bytes.as_ptr().wrapping_add(end + AHEAD.0 + AHEAD.1 * (end - at)));
-            each(done, Write { tick: next, page, offset, length, at: at + RECORD });
-            (at, tick) = (end, next);
-            (self.done, self.tick) = (done + 1, tick);
-        }
-        Ok(at)
-    }
-
-    fn end(&self, left: usize) -> Result<(), Refused> {
-        let ended = self.done == self.sizes.writes && left == 0;
-        ended.then_some(()).ok_or("the trace ends too early or too late".into())
-    }
-
-    /// Looks at all records of a trace. What `open` makes of the sizes is given to `each` with each write's number and
-    /// the write; its bytes stand in the text.
-    #[inline(always)]
-    pub fn whole<T>(
-        text: &[u8],
-        open: impl FnOnce(Sizes) -> T,
-        mut each: impl FnMut(&mut T, usize, Write),
-    ) -> Result<(Sizes, T), Refused> {
-        let mut reader = Reader::new(Sizes::read(text)?);
-        let mut made = open(reader.sizes);
-        let body = &text[HEADER..];
-        let taken = reader.take(body, |number, write| {
-            each(&mut made, number, Write { at: write.at + HEADER, ..write });
-        })?;
-        reader.end(body.len() - taken)?;
-        Ok((reader.sizes, made))
-    }
+#[cold]
+fn refused(record: usize) -> Refused {
+    format!("record {record} of the trace is refused")
 }
 
 /// Fills a buffer after the bytes that it has, and returns how many it has then.
