@@ -2,7 +2,7 @@
 
 `call`: `clause`, .. and `relation`: `fact`, .. name clauses of a public call and facts of a relation. A clause of a
 call is one that it ensures, or a fact of a relation that it ensures. Every other word is a crate, a public call, a
-definition, a clause, a fact, a type, a refusal, a path from the top or from crates/, or whole words of the name of a wrong body.
+definition, a clause, a fact, a type, a refusal, a path from the top or from crates/, or words of a wrong body's name.
 docs/ARCHITECTURE.md has each crate once; its recipes also name functions and constants within crates."""
 
 import functools

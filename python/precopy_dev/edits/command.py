@@ -23,8 +23,7 @@ import threading
 
 from precopy_dev.edits import groups as edit_groups
 from precopy_dev.edits.files import BadEdit, digest_of, read_edit, text_of
-
-ROOT = os.path.dirname(os.path.realpath(__file__))
+from precopy_dev.tree import TOP as ROOT
 
 FOLDERS = ("must-fail", "more-edits")
 RECORD = f"{ROOT}/docs/edits-tried.tsv"
