@@ -8,6 +8,7 @@ and that apt-get cannot install, is left out. What a user can call, start, insta
 
 import os
 import tempfile
+import traceback
 
 from checks.doors import build, completions, install, launchers, packages
 from checks.lib.harness import Tally, run_main
@@ -39,8 +40,11 @@ def check(tally, given):
             os.utime(path)
     for part in parts:
         counts = Tally()
-        with tempfile.TemporaryDirectory(prefix="doors-") as folder:
-            PARTS[part](counts, folder)
+        try:
+            with tempfile.TemporaryDirectory(prefix="doors-") as folder:
+                PARTS[part](counts, folder)
+        except Exception:
+            counts.add(False, f"{part}: {traceback.format_exc()}")
         print(f"{part}: {counts.passed} passed, {counts.failed} failed", flush=True)
         tally.add_all(counts)
 

@@ -15,7 +15,7 @@ from precopy_dev.packaging import contents, launcher, options
 from precopy_dev.tree import TOP
 from precopy_tools import commands, version
 
-SECONDS = 120
+SECONDS = 600
 
 
 def make(*words, **more):

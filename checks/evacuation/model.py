@@ -3,6 +3,8 @@
 import math
 from typing import NamedTuple
 
+from precopy_dev.models import redrawn
+
 
 class Move(NamedTuple):
     """As a line of precopy-schedule has it."""
@@ -94,12 +96,12 @@ class Plan(NamedTuple):
 
 class Rates(NamedTuple):
     """A migration in longer ticks: by how much, pages in 1,000 of them, the limit of the downtime in microseconds, and
-    the ticks and pages that are written."""
+    the ticks at which each page is written."""
 
     factor: int
     rate: int
     limit: int
-    written: set[tuple[int, int]]
+    written: list[list[int]]
 
 
 def rates(guest: Guest, bandwidth: float, downtime: int) -> Rates | None:
@@ -113,25 +115,20 @@ def rates(guest: Guest, bandwidth: float, downtime: int) -> Rates | None:
     written = {(at // factor, page) for at, page in guest.writes}
     if max((at for at, _ in written), default=-1) < last:
         written.add((last, 0))
-    return Rates(factor, rate, min(downtime, (1000 * 65_536 - 1) // rate * tick), written)
+    by_page = redrawn.by_page(guest.pages, sorted(written))
+    return Rates(factor, rate, min(downtime, (1000 * 65_536 - 1) // rate * tick), by_page)
 
 
 def planned(guest: Guest, rates: Rates, start: int, base: int | None) -> Plan:
     """A migration that begins at a tick, to a destination with a copy of all that was written before another one. Tick
     0 is before all that the record found."""
     factor, rate, limit, written = rates
-    tick, threshold, sent, at = 1000 * factor, limit // (1000 * factor) * rate // 1000 + 1, 0, start
-    due = len({page for when, page in written if base // factor <= when < start}) if base else guest.pages
-    for number in range(1, 65):
-        end = at + math.ceil(1000 * due / rate)
-        sent += due
-        length, due, at = end - at, len({page for when, page in written if at <= when < end}), end
-        is_few = due < threshold
-        if is_few or math.ceil(1000 * due / max(length, 1)) > rate or number == 64:
-            break
-    down = math.ceil(1000 * due / rate) * tick
-    size = (sent + due) * 4096 * guest.guest // guest.sampled
-    return Plan((at - start) * tick + down, size, down, at <= guest.last // factor, is_few, down <= limit)
+    tick, last = 1000 * factor, guest.last // factor
+    threshold = limit // tick * rate // 1000 + 1
+    settings = redrawn.Settings(rate, rate, 0, threshold, 64, start, base=base // factor if base else None)
+    plan = redrawn.planned(written, settings)
+    down, size = plan.down * tick, plan.total * 4096 * guest.guest // guest.sampled
+    return Plan((plan.stop - start) * tick + down, size, down, plan.stop <= last, plan.reason == "few", down <= limit)
 
 
 def costs(guest: Guest, bandwidth: float, downtime: int, base: int | None) -> tuple | None:

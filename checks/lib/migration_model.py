@@ -251,11 +251,7 @@ def lines_of(asked: Question, told: Answer) -> list[str]:
 
 def all_lines(asked: Question, told: Answer, trace: Trace) -> list[str]:
     """All lines of `precopy-view predict`."""
-    settings = asked.settings()
-    given = {"min": settings.least, "max": settings.greatest, "inc": settings.increment}
-    given |= {"threshold": settings.threshold, "rounds": settings.rounds, "start": settings.start}
-    given |= {} if settings.base is None else {"base": settings.base}
-    live = " ".join(["precopy live", *(f"--{name} {it}" for name, it in given.items()), *["--skip"] * settings.skip])
+    live = live_line(asked.settings())
     hosts = host_lines(asked.link, asked.millis_for_pages())
     ranges = Starts(asked, trace).lines()
     return [*lines_of(asked, told), *ranges, *remedy_model.enough_lines(told.enough), live, *hosts]
@@ -471,6 +467,10 @@ def options_of(settings: redrawn.Settings) -> list[str]:
     names = {"least": "min", "greatest": "max", "increment": "inc"}
     given = {names.get(name, name): it for name, it in settings._asdict().items() if name != "skip" and it is not None}
     return [f"--{name}={it}" for name, it in given.items()] + ["--skip"] * settings.skip
+
+
+def live_line(settings: redrawn.Settings) -> str:
+    return " ".join(["precopy live", *options_of(settings)]).replace("=", " ")
 
 
 def case_word(settings: redrawn.Settings) -> str:

@@ -10,6 +10,7 @@ import precopy
 from checks.lib import stream_model, stream_rows
 from checks.lib.harness import draws
 from checks.lib.library_runs import TOP, run
+from checks.lib.stream_rows import frame
 from checks.lib.traces import generated, header, record
 
 TRIALS = 2000
@@ -32,11 +33,6 @@ def right_streams(chosen, guest, stop):
 
 def content_of(guest, page, stamp):
     return bytes(guest.pages[page].after(stamp))
-
-
-def frame(page, stamp, content):
-    head = page.to_bytes(4, "little") + stamp.to_bytes(4, "little")
-    return head + (b"\1" + content if any(content) else b"\0")
 
 
 def texts_of(guest, streams):
@@ -174,7 +170,7 @@ def told_by_tool(folder, streams, *words):
 
 def check_tool(tally, folder):
     right = stream_rows.stream(stream_rows.RIGHT)
-    late = stream_rows.frame(1, 2, stream_rows.OLD)
+    late = frame(1, 2, stream_rows.OLD)
     older = "page 1 at 2 for 3, a frame of the page with a greater stamp came before in the stream"
     lacks = "page 1 at 3 for 5, a page is not at its version at the stop; it lacks write 5, at tick 2500"
     rows = [

@@ -1,9 +1,8 @@
 """Traces, settings and frames for checks/library, and what they come to, worked out here by docs/FORMATS.md."""
 
-import struct
-
 import precopy
 from checks.lib import stream_model
+from checks.lib.stream_rows import frame as frame_text
 
 # Each setting with the ends of its range; the base may be as late as the start, which is 0.
 RANGES = [
@@ -59,11 +58,6 @@ def frames(chosen):
         content = known.setdefault((page, stamp), chosen.choice([bytes(16), chosen.randbytes(16)]))
         made.append((page, stamp, content))
     return sizes, made
-
-
-def frame_text(page, stamp, content):
-    head = struct.pack("<II", page, stamp)
-    return head + (b"\1" + content if any(content) else b"\0")
 
 
 def ends_of(frames):

@@ -65,12 +65,6 @@ def choice_of(plans, down, total):
     return nearest, f"{head}none within down {down} nearest {nearest}"
 
 
-def live_line(settings):
-    names = {"least": "min", "greatest": "max", "increment": "inc"}
-    given = {names.get(name, name): it for name, it in settings._asdict().items() if name != "skip" and it is not None}
-    return " ".join(["precopy live", *(f"--{name} {it}" for name, it in given.items()), *["--skip"] * settings.skip])
-
-
 def advised(trace, asked, down, total, question=None):
     """All lines of advice round some settings: budget, grid, why, what it costs in time, the case, and its words."""
     grid = grid_of(asked, down)
@@ -85,7 +79,7 @@ def advised(trace, asked, down, total, question=None):
     if question:
         time, downtime, sent = question.cost(asked.start, outcomes[chosen])
         lines.append(f"time {time_text(time)}, sent {size_text(sent)}, downtime {time_text(downtime)}")
-    return [*lines, migration_model.case_line(plans[chosen]), live_line(cases[chosen])]
+    return [*lines, migration_model.case_line(plans[chosen]), migration_model.live_line(cases[chosen])]
 
 
 def expect_advice(view, words, trace, wanted):

@@ -8,6 +8,7 @@ of what is wrong. Without words some faults are tried, in turn by the day. With 
 of refusals pass, by the wrongs NOTHING and CALL_NOTHING, which --all tries too. A fault is a case.
 """
 
+import contextlib
 import datetime
 import json
 import os
@@ -107,17 +108,17 @@ def run_check(fault, folder):
     os.makedirs(room)
     environment = {**os.environ, "CHECKS_END_EARLY": "1", "TMPDIR": room}
     command = [os.path.join(top, "checks", "run"), fault.check, *words]
-    how = {"stdout": subprocess.PIPE, "stderr": subprocess.STDOUT, "text": True, "start_new_session": True}
-    started = subprocess.Popen(command, env=environment, stdin=subprocess.DEVNULL, **how)
-    try:
-        told, _ = started.communicate(timeout=SECONDS)
-    finally:
-        # What the check had started goes with it.
+    # Not a pipe, which processes that outlive the check would hold.
+    with open(os.path.join(folder, "told"), "w+", encoding="utf-8", errors="replace") as told:
+        how = {"stdin": subprocess.DEVNULL, "stdout": told, "stderr": told, "start_new_session": True}
+        started = subprocess.Popen(command, env=environment, **how)
         try:
-            os.killpg(started.pid, signal.SIGKILL)
-        except ProcessLookupError:
-            pass
-    return started.wait(), told
+            started.wait(SECONDS)
+        finally:
+            with contextlib.suppress(ProcessLookupError):
+                os.killpg(started.pid, signal.SIGKILL)
+        told.seek(0)
+        return started.wait(), told.read()
 
 
 def try_fault(fault):

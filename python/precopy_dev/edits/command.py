@@ -18,8 +18,7 @@ import sys
 import tempfile
 
 from precopy_dev.edits.files import GATE, PROVER, TWIN, BadEdit, read_edits
-
-ROOT = os.path.dirname(os.path.realpath(__file__))
+from precopy_dev.tree import TOP as ROOT
 
 RECORD = f"{ROOT}/docs/edits-tried.tsv"
 REFUSED = re.compile(
