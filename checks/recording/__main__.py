@@ -24,7 +24,15 @@ import time
 import traceback
 from concurrent.futures import ThreadPoolExecutor
 
-from checks.recording import compare_cases, forecast_cases, memory_cases, sample_cases, scan_cases, series_cases
+from checks.recording import (
+    compare_cases,
+    forecast_cases,
+    memory_cases,
+    running_cases,
+    sample_cases,
+    scan_cases,
+    series_cases,
+)
 from checks.recording.known_writes import LATER_PAGES, PACE, PAGE, PAGES, STEPS, ended, step
 from checks.recording.recorder_runs import (
     RECORD,
@@ -298,7 +306,7 @@ def bad_sources(_, folder):
     for words, name, word in (
         (["--image", "-"], "guest.pcwt", "with a name"),
         (["--light"], "guest.pcwt", ".light.pcwt"),
-        ([], "guest.light.pcwt", ".light.pcwt"),
+        ([], "guest.light.pcwt", "drawn pages have no image"),
     ):
         recording = Recording(folder, ["--file", memory], words, name)
         recording.end()
@@ -396,6 +404,7 @@ CASES = [
     *scan_cases.CASES,
     *compare_cases.CASES,
     *forecast_cases.CASES,
+    *running_cases.CASES,
 ]
 
 

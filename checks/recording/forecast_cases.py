@@ -35,7 +35,8 @@ def run_predict(*words, status=0):
 
 def run(tool, *words, status=0):
     done = subprocess.run([tool, *words], capture_output=True, text=True, timeout=12 * SECONDS)
-    expect(done.returncode == status, f"{words}: status {done.returncode}, {done.stdout!r}, {done.stderr!r}")
+    is_wanted = status is None or done.returncode == status
+    expect(is_wanted, f"{words}: status {done.returncode}, {done.stdout!r}, {done.stderr!r}")
     return done.stdout, done.stderr
 
 
@@ -192,7 +193,7 @@ def thinned_pages(_, folder):
         ([whole, os.path.join(folder, "a.light.pcwt"), "--one-in", "2"], 2, ".light.pcwt"),
         ([whole, os.path.join(folder, "a.pcwt")], 2, "--one-in"),
         ([whole, os.path.join(folder, "none", "a.pcwt"), "--one-in", "2"], 1, "No such file"),
-        ([text, os.path.join(folder, "a.pcwt"), "--one-in", "2"], 1, f"{text}: E2: it does not begin as a trace"),
+        ([text, os.path.join(folder, "a.pcwt"), "--one-in", "2"], 1, f"{text}: E2: it does not begin with PCWT"),
     ):
         _, refused = run_thin(*words, status=status)
         expect(said in refused, refused)
@@ -249,7 +250,12 @@ def predicted(program, folder):
         (part, ["--link", "64MiB", "--downtime", "3ms"], 0, "decided the stop"),
         (part, ["--link", "64MiB", "--downtime", "9s"], 0, "converges: yes"),
         (path, ["--link", "100Mbit", "--downtime", "2s"], 4, "converges: unknown"),
-        (path, ["--link", "32MiB", "--downtime", "100ms", "--start", "1h"], 4, "time: more than 0 s"),
+        (
+            path,
+            ["--link", "32MiB", "--downtime", "100ms", "--start", "1h"],
+            1,
+            "is after the end of the recording, which has 5.591 s",
+        ),
         (path, ["--link", "1Kbit"], 1, "too slow for this sample"),
         (path, ["--link", "128Gbit"], 0, "at twice the link: no plan"),
         (path, ["--link", "1"], 2, "Kbit, Mbit, Gbit"),

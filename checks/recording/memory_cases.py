@@ -3,6 +3,7 @@
 import json
 import os
 import random
+import shutil
 import signal
 import socket
 import stat
@@ -409,9 +410,17 @@ def guests_that_end(_, folder):
 # ---- Guests of libvirt, and guests that are listed.
 
 
+def programs_in(folder):
+    """A folder with what launchers of tools need, and nothing else."""
+    programs = tempfile.mkdtemp(prefix="programs", dir=folder)
+    for name in ("dirname", "python3", "readlink"):
+        os.symlink(shutil.which(name), os.path.join(programs, name))
+    return programs
+
+
 def virsh_in(folder, known, identity, garbled=False):
     """An environment with a `virsh` that speaks to the monitor of the stand-in."""
-    programs = tempfile.mkdtemp(prefix="programs", dir=folder)
+    programs = programs_in(folder)
     text = VIRSH.format(python=sys.executable, identity=str(identity), socket=known.socket, garbled=garbled)
     path = os.path.join(programs, "virsh")
     with open(path, "w", encoding="utf-8") as file:
@@ -431,7 +440,7 @@ def asked_by_domain(_, folder):
             ("known", "is it running, on this host?", virsh_in(folder, known, uuid.uuid4())),
             ("known", "no UUID", virsh_in(folder, known, "nothing")),
             ("known", "no JSON: 'no JSON", virsh_in(folder, known, identity, garbled=True)),
-            ("known", "libvirt-clients has it", {**environment, "PATH": folder}),
+            ("known", "libvirt-clients has it", {**environment, "PATH": programs_in(folder)}),
         ):
             drawn = Drawn(folder, ["--domain", name], ["--pages", "9"], env=other)
             drawn.end()

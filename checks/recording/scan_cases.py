@@ -51,13 +51,12 @@ def looks_in_machine_code(_, folder):
         exact(folder, kind, pages, wanted, tool=tool)
     for name in ("guest.light.pcwt", "guest.light.json", "map"):
         os.unlink(os.path.join(folder, name))
-    shutil.move(os.path.dirname(tool), os.path.join(os.path.dirname(folder), f"{os.path.basename(folder)}.tools"))
-    tool = os.path.join(os.path.dirname(folder), f"{os.path.basename(folder)}.tools", "record")
+    elsewhere = f"{folder}.tools"
+    shutil.move(os.path.join(folder, "memory"), elsewhere)
     try:
-        os.rmdir(os.path.join(folder, "memory"))
-        mapped_anew(None, folder, tool)
+        mapped_anew(None, folder, os.path.join(elsewhere, "tools", "record"))
     finally:
-        shutil.rmtree(os.path.dirname(tool))
+        shutil.rmtree(elsewhere)
 
 
 def looks_with_a_bad_library(_, folder):
