@@ -15,7 +15,7 @@ import subprocess
 import sys
 import tempfile
 
-from checks.evacuation import cases
+from checks.evacuation import cases, moving_cases
 from checks.evacuation.cases import Failure
 from checks.lib.tally import Tally
 from precopy_tools import places
@@ -29,7 +29,7 @@ def main(given: list[str]) -> int:
             print(f"there is no program {program}\n0 passed, 1 failed")
             return 1
     tally = Tally()
-    for case in cases.CASES:
+    for case in (*cases.CASES, *moving_cases.CASES):
         with tempfile.TemporaryDirectory() as folder:
             try:
                 case(cases.Programs(scheduler, view), folder)

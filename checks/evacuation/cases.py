@@ -274,9 +274,9 @@ def whole_runs(programs: Programs, folder: str) -> None:
     rows = [(micros(move["start_seconds"]), micros(move["end_seconds"]), move["slot"]) for move in moves]
     expect(rows == expected[best][1], f"{rows} in place of {expected[best][1]}")
     expect({schedule["at_once"] for schedule in told["schedules"]} == {1, 2, 4}, "other numbers at once")
-    expect(text.count("<- best") == 1 and "virsh migrate-setmaxdowntime 'db one' 200\n" in text, text)
+    expect(text.count("<- best") == 1 and re.search(r"^    move \d 0 'db one' 200 ", text, re.M), text)
     expect_waits(text, told)
-    lines = [line for line in text.splitlines() if line.startswith("virsh migrate --live")]
+    lines = [line.removesuffix(" &&") for line in text.splitlines() if line.startswith("    move ")]
     expect(len(lines) == 4 and all(line.endswith("qemu+ssh://b/system") for line in lines), f"{lines}")
     expect_picture(f"{folder}/host.svg", told)
 
@@ -284,7 +284,7 @@ def whole_runs(programs: Programs, folder: str) -> None:
 def expect_waits(text: str, told: dict) -> None:
     """Each guest begins at once, or when one has moved that ends just then: that of its slot, if it does."""
     moves = {move["guest"]: move for move in told["best"]["moves"]}
-    waits = re.findall(r"^# (\w+): (?:at once|when (\w+) has moved, after about ([\d.]+ \w+))$", text, re.M)
+    waits = re.findall(r"^    # (\w+): (?:at once|when (\w+) has moved, after about ([\d.]+ \w+))$", text, re.M)
     expect(sorted(name for name, _, _ in waits) == sorted(moves), f"{waits}")
     for name, before, after in waits:
         start = moves[name]["start_seconds"]
@@ -341,7 +341,7 @@ def refusals(programs: Programs, folder: str) -> None:
             with open(other[:-4] + suffix, "rb") as old, open(f"{folder}/{name}.light.{suffix}", "wb") as new:
                 new.write(old.read())
     text, fault = run_tool(programs, web, f"{folder}/old.light.pcwt", db, *link, status=1)
-    expect("old.light.pcwt: E2: it does not begin as a trace" in fault and "2 guests" in text, f"{fault!r} {text!r}")
+    expect("old.light.pcwt: E2: it does not begin with PCWT" in fault and "2 guests" in text, f"{fault!r} {text!r}")
     expect(not re.search(r"^ +3  ", text, re.M), f"three at once of two guests: {text!r}")
     twice = "two records of one guest"
     for second, told in (("web.20261127T030000Z", f"{twice}: web"), ("twin", twice)):

@@ -10,10 +10,10 @@ import concurrent.futures
 import json
 import math
 import os
-import re
 from typing import NamedTuple
 
 from precopy_tools import refusals
+from precopy_tools.evacuate.records import LIGHT, name_of
 from precopy_tools.formats import samples, traces
 from precopy_tools.predict import plans
 from precopy_tools.predict.forecast import Forecast, Link
@@ -21,9 +21,8 @@ from precopy_tools.quantities import micros_of, time_text
 from precopy_tools.refusals import Refused
 
 FORMAT = "precopy costs 1"
-LIGHT = ".light.pcwt"
-STAMP = re.compile(r"\.\d{8}T\d{6}Z$")
 MOST_MICROS = 1 << 53
+STOOD = "the guest stood still for"
 VERDICTS = ("yes", "no", "unknown")
 
 
@@ -38,12 +37,13 @@ class Wanted(NamedTuple):
 
 
 class Cost(NamedTuple):
-    """What the migration of one guest costs at one share, if it begins where its recording does.
+    """What the migration of one guest costs at one share, if it begins where its recording does. The share is at most
+    what a plan of its record can have.
 
     `least` and `most` are the shortest and the longest time over all starts whose migration ends within the recording,
     and `quiet` is the least bytes of them. `converges` is yes, no, or unknown if the recording ends before the
-    migration does: then the cost is that of a guest that writes no more. It is kept if the guest's limits are, and
-    `why` says what is not.
+    migration does, or if the guest stood still meanwhile: then the cost is that of a guest that writes no more. It is
+    kept if the guest's limits are, and `why` says what is not.
     """
 
     at_once: int
@@ -81,12 +81,6 @@ class Asked(NamedTuple):
     link: float
     numbers: tuple[int, ...]
     tick: float
-
-
-def name_of(path: str) -> str:
-    """The guest of a record: the name of the file, without the time of a segment."""
-    name = os.path.basename(path).removesuffix(".pcwt").removesuffix(".light")
-    return STAMP.sub("", name)
 
 
 def is_name(name: object) -> bool:
@@ -144,8 +138,10 @@ def over(name: str, seconds: float, limit: float) -> str:
     return f"{name} {time_text(micros_of(seconds))} over {time_text(micros_of(limit))}"
 
 
-def missed(told: dict, limits: Wanted) -> str:
+def missed(told: dict, limits: Wanted, sample: samples.Sample) -> str:
     """Which of a guest's limits a migration does not keep, and by what."""
+    if sample.stood_still:
+        return f"{STOOD} {sample.still_text()} of its recording"
     if told["converges"] == "unknown":
         return "the recording ends before the migration"
     migration, found = told["migration"], []
@@ -170,13 +166,14 @@ def numbers_of_plan(told: dict) -> tuple[int, int, int]:
 
 def cost_of(planner: Forecast, asked: Asked, limits: Wanted, at_once: int) -> Cost:
     share = asked.link / at_once
-    link = Link(min(share, limits.link or share), limits.downtime)
+    link = Link(min(share, limits.link or share, planner.most_link()), limits.downtime)
     told = planner.told(link)
     cost = numbers(told["migration"]) if "migration" in told else numbers_of_plan(planner.plan(link))
     ranges = told.get("starts")
     least, most = (numbers(ranges[end]) if ranges else cost for end in ("least", "greatest"))
-    why = missed(told, limits)
-    return Cost(at_once, link.bandwidth, *cost, least[0], most[0], least[1], told["converges"], not why, why)
+    why = missed(told, limits, planner.sample)
+    verdict = "unknown" if planner.sample.stood_still else told["converges"]
+    return Cost(at_once, link.bandwidth, *cost, least[0], most[0], least[1], verdict, not why, why)
 
 
 def guest_of(path: str, asked: Asked, limits: Wanted) -> Guest:
