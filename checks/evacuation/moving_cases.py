@@ -271,7 +271,9 @@ def runs_of_virsh(programs: Programs, folder: str) -> None:
         expect(done.returncode == status, f"{done}")
         events = monitors.events_in(log)
         expect(monitors.most_at_once(events) == 2, f"{events}")
-        states = [each["state"] for each in document_of(folder)["run"]["guests"]]
+        guests = document_of(folder)["run"]["guests"]
+        states = [each["state"] for each in guests]
+        expect(all(each["down_seconds"] == 0.007 for each in guests if each["state"] == "moved"), f"{guests}")
         expect(set(states) == {"moved"} if not failing else {"failed", "not begun"} <= set(states), f"{states}")
         expect(not failing or "no such host" in done.stderr, done.stderr)
 

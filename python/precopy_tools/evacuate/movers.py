@@ -21,12 +21,12 @@ JOB_LINE = re.compile(r"^([A-Z][a-z ]+): +(\S+)(?: (\S+))?$", re.M)
 
 class Look(NamedTuple):
     """What is seen of a migration: `state` is moving, moved, failed, cancelled or lost; bytes sent and left, the
-    downtime in microseconds, and why it did not move."""
+    downtime in microseconds if it is told, and why it did not move."""
 
     state: str
     sent: int = 0
     left: int = 0
-    downtime: int = 0
+    downtime: int | None = None
     why: str = ""
 
 
@@ -75,7 +75,7 @@ class QmpMover:
         status, ram = told.get("status", "none"), told.get("ram", {})
         state = {"completed": "moved", "failed": "failed", "cancelled": "cancelled", "none": "failed"}.get(status)
         why = told.get("error-desc", "QEMU says no cause") if state == "failed" else ""
-        downtime = 1000 * told.get("downtime", 0)
+        downtime = 1000 * told["downtime"] if "downtime" in told else None
         sent = ram.get("transferred", self.last.sent)
         return Look(state or "moving", sent, ram.get("remaining", 0), downtime, why)
 
@@ -168,7 +168,8 @@ class VirshMover:
             return self.last
         sent = told.get("Memory processed", told.get("Data processed", self.last.sent))
         left = 0 if words else told.get("Memory remaining", told.get("Data remaining", self.last.left))
-        return Look("moving", sent, left, 1000 * told.get("Total downtime", 0))
+        downtime = 1000 * told["Total downtime"] if "Total downtime" in told else None
+        return Look("moving", sent, left, downtime)
 
     def cancel(self) -> None:
         if not self.is_told and self.process.poll() is None:

@@ -11,14 +11,14 @@ NOT_ALL = 5
 class Moved(NamedTuple):
     """A guest: what was planned, how it ended (moved, failed, cancelled, lost or not begun), when it began and ended in
     microseconds from the first command on, the bytes that were sent, the downtime, why it did not move, and where it is
-    then."""
+    then. libvirt does not always tell the downtime."""
 
     planned: Placed
     state: str
     start: int = 0
     end: int = 0
     sent: int = 0
-    downtime: int = 0
+    downtime: int | None = None
     why: str = ""
     where: str = ""
 
@@ -31,9 +31,9 @@ class Moved(NamedTuple):
         told = {"guest": self.planned.guest.name, "state": self.state}
         if self.state != "not begun":
             told |= {"start_seconds": self.start / 1e6, "end_seconds": self.end / 1e6, "sent_bytes": self.sent}
-        if self.is_moved:
+        if self.downtime is not None:
             told["down_seconds"] = self.downtime / 1e6
-        else:
+        if not self.is_moved:
             told |= {"why": self.why, "where": self.where}
         return told
 
@@ -94,7 +94,7 @@ class Outcome(NamedTuple):
             cells[1], cells[4] = short(move.end - move.start), size_text(move.sent)
         if move.is_moved:
             cells[2], cells[5] = apart(cost.time, move.end - move.start), apart(cost.sent, move.sent)
-            cells[7] = time_text(move.downtime)
+            cells[7] = "-" if move.downtime is None else time_text(move.downtime)
         return "".join(f"{cell:>13}" for cell in cells)
 
     def document(self) -> dict:

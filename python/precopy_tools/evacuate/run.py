@@ -60,7 +60,8 @@ class Moving:
     def look(self) -> None:
         """Looks once. What takes too long is told to stay."""
         self.seen, now = self.mover.look(), time.monotonic()
-        self.sent = [each for each in self.sent if each[0] > now - WINDOW] + [(now, self.seen.sent)]
+        recent = [each for each in self.sent if each[0] > now - WINDOW]
+        self.sent = (recent or self.sent[-1:]) + [(now, self.seen.sent)]
         if not self.is_under_way:
             self.ended = now
         elif now - self.begun > self.patience:
