@@ -2,6 +2,7 @@
 
 import json
 import os
+import random
 import re
 import signal
 import subprocess
@@ -327,6 +328,26 @@ def small_guests_on_fast_links(programs: Programs, folder: str) -> None:
     expect(shares["small"] == 4_096_000_000 and "the most that a plan of its record has" in text, f"{shares}, {text}")
 
 
+def old_copies(programs: Programs, folder: str) -> None:
+    """A migration to a copy that is some time old sends at first what was written in that time."""
+    draw, link, downtime = random.Random("old copies"), 8 << 20, 100_000
+    writes = sorted((draw.randrange(1000, 31_000), draw.randrange(600)) for _ in range(4000))
+    guest = model.Guest(3000, 3000, 3000, 1000, 31_000, writes)
+    path = write_record(folder, "old", guest)
+    for age, text in ((1, "1s"), (3, "3000ms"), (12, "0.2m")):
+        words = ["--link", "8MiB", "--downtime", "100ms", "--at-once", "1", "--json", f"{folder}/told.json"]
+        run_tool(programs, path, *words, *write_settings(folder, {"guests": {"old": {"copy": text}}}))
+        (cost,) = document_of(folder)["guests"][0]["costs"]
+        rates = model.rates(guest, link, downtime)
+        plan = model.planned(guest, rates, (1000 + 1000 * age) // rates.factor, 1000)
+        found = (round(1e6 * cost["time_seconds"]), cost["sent_bytes"], round(1e6 * cost["down_seconds"]))
+        expect(found == plan[:3] and plan.sent > 0, f"{text}: {found} in place of {plan}")
+    for copy, told in (("31s", "31.000 s old is older than the record, which has 30.000 s"), ("0s", "too little")):
+        settings = write_settings(folder, {"guests": {"old": {"copy": copy}}})
+        _, fault = run_tool(programs, path, "--link", "8MiB", *settings, status=1)
+        expect(told in fault, f"{copy}: {fault}")
+
+
 def guests_that_stood_still(programs: Programs, folder: str) -> None:
     """A record of a guest that did not run for more than a hundredth of the time tells nothing."""
     web, *_ = four_guests(folder)
@@ -349,5 +370,6 @@ CASES = (
     series_of_guests,
     some_refused,
     small_guests_on_fast_links,
+    old_copies,
     guests_that_stood_still,
 )

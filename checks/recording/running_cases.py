@@ -77,7 +77,7 @@ def segments_that_stood_still(_, folder):
         process = subprocess.Popen(command, stdout=subprocess.PIPE, stderr=subprocess.PIPE, text=True)
         read_until_recording(process.stdout)
         known.ask("stop")
-        time.sleep(4.5)
+        time.sleep(3.2)
         known.ask("cont")
         text, faults = process.communicate(timeout=4 * SECONDS)
     shares = [sample_in(each)["ran_share"] for each in series.Series(path).paths()]

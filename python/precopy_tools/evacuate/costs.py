@@ -27,13 +27,15 @@ VERDICTS = ("yes", "no", "unknown")
 
 
 class Wanted(NamedTuple):
-    """What one guest may take: its limits, and the tick of its copy at the destination, if there is one."""
+    """What one guest may take: its limits, and its copy at the destination, if there is one: the tick of the record
+    from which on it differs, or how old it is when the migration begins, in seconds."""
 
     downtime: float
     link: float | None = None
     time: float | None = None
     base: int | None = None
     domain: str | None = None
+    age: float | None = None
 
 
 class Cost(NamedTuple):
@@ -114,8 +116,10 @@ def whole(path: str, trace: traces.Trace, written: list[tuple[int, int]], tick: 
     )
 
 
-def planner_of(path: str, asked: Asked, base: int | None) -> Forecast:
-    """The plans of one record, to a destination with a copy if there is one."""
+def planner_of(path: str, asked: Asked, limits: Wanted) -> Forecast:
+    """The plans of one record, to a destination with a copy if there is one. With an old copy they begin as long after
+    the first look as the copy is old, and it differs by all that was written since the first look."""
+    base = limits.base
     trace, records = traces.read_file(path)
     written = [record[:2] for record in records]
     if path.endswith(LIGHT) or os.path.exists(samples.path_beside(path)):
@@ -127,7 +131,17 @@ def planner_of(path: str, asked: Asked, base: int | None) -> Forecast:
         raise Refused(f"{path}: a copy of tick {base:,} is newer than the record, {begins}")
     forecast = Forecast(asked.program, sample, trace.size, written)
     forecast.begin_with(base)
+    if limits.age is not None:
+        begin_with_old_copy(path, forecast, limits.age)
     return forecast
+
+
+def begin_with_old_copy(path: str, forecast: Forecast, age: float) -> None:
+    if age > forecast.seconds():
+        told, whole = (time_text(micros_of(each)) for each in (age, forecast.seconds()))
+        raise Refused(f"{path}: a copy that is {told} old is older than the record, which has {whole}")
+    forecast.begin_with(forecast.sample.first_tick)
+    forecast.begin_after(age)
 
 
 def micros(seconds: float) -> int:
@@ -181,7 +195,7 @@ def guest_of(path: str, asked: Asked, limits: Wanted) -> Guest:
     name = name_of(path)
     if not is_name(name):
         raise Refused(f"{path!r}: the name of its guest is empty, or cannot be printed in a line")
-    planner, costs, unplanned = planner_of(path, asked, limits.base), {}, {}
+    planner, costs, unplanned = planner_of(path, asked, limits), {}, {}
     for at_once in asked.numbers:
         try:
             costs[at_once] = cost_of(planner, asked, limits, at_once)
@@ -219,7 +233,7 @@ def rounds_of(path: str, asked: Asked, share: float, limits: Wanted) -> list[int
     """When the rounds of one guest end, in microseconds from its start on. A record that is elsewhere has none."""
     if not os.path.exists(path):
         return []
-    rounds = planner_of(path, asked, limits.base).plan(Link(share, limits.downtime))["rounds"]
+    rounds = planner_of(path, asked, limits).plan(Link(share, limits.downtime))["rounds"]
     return [micros(each["to_seconds"] - rounds[0]["from_seconds"]) for each in rounds]
 
 

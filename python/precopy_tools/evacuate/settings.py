@@ -5,8 +5,8 @@
                          "monitor": "/run/db-a.qmp", "to": "tcp:b:4444"}}}
 
 `reserve` of the link is left to others. Of the guests of a list in `apart` one moves at a time. A guest may have its
-own limits, a copy at the destination by the tick from which its memory differs, another name as a domain, and its own
-monitor and destination.
+own limits; a copy at the destination, by how old it is when the migration begins, as "10s", or by the tick of the
+record from which on it differs; another name as a domain; and its own monitor and destination.
 """
 
 import argparse
@@ -58,7 +58,9 @@ def guest_of(path: str, name: str, value: object) -> dict:
         if field in fields:
             found[field] = quantity(path, f"guests: {name}: {field}", fields[field], parse)
     copy = fields.get("copy")
-    if copy is not None:
+    if isinstance(copy, str):
+        found["age"] = quantity(path, f"guests: {name}: copy", copy, words.seconds)
+    elif copy is not None:
         if type(copy) is not int or not 0 <= copy < 1 << 40:
             raise Refused(f"{path}: guests: {name}: copy is no tick: {copy!r}")
         found["base"] = copy
