@@ -266,9 +266,9 @@ def whole_runs(programs: Programs, folder: str) -> None:
     rows = [(micros(move["start_seconds"]), micros(move["end_seconds"]), move["slot"]) for move in moves]
     expect(rows == expected[best][1], f"{rows} in place of {expected[best][1]}")
     expect({schedule["at_once"] for schedule in told["schedules"]} == {1, 2, 4}, "other numbers at once")
-    expect(text.count("<- best") == 1 and "virsh migrate-setmaxdowntime 'db one' 200\n" in text, text)
+    expect(text.count("<- best") == 1 and re.search(r"^    move \d 0 'db one' 200 ", text, re.M), text)
     expect_waits(text, told)
-    lines = [line for line in text.splitlines() if line.startswith("virsh migrate --live")]
+    lines = [line.removesuffix(" &&") for line in text.splitlines() if line.startswith("    move ")]
     expect(len(lines) == 4 and all(line.endswith("qemu+ssh://b/system") for line in lines), f"{lines}")
     expect_picture(f"{folder}/host.svg", told)
 
@@ -276,7 +276,7 @@ def whole_runs(programs: Programs, folder: str) -> None:
 def expect_waits(text: str, told: dict) -> None:
     """Each guest begins at once, or when one has moved that ends just then: that of its slot, if it does."""
     moves = {move["guest"]: move for move in told["best"]["moves"]}
-    waits = re.findall(r"^# (\w+): (?:at once|when (\w+) has moved, after about ([\d.]+ \w+))$", text, re.M)
+    waits = re.findall(r"^    # (\w+): (?:at once|when (\w+) has moved, after about ([\d.]+ \w+))$", text, re.M)
     expect(sorted(name for name, _, _ in waits) == sorted(moves), f"{waits}")
     for name, before, after in waits:
         start = moves[name]["start_seconds"]

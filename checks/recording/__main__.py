@@ -24,7 +24,15 @@ import time
 from checks.lib.harness import cases_of, expect, run_cases, run_main
 from checks.lib.tally import LeftOut, expect_in_time
 from checks.lib.traces import Trace
-from checks.recording import compare_cases, forecast_cases, memory_cases, sample_cases, scan_cases, series_cases
+from checks.recording import (
+    compare_cases,
+    forecast_cases,
+    memory_cases,
+    running_cases,
+    sample_cases,
+    scan_cases,
+    series_cases,
+)
 from checks.recording.known_writes import LATER_PAGES, PACE, PAGE, PAGES, STEPS, ended, step
 from checks.recording.recorder_runs import RECORD, TOP, Recording, Writing, expect_nothing, expect_whole, recorded
 
@@ -302,7 +310,7 @@ def bad_sources(_, folder):
     for words, name, word in (
         (["--image", "-"], "guest.pcwt", "with a name"),
         (["--light"], "guest.pcwt", ".light.pcwt"),
-        ([], "guest.light.pcwt", ".light.pcwt"),
+        ([], "guest.light.pcwt", "drawn pages have no image"),
     ):
         recording = Recording(folder, ["--file", memory], words, name)
         recording.end()
@@ -402,6 +410,7 @@ CASES = [
     *scan_cases.CASES,
     *compare_cases.CASES,
     *forecast_cases.CASES,
+    *running_cases.CASES,
 ]
 
 

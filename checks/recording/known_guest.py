@@ -4,10 +4,11 @@
 
 LAYOUT is JSON: `nodes` is a list of [name, kind, pages], `plugged` one that is plugged in by the line `plug`. `code`
 and `video` are pages that are not the guest's memory: a code buffer that can be executed, and video memory. It prints
-where each of them is as JSON, and answers on the socket as QEMU 7.2 does. Each line `write` writes to each page. The
-words are there for others to read in /proc.
+where each of them is as JSON, and answers on the socket as QEMU 7.2 does. Each line `write` writes to each page; `stop`
+and `cont` say whether the guest runs. The words are there for others to read in /proc.
 """
 
+import contextlib
 import ctypes
 import json
 import mmap
@@ -65,6 +66,7 @@ def mapped(kind, size):
 class Guest:
     def __init__(self, layout):
         self.nodes, self.plugged, at = [], [], 0
+        self.runs = True
         for name, kind, pages in layout["nodes"]:
             self.nodes.append(Node(name, kind, pages, at))
             at += pages * PAGE
@@ -92,7 +94,9 @@ class Guest:
         if command == "query-memory-devices":
             data = [{"memdev": f"/objects/{node.name}", "size": node.size} for node in self.plugged]
             return [{"type": "dimm", "data": each} for each in data]
-        return {"running": True} if command == "query-status" else {}
+        if command == "query-status":
+            return {"running": self.runs, "status": "running" if self.runs else "paused"}
+        return {}
 
     def text(self, line):
         name, _, rest = line.partition(" ")
@@ -130,15 +134,12 @@ def serve(guest, path):
     server.listen()
     while True:
         client, _ = server.accept()
-        with client, client.makefile("rw") as stream:
+        with contextlib.suppress(OSError), client, client.makefile("rw") as stream:
             say(stream, {"QMP": {"version": {}}})
-            try:
-                for line in stream:
-                    asked = json.loads(line)
-                    say(stream, {"event": "RTC_CHANGE"})
-                    say(stream, {"return": guest.answers(asked["execute"], asked.get("arguments", {}))})
-            except OSError:
-                continue
+            for line in stream:
+                asked = json.loads(line)
+                say(stream, {"event": "RTC_CHANGE"})
+                say(stream, {"return": guest.answers(asked["execute"], asked.get("arguments", {}))})
 
 
 def say(stream, message):
@@ -163,6 +164,8 @@ def main(path, layout):
             return
         if line == "plug\n":
             guest.plug()
+        if line in ("stop\n", "cont\n"):
+            guest.runs = line == "cont\n"
         for node in guest.all_nodes():
             node.write()
 

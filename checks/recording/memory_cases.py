@@ -412,24 +412,24 @@ def guests_that_end(_, folder):
 # ---- Guests of libvirt, and guests that are listed.
 
 
+def programs_in(folder):
+    """A folder with what a tool begins with, and nothing else."""
+    programs = tempfile.mkdtemp(prefix="programs", dir=folder)
+    for name in ("sh", "dirname", "readlink", "python3"):
+        found = sys.executable if name == "python3" else shutil.which(name)
+        os.symlink(os.path.realpath(found), os.path.join(programs, name))
+    return programs
+
+
 def virsh_in(folder, known, identity, garbled=False):
     """An environment with a `virsh` that speaks to the monitor of the stand-in."""
-    programs = tempfile.mkdtemp(prefix="programs", dir=folder)
+    programs = programs_in(folder)
     text = VIRSH.format(python=sys.executable, identity=str(identity), socket=known.socket, garbled=garbled)
     path = os.path.join(programs, "virsh")
     with open(path, "w", encoding="utf-8") as file:
         file.write(text)
     os.chmod(path, stat.S_IRWXU)
-    return {**os.environ, "PATH": f"{programs}:{without_virsh(folder)}", "PYTHONDONTWRITEBYTECODE": "1"}
-
-
-def without_virsh(folder):
-    """A folder for a path on which there is what a tool begins with, and nothing else."""
-    links = tempfile.mkdtemp(prefix="programs", dir=folder)
-    for name in ("sh", "dirname", "readlink", "python3"):
-        found = sys.executable if name == "python3" else shutil.which(name)
-        os.symlink(os.path.realpath(found), os.path.join(links, name))
-    return links
+    return {**os.environ, "PATH": programs, "PYTHONDONTWRITEBYTECODE": "1"}
 
 
 def asked_by_domain(_, folder):
@@ -443,7 +443,7 @@ def asked_by_domain(_, folder):
             ("known", "is it running, on this host?", virsh_in(folder, known, uuid.uuid4())),
             ("known", "no UUID", virsh_in(folder, known, "nothing")),
             ("known", "no JSON: 'no JSON", virsh_in(folder, known, identity, garbled=True)),
-            ("known", "libvirt-clients has it", {**environment, "PATH": without_virsh(folder)}),
+            ("known", "libvirt-clients has it", {**environment, "PATH": programs_in(folder)}),
         ):
             drawn = Drawn(folder, ["--domain", name], ["--pages", "9"], env=other)
             drawn.end()

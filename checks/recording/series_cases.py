@@ -303,7 +303,8 @@ def service_of_a_guest(_, folder):
     with open(os.path.join(TOP, "packaging", "precopy-record@.service"), encoding="utf-8") as file:
         words = re.search(r"^ExecStart=precopy-record (.*)$", file.read(), re.M)[1].split()
     expect("$OPTIONS" in words, f"{words}")
-    *words, path = [word.replace("%I", "known").replace("%i", "guest") for word in words if word != "$OPTIONS"]
+    *words, path = [word.replace("%I", "known") for word in words if word != "$OPTIONS"]
+    path = path.replace("known", "guest")
     layout = {"nodes": [["a", "private", 600], ["b", "memfd", 500]], "code": 5000}
     with Known(folder, layout, "-uuid", str(identity)) as known:
         command = [RECORD, *words, os.path.join(folder, os.path.basename(path))]

@@ -9,8 +9,9 @@ import platform
 import runpy
 import struct
 import sys
+import time
 
-from precopy_tools.record import pagemap, remote, scans
+from precopy_tools.record import pagemap, remote, sampled, scans
 
 IOCTL, PTRACE, CALL = pagemap.ioctl, remote.ptrace, remote.StoppedThread.call
 
@@ -69,7 +70,18 @@ def no_library():
     scans.LIBRARY = None
 
 
-STOOD_IN = (old_kernel, no_userfaultfd, huge_pages, no_permission, other_machine, process_ends, no_library)
+def slow_count():
+    """The pages of the guest are counted for some seconds."""
+    counted = sampled.SampledGuest.nonzero
+
+    def slowly(guest):
+        time.sleep(2.5)
+        return counted(guest)
+
+    sampled.SampledGuest.nonzero = slowly
+
+
+STOOD_IN = (old_kernel, no_userfaultfd, huge_pages, no_permission, other_machine, process_ends, no_library, slow_count)
 CAUSES = {cause.__name__: cause for cause in STOOD_IN}
 
 

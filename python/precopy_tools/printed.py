@@ -1,8 +1,10 @@
 """What a tool prints, if nobody reads it any more: the tool goes on, drops the rest, and says so in the end."""
 
+import contextlib
+import json
 import os
 import sys
-from collections.abc import Callable
+from collections.abc import Callable, Iterator
 
 from precopy_tools import version
 
@@ -32,6 +34,30 @@ class Stream:
 
     def __getattr__(self, name: str):
         return getattr(self.stream, name)
+
+
+JSON_HELP = "print what is told as one line of JSON, in place of text"
+
+
+def document(format: str, **fields) -> None:
+    """Prints a document as one line of JSON, with what it is called first."""
+    print(json.dumps({"format": format, **fields}), flush=True)
+
+
+@contextlib.contextmanager
+def silent(is_silent: bool) -> Iterator[Callable[..., None]]:
+    """What is printed in the body goes nowhere, if that is asked for. Yields what prints documents all the same."""
+    stream = sys.stdout
+    if not is_silent:
+        yield lambda *_, **__: None
+        return
+
+    def told(format: str, **fields) -> None:
+        with contextlib.redirect_stdout(stream):
+            document(format, **fields)
+
+    with open(os.devnull, "w", encoding="utf-8") as nowhere, contextlib.redirect_stdout(nowhere):
+        yield told
 
 
 def run(name: str, main: Callable[[list[str]], int], loses: bool) -> int:

@@ -9,10 +9,19 @@ class Refused(Exception):
     it."""
 
 
+def object_of(pairs: list[tuple[str, object]]) -> dict:
+    """A JSON object, in which each name stands once."""
+    found = dict(pairs)
+    if len(found) < len(pairs):
+        names = [name for name, _ in pairs]
+        raise ValueError(f"the name {next(name for name in names if names.count(name) > 1)!r} stands there twice")
+    return found
+
+
 def json_of(where: str, text: bytes | str) -> object:
     """What a text of JSON says."""
     try:
-        return json.loads(text)
+        return json.loads(text, object_pairs_hook=object_of)
     except (ValueError, RecursionError) as fault:
         raise Refused(f"{where} is no JSON: {fault}") from fault
 

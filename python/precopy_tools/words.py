@@ -30,24 +30,25 @@ def amount(word: str, units: dict[str, int]) -> int | None:
     return found if max(digits, found) < DIGITS_BELOW else None
 
 
-def refused(word: str, what: str) -> argparse.ArgumentTypeError:
-    return argparse.ArgumentTypeError(f"{word!r}: a number and its unit, {what}")
+def positive(word: str, units: dict[str, int], what: str, least: str) -> int:
+    """The amount of a word, which is more than nothing; `what` are its units, and `least` is the least amount."""
+    found = amount(word, units)
+    if found is None:
+        raise argparse.ArgumentTypeError(f"{word!r}: a number and its unit, {what}")
+    if found == 0:
+        raise argparse.ArgumentTypeError(f"{word!r} is too little: {least} is the least")
+    return found
 
 
 def seconds(word: str) -> float:
     """A length of time from 1us on, as 100ms, 1.5s or 24h."""
-    found = amount(word, TIMES)
-    if not found:
-        raise refused(word, "us, ms, s, m or h, as in 300ms or 0.3s")
-    return found / 1_000_000
+    return positive(word, TIMES, "us, ms, s, m or h, as in 300ms or 0.3s", "1us") / 1_000_000
 
 
 def rate(word: str) -> int:
     """Bytes a second, from 1 on, as 10Gbit, 1.5GB or 128MiB."""
-    found = amount(word, RATES)
-    if not found:
-        raise refused(word, "Kbit, Mbit, Gbit, KB, MB, GB, KiB, MiB or GiB, per second, as in 10Gbit or 1.5GB")
-    return found
+    units = "Kbit, Mbit, Gbit, KB, MB, GB, KiB, MiB or GiB, per second, as in 10Gbit or 1.5GB"
+    return positive(word, RATES, units, "1 byte a second")
 
 
 def link(word: str) -> float:
@@ -71,9 +72,10 @@ def time_word(length: float) -> str:
 
 def memory(word: str) -> int:
     """Bytes of memory in whole pages, as 64G, 1.5GiB or 130944K: units are powers of 1,024."""
-    found = amount(word, SIZES)
-    if not found or found % 4096:
-        raise refused(word, "K, M, G or T, in whole pages, as in 64G or 512M")
+    units = "K, M, G or T, in whole pages, as in 64G or 512M"
+    found = positive(word, SIZES, units, "a page of 4K")
+    if found % 4096:
+        raise argparse.ArgumentTypeError(f"{word!r}: a number and its unit, {units}")
     return found
 
 

@@ -11,7 +11,7 @@ import argparse
 import itertools
 import sys
 
-from precopy_tools import version
+from precopy_tools import printed, version
 from precopy_tools.formats import traces
 from precopy_tools.refusals import Refused
 
@@ -39,7 +39,10 @@ def main(words):
     version.add_to(parser)
     parser.add_argument("trace", metavar="TRACE")
     parser.add_argument("text", metavar="TEXT")
+    parser.add_argument("--json", action="store_true", help=printed.JSON_HELP)
     options = parser.parse_args(words)
+    if options.json and options.text == "-":
+        parser.error("--json goes with a file as TEXT")
     try:
         with sys.stdin.buffer if options.trace == "-" else open(options.trace, "rb") as file:
             text = file.read(traces.Limits().bytes + 1)
@@ -51,6 +54,10 @@ def main(words):
     except OSError as fault:
         version.complain("export", traces.told(fault))
         return 1
+    if options.json:
+        trace = traces.read(text)
+        told = {"pages": trace.pages, "page_bytes": trace.size, "version": trace.version, "writes": trace.writes}
+        printed.document("precopy exported 1", text=options.text, **told)
     return 0
 
 

@@ -22,7 +22,7 @@ import re
 import struct
 import sys
 
-from precopy_tools import version
+from precopy_tools import printed, version
 from precopy_tools.formats import traces
 
 # How many writes are handed over together.
@@ -191,7 +191,10 @@ def options_of(words):
     add("--lackey", action="store_true", help="the text is what valgrind's lackey writes")
     add("--instructions", metavar="N", type=int, help="how many instructions a tick is (64); with --lackey")
     add("--first", metavar="N", type=int, help="take the first N writes, and end there")
+    add("--json", action="store_true", help=printed.JSON_HELP)
     options = parser.parse_args(words)
+    if options.json and options.trace == "-":
+        parser.error("--json goes with a file as TRACE")
     if options.pages is not None and bad_pages(options.pages):
         parser.error(f"--pages {bad_pages(options.pages)}")
     if options.size is not None and bad_size(options.size):
@@ -219,6 +222,9 @@ def run(options, source, writer):
         version.complain("import", f"line {told[0]}: {fault}")
         return 1
     writer.finish(shape.shift(), shape.count(), shape.version)
+    if options.json:
+        told = {"pages": shape.count(), "page_bytes": 1 << shape.shift(), "version": shape.version or writer.version}
+        printed.document("precopy imported 1", trace=options.trace, **told, writes=writer.writes)
     return 0
 
 

@@ -12,7 +12,7 @@ import argparse
 import heapq
 import sys
 
-from precopy_tools import version
+from precopy_tools import printed, version
 from precopy_tools.formats import traces
 from precopy_tools.refusals import Refused
 
@@ -68,7 +68,10 @@ def main(words):
     parser.add_argument("trace", metavar="TRACE")
     parser.add_argument("output", metavar="OUTPUT")
     parser.add_argument("--after", metavar="TICKS", type=ticks, required=True, help="how long a page is not written")
+    parser.add_argument("--json", action="store_true", help=printed.JSON_HELP)
     options = parser.parse_args(words)
+    if options.json and options.output == "-":
+        parser.error("--json goes with a file as OUTPUT")
     try:
         with sys.stdin.buffer if options.trace == "-" else open(options.trace, "rb") as file:
             trace = traces.read(file.read(traces.Limits().bytes + 1))
@@ -84,7 +87,10 @@ def main(words):
     except OSError as fault:
         version.complain("release", traces.told(fault))
         return 1
-    print(f"{count:,} releases of {pages:,} pages", file=sys.stderr)
+    if options.json:
+        printed.document("precopy releases 1", trace=options.output, releases=count, pages=pages, writes=writer.writes)
+    else:
+        print(f"{count:,} releases of {pages:,} pages", file=sys.stderr)
     return 0
 
 

@@ -24,8 +24,8 @@ LIGHT = ".light.pcwt"
 
 def base_of(path: str, trace: traces.Trace, records: list, options: argparse.Namespace) -> samples.Sample:
     """What the trace is a sample of: as NAME.json says, else of itself."""
-    if os.path.exists(samples.path_beside(path)):
-        return samples.read(path, trace, [record[:2] for record in records])
+    if options.record or os.path.exists(samples.path_beside(path)):
+        return samples.read(path, trace, [record[:2] for record in records], options.record)
     last = max([options.start, *(record[0] for record in records[-1:])])
     return samples.Sample(
         format=samples.FORMAT,
@@ -73,6 +73,8 @@ def options_of(given: list[str]) -> argparse.Namespace:
     add("--times", metavar="COUNT", type=words.count, default=1, help="draw so often (1)")
     add("--tick", metavar="TIME", type=words.seconds, default=0.001, help="the length of a tick of TRACE (1ms)")
     add("--start", metavar="TICK", type=words.seed, default=0, help="where plans of TRACE begin (0)")
+    add("--record", metavar="NAME.json", help="of TRACE, if it is not beside it")
+    add("--json", action="store_true", help=printed.JSON_HELP)
     options = parser.parse_args(given)
     if options.trace.endswith(LIGHT) != options.output.endswith(LIGHT):
         parser.error(f"OUTPUT ends in {LIGHT} exactly if TRACE does")
@@ -90,10 +92,16 @@ def main(given: list[str]) -> int:
         base = base_of(options.trace, trace, records, options)
         for seed in range(options.seed, options.seed + options.times):
             sample, kept = samples.thinned(base, records, options.one_in, seed)
-            write(options.output.replace("{}", str(seed)), trace, sample, kept)
+            path = options.output.replace("{}", str(seed))
+            write(path, trace, sample, kept)
+            if options.json:
+                drawn = {"sampled_pages": sample.sampled_pages, "trace_writes": len(kept), "seed": seed}
+                printed.document("precopy thinned 1", trace=path, of=options.trace, **drawn)
     except (OSError, Refused, traces.Full) as fault:
         version.complain("thin", traces.told(fault))
         return 1
+    if options.json:
+        return 0
     print(f"{sample.sampled_pages:,} of {base.sampled_pages:,} pages, {len(kept):,} of {trace.writes:,} writes")
     return 0
 

@@ -10,10 +10,10 @@ import concurrent.futures
 import json
 import math
 import os
-import re
 from typing import NamedTuple
 
 from precopy_tools import refusals
+from precopy_tools.evacuate.records import LIGHT, name_of
 from precopy_tools.formats import samples, traces
 from precopy_tools.predict import plans
 from precopy_tools.predict.forecast import Forecast, Link
@@ -21,29 +21,31 @@ from precopy_tools.quantities import micros_of, time_text
 from precopy_tools.refusals import Refused
 
 FORMAT = "precopy costs 1"
-LIGHT = ".light.pcwt"
-STAMP = re.compile(r"\.\d{8}T\d{6}Z$")
 MOST_MICROS = 1 << 53
+STOOD = "the guest stood still for"
 VERDICTS = ("yes", "no", "unknown")
 
 
 class Wanted(NamedTuple):
-    """What one guest may take: its limits, and the tick of its copy at the destination, if there is one."""
+    """What one guest may take: its limits, and its copy at the destination, if there is one: the tick of the record
+    from which on it differs, or how old it is when the migration begins, in seconds."""
 
     downtime: float
     link: float | None = None
     time: float | None = None
     base: int | None = None
     domain: str | None = None
+    age: float | None = None
 
 
 class Cost(NamedTuple):
-    """What the migration of one guest costs at one share, if it begins where its recording does.
+    """What the migration of one guest costs at one share, if it begins where its recording does. The share is at most
+    what a plan of its record can have.
 
     `least` and `most` are the shortest and the longest time over all starts whose migration ends within the recording,
     and `quiet` is the least bytes of them. `converges` is yes, no, or unknown if the recording ends before the
-    migration does: then the cost is that of a guest that writes no more. It is kept if the guest's limits are, and
-    `why` says what is not.
+    migration does, or if the guest stood still meanwhile: then the cost is that of a guest that writes no more. It is
+    kept if the guest's limits are, and `why` says what is not.
     """
 
     at_once: int
@@ -83,12 +85,6 @@ class Asked(NamedTuple):
     tick: float
 
 
-def name_of(path: str) -> str:
-    """The guest of a record: the name of the file, without the time of a segment."""
-    name = os.path.basename(path).removesuffix(".pcwt").removesuffix(".light")
-    return STAMP.sub("", name)
-
-
 def is_name(name: object) -> bool:
     """Whether this can be the name of a guest, also in a comment between commands."""
     return isinstance(name, str) and name != "" and name.isprintable()
@@ -120,8 +116,10 @@ def whole(path: str, trace: traces.Trace, written: list[tuple[int, int]], tick: 
     )
 
 
-def planner_of(path: str, asked: Asked, base: int | None) -> Forecast:
-    """The plans of one record, to a destination with a copy if there is one."""
+def planner_of(path: str, asked: Asked, limits: Wanted) -> Forecast:
+    """The plans of one record, to a destination with a copy if there is one. With an old copy they begin as long after
+    the first look as the copy is old, and it differs by all that was written since the first look."""
+    base = limits.base
     trace, records = traces.read_file(path)
     written = [record[:2] for record in records]
     if path.endswith(LIGHT) or os.path.exists(samples.path_beside(path)):
@@ -133,7 +131,17 @@ def planner_of(path: str, asked: Asked, base: int | None) -> Forecast:
         raise Refused(f"{path}: a copy of tick {base:,} is newer than the record, {begins}")
     forecast = Forecast(asked.program, sample, trace.size, written)
     forecast.begin_with(base)
+    if limits.age is not None:
+        begin_with_old_copy(path, forecast, limits.age)
     return forecast
+
+
+def begin_with_old_copy(path: str, forecast: Forecast, age: float) -> None:
+    if age > forecast.seconds():
+        told, whole = (time_text(micros_of(each)) for each in (age, forecast.seconds()))
+        raise Refused(f"{path}: a copy that is {told} old is older than the record, which has {whole}")
+    forecast.begin_with(forecast.sample.first_tick)
+    forecast.begin_after(age)
 
 
 def micros(seconds: float) -> int:
@@ -144,8 +152,10 @@ def over(name: str, seconds: float, limit: float) -> str:
     return f"{name} {time_text(micros_of(seconds))} over {time_text(micros_of(limit))}"
 
 
-def missed(told: dict, limits: Wanted) -> str:
+def missed(told: dict, limits: Wanted, sample: samples.Sample) -> str:
     """Which of a guest's limits a migration does not keep, and by what."""
+    if sample.stood_still:
+        return f"{STOOD} {sample.still_text()} of its recording"
     if told["converges"] == "unknown":
         return "the recording ends before the migration"
     migration, found = told["migration"], []
@@ -170,13 +180,14 @@ def numbers_of_plan(told: dict) -> tuple[int, int, int]:
 
 def cost_of(planner: Forecast, asked: Asked, limits: Wanted, at_once: int) -> Cost:
     share = asked.link / at_once
-    link = Link(min(share, limits.link or share), limits.downtime)
+    link = Link(min(share, limits.link or share, planner.most_link()), limits.downtime)
     told = planner.told(link)
     cost = numbers(told["migration"]) if "migration" in told else numbers_of_plan(planner.plan(link))
     ranges = told.get("starts")
     least, most = (numbers(ranges[end]) if ranges else cost for end in ("least", "greatest"))
-    why = missed(told, limits)
-    return Cost(at_once, link.bandwidth, *cost, least[0], most[0], least[1], told["converges"], not why, why)
+    why = missed(told, limits, planner.sample)
+    verdict = "unknown" if planner.sample.stood_still else told["converges"]
+    return Cost(at_once, link.bandwidth, *cost, least[0], most[0], least[1], verdict, not why, why)
 
 
 def guest_of(path: str, asked: Asked, limits: Wanted) -> Guest:
@@ -184,7 +195,7 @@ def guest_of(path: str, asked: Asked, limits: Wanted) -> Guest:
     name = name_of(path)
     if not is_name(name):
         raise Refused(f"{path!r}: the name of its guest is empty, or cannot be printed in a line")
-    planner, costs, unplanned = planner_of(path, asked, limits.base), {}, {}
+    planner, costs, unplanned = planner_of(path, asked, limits), {}, {}
     for at_once in asked.numbers:
         try:
             costs[at_once] = cost_of(planner, asked, limits, at_once)
@@ -222,7 +233,7 @@ def rounds_of(path: str, asked: Asked, share: float, limits: Wanted) -> list[int
     """When the rounds of one guest end, in microseconds from its start on. A record that is elsewhere has none."""
     if not os.path.exists(path):
         return []
-    rounds = planner_of(path, asked, limits.base).plan(Link(share, limits.downtime))["rounds"]
+    rounds = planner_of(path, asked, limits).plan(Link(share, limits.downtime))["rounds"]
     return [micros(each["to_seconds"] - rounds[0]["from_seconds"]) for each in rounds]
 
 

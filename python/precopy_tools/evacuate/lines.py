@@ -1,55 +1,156 @@
-"""The lines that perform a schedule, in order, for libvirt or for QEMU's machine protocol."""
+"""What performs a schedule: lines for QEMU's monitors, and scripts for `sh` with virsh or for `python3` with QMP."""
 
 import json
+import os
 import shlex
+from typing import NamedTuple
 
 from precopy_tools.evacuate.schedules import Placed
+from precopy_tools.evacuate.ways import Way
 from precopy_tools.quantities import time_text
+
+QMP_SCRIPT = os.path.join(os.path.dirname(os.path.abspath(__file__)), "qmp_script.py")
+PLAN = "PLAN: list = []"
+VIRSH_SCRIPT = """\
+#!/bin/sh
+# {title}
+# A guest begins when the one before it in its slot has moved. If one fails, or at Ctrl-C, no other one begins.
+# The status is 1 then.
+state=$(mktemp -d) || exit 1
+trap 'rm -r "$state"' EXIT
+trap ': > "$state/stop"' INT TERM HUP
+
+# move NUMBER BEFORE DOMAIN DOWNTIME SPEED URI: moves a guest as soon as that of number BEFORE has moved.
+move() {{
+    until [ "$2" = 0 ] || [ -e "$state/$2" ] || [ -e "$state/stop" ]; do sleep 0.1; done
+    [ ! -e "$state/stop" ] || return 1
+    echo "$3 begins"
+    if virsh migrate-setmaxdowntime --domain "$3" --downtime "$4" &&
+        virsh migrate --live --bandwidth "$5" --domain "$3" --desturi "$6"; then
+        echo "$3 has moved"
+        : > "$state/$1"
+    else
+        echo "$3 has not moved" >&2
+        : > "$state/stop"
+    fi
+    [ -e "$state/$1" ]
+}}
+
+{slots}
+until wait; do :; done
+[ ! -e "$state/stop" ]
+"""
+
+
+class Step(NamedTuple):
+    """The move of a guest, in a script: its number from 1 on; those that have to have moved before, that of its slot
+    and that of its group, with 0 for none; and when it begins."""
+
+    number: int
+    move: Placed
+    of_slot: int
+    of_group: int
+    when: str
 
 
 def milliseconds(limit: float) -> int:
     return max(1, int(1000 * limit))
 
 
-def virsh(move: Placed, to: str) -> list[str]:
-    """Speeds of virsh are MiB a second, rounded down."""
-    limits = move.guest.limits
-    domain = shlex.quote(limits.domain or move.guest.name)
-    speed = max(1, int(move.cost.share) >> 20)
-    return [
-        f"virsh migrate-setmaxdowntime {domain} {milliseconds(limits.downtime)}",
-        f"virsh migrate --live --bandwidth {speed} {domain} {shlex.quote(to)}",
-    ]
+def mebibytes(rate: float) -> int:
+    """A speed of virsh: MiB a second, rounded down."""
+    return max(1, int(rate) >> 20)
 
 
-def qmp(move: Placed, to: str) -> list[str]:
-    limits = move.guest.limits
-    parameters = {"max-bandwidth": int(move.cost.share), "downtime-limit": milliseconds(limits.downtime)}
-    return [
-        json.dumps({"execute": "migrate-set-parameters", "arguments": parameters}),
-        json.dumps({"execute": "migrate", "arguments": {"uri": to}}),
-    ]
-
-
-KINDS = {"virsh": virsh, "qmp": qmp}
-
-
-def waited_for(moves: list[Placed]) -> list[str]:
-    """For each move the guest whose end it waits for: that of its slot, or else of its group; none at the beginning."""
-    found, of_slot, of_end = [], {}, {}
-    for move in moves:
-        before = of_slot.get(move.slot)
-        found.append(before.guest.name if before and before.end == move.start else of_end.get(move.start, ""))
-        of_slot[move.slot] = move
-        of_end.setdefault(move.end, move.guest.name)
+def steps_of(moves: list[Placed], groups: dict[str, int]) -> list[Step]:
+    """The moves in their order, each with those that it waits for."""
+    found: list[Step] = []
+    for number, move in enumerate(moves, 1):
+        group = groups.get(move.guest.name, 0)
+        slot = [step for step in found if step.move.slot == move.slot]
+        same = [step for step in found if group and groups.get(step.move.guest.name, 0) == group]
+        before = max([*slot[-1:], *same[-1:]], key=lambda step: step.move.end, default=None)
+        when = f"when {before.move.guest.name} has moved, after about {time_text(move.start)}" if before else "at once"
+        found.append(Step(number, move, slot[-1].number if slot else 0, same[-1].number if same else 0, when))
     return found
 
 
-def lines(kind: str, moves: list[Placed], to: str) -> list[str]:
-    """What starts each guest, with when that is as a comment. The order of equal starts is that of the schedule."""
-    found, before_of = [], waited_for(moves)
-    for number in sorted(range(len(moves)), key=lambda number: moves[number].start):
-        move, before = moves[number], before_of[number]
-        when = f"when {before} has moved, after about {time_text(move.start)}" if move.start else "at once"
-        found += [f"# {move.guest.name}: {when}", *KINDS[kind](move, to)]
-    return found
+def slots_of(steps: list[Step]) -> list[list[Step]]:
+    """The steps of each slot that has any."""
+    slots: dict[int, list[Step]] = {}
+    for step in steps:
+        slots.setdefault(step.move.slot, []).append(step)
+    return [slots[number] for number in sorted(slots)]
+
+
+def title_of(steps: list[Step]) -> str:
+    count, at_once = len(steps), len(slots_of(steps))
+    return f"Moves {count} guest{'s' if count > 1 else ''}, {at_once} at once."
+
+
+def virsh_line(step: Step, to: str) -> str:
+    limits, before = step.move.guest.limits, 0 if step.of_group == step.of_slot else step.of_group
+    words = [step.number, before, limits.domain or step.move.guest.name]
+    words += [milliseconds(limits.downtime), mebibytes(step.move.cost.share), to]
+    return f"move {' '.join(shlex.quote(str(word)) for word in words)}"
+
+
+def virsh_script(steps: list[Step], ways: dict[str, Way]) -> str:
+    """The guests of each slot one after the other, and the slots side by side."""
+    blocks = []
+    for slot in slots_of(steps):
+        lines = []
+        for step in slot:
+            name = step.move.guest.name
+            lines += [f"    # {name}: {step.when}", f"    {virsh_line(step, ways[name].to)} &&"]
+        lines[-1] = lines[-1].removesuffix(" &&")
+        blocks += ["{", *lines, "} &"]
+    return VIRSH_SCRIPT.format(title=title_of(steps), slots="\n".join(blocks))
+
+
+def qmp_commands(move: Placed, to: str) -> list[dict]:
+    """What a monitor of QEMU is told, in order."""
+    parameters = {"max-bandwidth": int(move.cost.share), "downtime-limit": milliseconds(move.guest.limits.downtime)}
+    return [
+        {"execute": "qmp_capabilities"},
+        {"execute": "migrate-set-parameters", "arguments": parameters},
+        {"execute": "migrate", "arguments": {"uri": to}},
+    ]
+
+
+def qmp_blocks(steps: list[Step], ways: dict[str, Way]) -> str:
+    """A block of commands for each monitor, each below a line that says when."""
+    found = []
+    for step in sorted(steps, key=lambda step: step.move.start):
+        way = ways[step.move.guest.name]
+        found.append(f"{step.move.guest.name}, {step.when}, to {way.monitor or 'its monitor'}:")
+        found += [*map(json.dumps, qmp_commands(step.move, way.to)), ""]
+    return "\n".join(found).rstrip("\n")
+
+
+def qmp_script(steps: list[Step], ways: dict[str, Way]) -> str:
+    """The script of this folder, with the plan in it."""
+    plan = [
+        {
+            "number": step.number,
+            "guest": step.move.guest.name,
+            "slot": step.move.slot,
+            "before": step.of_group,
+            "monitor": ways[step.move.guest.name].monitor,
+            "commands": qmp_commands(step.move, ways[step.move.guest.name].to)[1:],
+        }
+        for step in steps
+    ]
+    rows = "".join(f"    {json.dumps(row, ensure_ascii=True)},\n" for row in plan)
+    with open(QMP_SCRIPT, encoding="utf-8") as file:
+        return file.read().replace(PLAN, f"# {title_of(steps)}\nPLAN: list = [\n{rows}]")
+
+
+def printed(kind: str, steps: list[Step], ways: dict[str, Way]) -> str:
+    """What stands below the table."""
+    return qmp_blocks(steps, ways) if kind == "qmp" else virsh_script(steps, ways)
+
+
+def script(kind: str, steps: list[Step], ways: dict[str, Way]) -> str:
+    """One executable file."""
+    return qmp_script(steps, ways) if kind == "qmp" else virsh_script(steps, ways)

@@ -11,6 +11,15 @@ from precopy_tools.evacuate.costs import Cost, Guest
 from precopy_tools.predict import plans
 
 
+class Limits(NamedTuple):
+    """The link without its reserve, in bytes a second; the limit of each downtime, and that of the whole if there is
+    one, in seconds."""
+
+    link: float
+    downtime: float
+    deadline: float | None
+
+
 class Placed(NamedTuple):
     """The move of a guest: when it begins and ends, in microseconds, and in which slot."""
 

@@ -1,10 +1,12 @@
 """The settings of an evacuation, as a small file of JSON:
 
     {"reserve": "1Gbit", "apart": [["db-a", "db-b"]],
-     "guests": {"db-a": {"downtime": "100ms", "time": "2m", "link": "5Gbit", "copy": 1, "domain": "db"}}}
+     "guests": {"db-a": {"downtime": "100ms", "time": "2m", "link": "5Gbit", "copy": 1, "domain": "db",
+                         "monitor": "/run/db-a.qmp", "to": "tcp:b:4444"}}}
 
 `reserve` of the link is left to others. Of the guests of a list in `apart` one moves at a time. A guest may have its
-own limits, a copy at the destination by the tick from which its memory differs, and another name as a domain.
+own limits; a copy at the destination, by how old it is when the migration begins, as "10s", or by the tick of the
+record from which on it differs; another name as a domain; and its own monitor and destination.
 """
 
 import argparse
@@ -12,17 +14,20 @@ from collections.abc import Callable
 from typing import NamedTuple
 
 from precopy_tools import refusals, words
-from precopy_tools.evacuate.costs import Wanted
+from precopy_tools.evacuate import ways
+from precopy_tools.evacuate.costs import Wanted, is_name
+from precopy_tools.evacuate.ways import Way
 from precopy_tools.refusals import Refused
 
 WHOLE = {"reserve", "apart", "guests"}
-GUEST = {"downtime", "time", "link", "copy", "domain"}
+GUEST = {"downtime", "time", "link", "copy", "domain", "monitor", "to"}
 
 
 class Settings(NamedTuple):
     reserve: float = 0.0
     apart: tuple[tuple[str, ...], ...] = ()
     guests: dict[str, dict] = {}
+    ways: dict[str, Way] = {}
 
     def limits_of(self, downtime: float) -> Callable[[str], Wanted]:
         return lambda name: Wanted(**{"downtime": downtime, **self.guests.get(name, {})})
@@ -33,8 +38,15 @@ class Settings(NamedTuple):
 
 
 def quantity(path: str, name: str, value: object, parse: Callable[[str], float]) -> float:
+    return text(path, name, value if isinstance(value, str) else repr(value), parse)
+
+
+def text(path: str, name: str, value: object, parse: Callable):
+    """What a word of the settings says."""
+    if not isinstance(value, str):
+        raise Refused(f"{path}: {name} is no text: {value!r}")
     try:
-        return parse(value if isinstance(value, str) else repr(value))
+        return parse(value)
     except argparse.ArgumentTypeError as fault:
         raise Refused(f"{path}: {name}: {fault}") from fault
 
@@ -46,16 +58,28 @@ def guest_of(path: str, name: str, value: object) -> dict:
         if field in fields:
             found[field] = quantity(path, f"guests: {name}: {field}", fields[field], parse)
     copy = fields.get("copy")
-    if copy is not None:
+    if isinstance(copy, str):
+        found["age"] = quantity(path, f"guests: {name}: copy", copy, words.seconds)
+    elif copy is not None:
         if type(copy) is not int or not 0 <= copy < 1 << 40:
             raise Refused(f"{path}: guests: {name}: copy is no tick: {copy!r}")
         found["base"] = copy
     domain = fields.get("domain")
     if domain is not None:
-        if not isinstance(domain, str) or not domain:
+        if not is_name(domain):
             raise Refused(f"{path}: guests: {name}: domain is no name: {domain!r}")
         found["domain"] = domain
     return found
+
+
+def way_of(path: str, name: str, fields: dict) -> Way:
+    """The monitor and the destination of a guest, as far as they are its own."""
+    found = {}
+    for field in Way._fields:
+        if field in fields:
+            value = fields[field]
+            found[field] = text(path, f"guests: {name}: {field}", value, ways.template)
+    return Way(**found)
 
 
 def apart_of(path: str, lists: object) -> tuple[tuple[str, ...], ...]:
@@ -80,6 +104,7 @@ def read(path: str) -> Settings:
         reserve,
         apart_of(path, fields.get("apart", [])),
         {name: guest_of(path, name, each) for name, each in guests.items()},
+        {name: way_of(path, name, each) for name, each in guests.items()},
     )
 
 

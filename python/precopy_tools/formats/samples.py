@@ -23,6 +23,8 @@ MOST_COUNTED = 1 << 18
 MOST = 1 << 53
 MOST_TEXT = 4096
 METHODS = ("writes", "values", "trace")
+# A guest that ran for less of the time than this was not recorded as it is.
+LEAST_SHARE = 0.99
 
 
 def draw(pages: int, wanted: int, seed: int) -> list[int]:
@@ -45,7 +47,7 @@ def now() -> str:
 
 @dataclasses.dataclass(frozen=True)
 class Sample:
-    """What NAME.json says, in its order. Numbers are whole and below 2^53, but for the two lengths of time."""
+    """What NAME.json says, in its order. Numbers are whole and below 2^53, but for two lengths of time and a share."""
 
     format: str
     trace_sha256: str
@@ -66,6 +68,17 @@ class Sample:
     late: int
     taken_at: str
     taken_of: str
+    # The share of the time for which the guest ran. Recordings of earlier versions do not tell it.
+    ran_share: float | None = None
+
+    @property
+    def stood_still(self) -> bool:
+        """Whether the guest stood still for so long that nothing can be said of its migration."""
+        return self.ran_share is not None and self.ran_share < LEAST_SHARE
+
+    def still_text(self) -> str:
+        """For how much of the time it stood still."""
+        return f"{100 * (1 - (self.ran_share or 0.0)):.1f} per cent"
 
     @property
     def weight(self) -> float:
@@ -75,7 +88,8 @@ class Sample:
         return self.guest_pages / self.sampled_pages
 
     def text(self) -> bytes:
-        return (json.dumps(dataclasses.asdict(self), indent=2) + "\n").encode()
+        told = {name: value for name, value in dataclasses.asdict(self).items() if value is not None}
+        return (json.dumps(told, indent=2) + "\n").encode()
 
 
 def is_number(value: object, least: int) -> bool:
@@ -84,6 +98,10 @@ def is_number(value: object, least: int) -> bool:
 
 def is_time(value: object) -> bool:
     return type(value) in (int, float) and 0 < value < 1e9
+
+
+def is_share(value: object) -> bool:
+    return type(value) in (int, float) and 0 <= value <= 1
 
 
 def is_moment(value: object) -> bool:
@@ -114,7 +132,9 @@ FIELDS = {
     "late": ("a number", lambda value: is_number(value, 0)),
     "taken_at": ("a time with its zone", is_moment),
     "taken_of": ("a text", lambda value: isinstance(value, str) and value != ""),
+    "ran_share": ("a number from 0 to 1", is_share),
 }
+OPTIONAL = {"ran_share"}
 
 
 def rules_of(sample: Sample, trace: traces.Trace, written: list[tuple[int, int]]) -> list[tuple[str, bool]]:
@@ -149,6 +169,8 @@ def parsed(path: str) -> Sample:
     """The fields of a file, each tested by itself."""
     fields = refusals.object_in(path, FIELDS, "field")
     for name, (wanted, holds) in FIELDS.items():
+        if name not in fields and name in OPTIONAL:
+            continue
         if name not in fields:
             raise Refused(f"{path}: the field {name} is missing")
         if not holds(fields[name]):
@@ -156,12 +178,14 @@ def parsed(path: str) -> Sample:
     return Sample(**fields)
 
 
-def read(trace_path: str, trace: traces.Trace, written: list[tuple[int, int]]) -> Sample:
-    """The sample in the file beside a trace, whose writes are these ticks and pages."""
-    path = path_beside(trace_path)
+def read(trace_path: str, trace: traces.Trace, written: list[tuple[int, int]], elsewhere: str | None = None) -> Sample:
+    """The sample in the file beside a trace, or elsewhere; the writes of the trace are these ticks and pages."""
+    path = elsewhere or path_beside(trace_path)
     try:
         sample = parsed(path)
     except FileNotFoundError as fault:
+        if elsewhere:
+            raise
         told = f"{version.called('record')} writes one if it draws pages, and precopy-view predict plans without it"
         raise Refused(f"{trace_path}: there is no {path} beside it: {told}") from fault
     for rule, holds in rules_of(sample, trace, written):

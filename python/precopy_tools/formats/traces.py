@@ -3,9 +3,11 @@
 A write with no bytes releases its page: the whole page becomes zeros. Only traces of version 2 have such writes.
 """
 
+import contextlib
 import errno
 import fcntl
 import os
+import re
 import shutil
 import struct
 import sys
@@ -33,6 +35,10 @@ class Limits(NamedTuple):
 
 class Full(Exception):
     """Some writes do not fit the trace any more; the text says which limit they pass."""
+
+
+class Busy(Exception):
+    """Another process writes what this one was to write."""
 
 
 class NoRoom(Full):
@@ -132,6 +138,16 @@ def read_file(path):
         raise Refused(f"{path}: {name}: {CAUSES[name.partition(' ')[0]]}") from refused
 
 
+def is_locked(path):
+    """Whether another process has this file locked. One that is not there is not."""
+    with contextlib.suppress(FileNotFoundError), open(path, "rb") as file:
+        try:
+            fcntl.flock(file, fcntl.LOCK_EX | fcntl.LOCK_NB)
+        except BlockingIOError:
+            return True
+    return False
+
+
 class Pending:
     """A file that is written under another name, only for its owner, and takes its own name when it is whole.
 
@@ -149,6 +165,14 @@ class Pending:
             raise OSError(fault.errno, fault.strerror, path) from fault
         # While it is locked, it is not left over.
         fcntl.flock(self.descriptor, fcntl.LOCK_EX | fcntl.LOCK_NB)
+
+    def expect_alone(self):
+        """Raises Busy if another process writes a file of the same name; an unfinished file that is left is none."""
+        folder, own = os.path.split(self.hidden)
+        part = re.compile(rf"\.{re.escape(os.path.basename(self.path))}\.\w+\.part")
+        for name in os.listdir(folder):
+            if name != own and part.fullmatch(name) and is_locked(os.path.join(folder, name)):
+                raise Busy(f"another process writes {self.path}")
 
     def write(self, data):
         left = memoryview(data)

@@ -3,7 +3,8 @@
     tools/predict NAME.light.pcwt --link 10Gbit --downtime 300ms
     tools/predict NAME.light.pcwt .. --link 10Gbit --downtime 300ms [--picture NAME.svg]
 
-It reads NAME.json beside the trace, asks `precopy-view predict`, and prints what that answers of the whole guest.
+It reads NAME.json beside the trace, or the file of --record, asks `precopy-view predict`, and prints what that answers
+of the whole guest. --when prints what `precopy-view when` answers of many starts.
 --link is the rate at which pages of this guest are sent. It is less than what the card says, and depends on the guest
 and the machine. The lines at half and twice the link show how much all answers depend on it. docs/REAL-GUESTS.md says
 where hypervisors differ from a plan.
@@ -12,23 +13,25 @@ Several traces have a line each, and so have the segments of a series, named as 
 worst start are those of `precopy-view when`. --picture writes what a migration costs by the time of day at which it
 begins, as SVG, from at most --starts of each trace. Times are in UTC.
 
-The status is 0 if each plan keeps the downtime limit, 3 if one does not, 4 if a recording ends before its migration
-does, 1 if a file is refused, and 2 if the words are.
+The status is 0 if each plan keeps the downtime limit, 3 if one does not, 4 if that is not known, since a recording ends
+before its migration does or its guest stood still, 1 if a file is refused, and 2 if the words are.
 """
 
 import argparse
+import json
 import os
 import sys
 
 from precopy_tools import places, printed, version, words
 from precopy_tools.formats import traces
-from precopy_tools.predict import day_chart, plans, texts
+from precopy_tools.predict import day_chart, documents, plans, texts
 from precopy_tools.predict.forecast import Forecast, Link, forecast_of
 from precopy_tools.record import series
 from precopy_tools.refusals import Refused
 
 PROGRAM = places.program("precopy-view")
-STATUSES = {"yes": 0, "no": 3, "unknown": 4}
+UNKNOWN = 4
+STATUSES = {"yes": 0, "no": 3, "unknown": UNKNOWN}
 
 
 def options_of(given: list[str]) -> argparse.Namespace:
@@ -41,10 +44,17 @@ def options_of(given: list[str]) -> argparse.Namespace:
     add("--link", metavar="RATE", type=words.link, required=True, help="a second: 10Gbit, 1250MB, 128MiB")
     add("--downtime", metavar="TIME", type=words.seconds, default=0.3, help="limit (300ms)")
     add("--start", metavar="TIME", type=words.seconds, default=0.0, help="begin so long after the first look")
+    add("--record", metavar="NAME.json", help="of one trace, if it is not beside it")
+    add("--when", action="store_true", help="of one trace, print what it costs from many starts")
+    add("--json", action="store_true", help="print one line of JSON for each trace")
     add("--picture", metavar="PATH", help="write what a migration costs by time of day, as SVG")
     add("--starts", metavar="N", type=words.count, default=60, help="of each trace, at most 4,096 (60)")
     add("--program", metavar="PATH", default=PROGRAM, help="the built precopy-view")
     options = parser.parse_args(given)
+    if (options.record or options.when) and len(options.traces) > 1:
+        parser.error("--record and --when are of one trace")
+    if options.when and (options.json or options.picture):
+        parser.error("--when goes without --json and --picture")
     if options.starts > 4096:
         parser.error("--starts: at most 4,096")
     if not os.access(options.program, os.X_OK):
@@ -54,33 +64,33 @@ def options_of(given: list[str]) -> argparse.Namespace:
 
 def asked(options: argparse.Namespace, path: str) -> tuple[Forecast, Link]:
     """The question about one recording."""
-    forecast = forecast_of(options.program, path)
+    forecast = forecast_of(options.program, path, options.record)
+    if options.start > forecast.seconds():
+        after, whole = (texts.time(each) for each in (options.start, forecast.seconds()))
+        raise Refused(f"{path}: --start {after} is after the end of the recording, which has {whole}")
     forecast.begin_after(options.start)
     return forecast, Link(options.link, options.downtime)
 
 
-def named(traces_or_series: list[str]) -> list[str]:
-    """The traces of some words: a file by its name, and the segments of a series by that of the series."""
-    found = []
-    for word in traces_or_series:
-        segments = (
-            []
-            if os.path.exists(word) or not os.path.isdir(os.path.dirname(os.path.abspath(word)))
-            else series.Series(word).paths()
-        )
-        found += segments or [word]
-    return found
+def status_of(forecast: Forecast, status: int) -> int:
+    """The status of a plan; of a guest that stood still nothing is known."""
+    return UNKNOWN if forecast.sample.stood_still else status
 
 
 def show_each(options: argparse.Namespace, path: str) -> tuple[int, list[day_chart.Start]]:
     """Prints the line of one of several traces. Returns its status, and the starts whose migration ends within it."""
     forecast, link = asked(options, path)
     told, when = forecast.told(link), forecast.starts(link, options.starts)
-    moments = {
-        name: (forecast.moment(when[name]["start_seconds"]), when[name]) for name in ("best", "worst") if name in when
-    }
-    print(texts.of_several(told, forecast.moment(options.start), moments, forecast.sample), flush=True)
-    return STATUSES[told["kept"]], [
+    if options.json:
+        print(json.dumps(documents.of_trace(path, forecast, told, when)), flush=True)
+    else:
+        moments = {
+            name: (forecast.moment(when[name]["start_seconds"]), when[name])
+            for name in ("best", "worst")
+            if name in when
+        }
+        print(texts.of_several(told, forecast.moment(options.start), moments, forecast.sample), flush=True)
+    return status_of(forecast, STATUSES[told["kept"]]), [
         day_chart.Start(
             forecast.moment(it["start_seconds"]),
             it["sent_bytes"],
@@ -120,12 +130,19 @@ def write_picture(options: argparse.Namespace, starts: list[day_chart.Start]) ->
 
 
 def predict(options: argparse.Namespace) -> int:
-    paths = named(options.traces)
-    if len(paths) > 1 or options.picture:
+    paths = series.named(options.traces)
+    if options.record and len(paths) > 1:
+        raise Refused("--record is of one trace, and this is a series")
+    if len(paths) > 1 or options.picture or options.json:
         return predict_each(options, paths)
     forecast, link = asked(options, paths[0])
+    if options.when:
+        status, text = forecast.when_text(link, options.starts)
+        print("\n".join([*texts.uncertain(forecast.sample), *texts.warnings(forecast.sample), text]), end="")
+        return status_of(forecast, status)
     status, lines = forecast.lines(link)
-    print("\n".join([*texts.of_sample(forecast.sample, forecast.page_size), texts.of_link(options.link), *lines]))
+    about = [*texts.of_sample(forecast.sample, forecast.page_size), texts.of_link(options.link)]
+    print("\n".join([*about, *texts.uncertain(forecast.sample), *lines]))
     for name, times in (("half", 0.5), ("twice", 2.0)):
         try:
             told = ", ".join(texts.cost(forecast.told(link._replace(bandwidth=link.bandwidth * times))))
@@ -134,7 +151,7 @@ def predict(options: argparse.Namespace) -> int:
         print(f"at {name} the link: {told}")
     for line in texts.warnings(forecast.sample):
         print(line)
-    return status
+    return status_of(forecast, status)
 
 
 def main(given: list[str]) -> int:

@@ -67,6 +67,10 @@ class Forecast:
         pages = self.sample.trace_pages
         return plans.Scale(self.tick() * factor, self.page_size, pages, max(pages, round(pages * self.sample.weight)))
 
+    def most_link(self) -> float:
+        """The most bytes a second that a plan can have."""
+        return float(self.scale(1).most())
+
     def factor(self, link: Link) -> int:
         """By how much ticks are made longer: for a rate of 500 or more, if they fit the downtime limit."""
         downtime, tick = round(1e6 * link.downtime), self.tick()
@@ -123,14 +127,25 @@ class Forecast:
         places = ["--to", str(last), "--every", str(-(-(last + 1) // most))]
         return plans.document(self.program, ["when", *words, *places], self.text(factor))
 
+    def when_text(self, link: Link, most: int) -> tuple[int, str]:
+        """The status and the lines of `precopy-view when`, of the same starts."""
+        factor, words = self.limits(link)
+        last = self.last(factor)
+        places = ["--to", str(last), "--every", str(-(-(last + 1) // most))]
+        return plans.answered(self.program, ["when", *words, *places], self.text(factor))
+
+    def seconds(self) -> float:
+        """How long the recording is, from the first look to the last."""
+        return (self.sample.last_tick - self.sample.first_tick) * self.sample.tick_seconds
+
     def moment(self, seconds: float) -> datetime.datetime:
         """When it is so long after the first look, in UTC."""
         taken = datetime.datetime.fromisoformat(self.sample.taken_at).astimezone(datetime.timezone.utc)
         return taken + datetime.timedelta(seconds=seconds)
 
 
-def forecast_of(program: str, path: str) -> Forecast:
-    """The question about a recording in a file, with NAME.json beside it."""
+def forecast_of(program: str, path: str, record: str | None = None) -> Forecast:
+    """The question about a recording in a file, with NAME.json beside it, or elsewhere."""
     trace, records = traces.read_file(path)
     written = [record[:2] for record in records]
-    return Forecast(program, samples.read(path, trace, written), trace.size, written)
+    return Forecast(program, samples.read(path, trace, written, record), trace.size, written)

@@ -79,6 +79,10 @@ class Scale(NamedTuple):
         """Pages of the trace in 1,000 ticks, for bytes a second."""
         return bandwidth * self.tick * self.sampled / (1000 * self.page * self.guest)
 
+    def most(self) -> int:
+        """The most bytes a second that a plan can have, in the unit of a link."""
+        return MOST_RATE * 1000 * self.page * self.guest // (self.tick * self.sampled) // LEAST_LINK * LEAST_LINK
+
 
 def limits(bandwidth: float, downtime: float, scale: Scale) -> list[str]:
     """The words of precopy-view for limits in bytes a second and seconds."""

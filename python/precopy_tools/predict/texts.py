@@ -46,6 +46,12 @@ def of_link(bandwidth: float) -> str:
     return f"link: {bandwidth * 8 / 1e9:.3g} Gbit/s, {bandwidth / (1 << 20):,.2f} MiB a second"
 
 
+def uncertain(sample: samples.Sample) -> list[str]:
+    """What is said first of a guest that stood still."""
+    told = f"uncertain: the guest stood still for {sample.still_text()} of the recording, and wrote nothing then"
+    return [told] * sample.stood_still
+
+
 def warnings(sample: samples.Sample) -> list[str]:
     """What speaks against a sample."""
     late = f"warning: {sample.late} of {sample.samples} looks at the guest were late: the plan is too low"
@@ -57,4 +63,5 @@ def of_several(told: dict, begun: datetime.datetime, starts: dict, sample: sampl
     """The line of one of several traces: when the migration begins, what it costs, the best and the worst start."""
     parts = [f"{begun:%Y-%m-%d %H:%M:%S}", *cost(told)]
     parts += [f"{name} {moment:%H:%M:%S} {size_text(start['sent_bytes'])}" for name, (moment, start) in starts.items()]
-    return "  ".join(parts + [f"{sample.late} of {sample.samples} looks late"] * (sample.late > 0))
+    parts += [f"{sample.late} of {sample.samples} looks late"] * (sample.late > 0)
+    return "  ".join(parts + [f"uncertain: stood still for {sample.still_text()}"] * sample.stood_still)

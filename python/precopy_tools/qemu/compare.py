@@ -40,7 +40,7 @@ import sys
 import tempfile
 import time
 
-from precopy_tools import places, version, words
+from precopy_tools import places, printed, version, words
 from precopy_tools.formats import samples, traces
 from precopy_tools.predict import plans
 from precopy_tools.predict.forecast import Link, forecast_of
@@ -218,12 +218,16 @@ def show_whole(options, plan, real, last_tick):
         print("the plan stops since the guest writes faster than the bandwidth; QEMU goes on then")
 
 
-def show_sampled(options, forecast, again, real, load):
-    """The plan of the bandwidth that was asked for, those of the bandwidth reached, and QEMU's migration."""
-    sample, rate = forecast.sample, real.reached() if real.ended else options.bandwidth
-    link = Link(rate, options.downtime)
+def plans_of(options, forecast, again, real):
+    """The plan of the bandwidth that was asked for, that of the one reached, and with hindsight a third."""
+    link = Link(real.reached() if real.ended else options.bandwidth, options.downtime)
     told = [forecast.told(Link(options.bandwidth, options.downtime)), forecast.told(link)]
-    told += [again.forecast(options, real.begun).told(link)] if again and real.ended else []
+    return told + ([again.forecast(options, real.begun).told(link)] if again and real.ended else [])
+
+
+def show_sampled(options, sample, told, real, load):
+    """The plans beside QEMU's migration."""
+    rate = real.reached() if real.ended else options.bandwidth
     limits = f"{options.bandwidth / (1 << 20):g} MiB/s, limit {time_text(micros_of(options.downtime))}"
     drawn = f"{sample.sampled_pages:,} of {sample.guest_pages:,} pages by {sample.method}"
     print(f"{called(options)}: {limits}; {drawn}; load {load[0]:.0f} to {load[1]:.0f}")
@@ -299,13 +303,18 @@ def compare(options, folder, memory_folder, guests):
     real, to, again = migrated(options, folder, memory_folder, guests, source, system, machine)
     load.append(os.getloadavg()[0])
     if options.is_sampled:
-        show_sampled(options, forecast_of(options.view, trace), again, real, load)
+        forecast = forecast_of(options.view, trace)
+        told = plans_of(options, forecast, again, real)
+        show_sampled(options, forecast.sample, told, real, load)
     else:
+        told = [planned[0]._asdict()]
         show_whole(options, planned[0], real, planned[1])
+    options.answers = {"plans": told, "qemu": real.document(), "load": load}
     if not real.ended:
         print(f"QEMU's migration did not end in {options.patience:g} s, and was cancelled: memory is not compared")
         return 3
     differ, pages = migration.differing_of(source, to)
+    options.answers |= {"differing_pages": differ, "pages": pages}
     print(f"memory: {differ:,} of {pages:,} pages differ at the destination")
     return 1 if differ else 0
 
@@ -339,6 +348,7 @@ def parser_of():
     add("--light", action="store_true", help="record one byte a write")
     add("--keep", metavar="PATH", help="keep the trace under this name")
     add("--accelerator", default="tcg", metavar="NAME", help="QEMU's (tcg)")
+    add("--json", action="store_true", help=printed.JSON_HELP)
     add("--hindsight", action="store_true", help="record a larger guest again while it is migrated")
     add("--program", default=PROGRAM, metavar="PATH", help="the built precopy, for 128 MiB")
     add("--view", default=VIEW, metavar="PATH", help="the built precopy-view, for larger guests")
@@ -369,9 +379,15 @@ def main(given):
     signal.signal(signal.SIGTERM, lambda *_: sys.exit(1))
     # Memory of guests is not written to a disk if there is a file system in memory.
     where = "/dev/shm" if os.path.isdir("/dev/shm") else None
+    if where is None:
+        version.complain("compare-qemu", f"there is no /dev/shm: the guest's memory is in {tempfile.gettempdir()}")
     with tempfile.TemporaryDirectory() as folder, tempfile.TemporaryDirectory(dir=where) as memory_folder:
         try:
-            return compare(options, folder, memory_folder, guests)
+            with printed.silent(options.json) as told:
+                status = compare(options, folder, memory_folder, guests)
+                limits = {"bandwidth_bytes": options.bandwidth, "down_seconds": options.downtime}
+                told("precopy comparison 1", workload=called(options), **limits, **options.answers)
+            return status
         except (guest.Failed, guest.Missing, qmp.Fault, plans.Failed, OSError, subprocess.SubprocessError) as fault:
             version.complain("compare-qemu", traces.told(fault))
             return 1

@@ -34,6 +34,21 @@ class Migration:
         self.downtime = told.get("downtime", 0)
         self.expected = expected
 
+    def document(self):
+        """What it was, as JSON has it."""
+        return {
+            "ended": self.ended,
+            "pages_sent": self.sent,
+            "zero_pages": self.zeros,
+            "rounds": self.rounds,
+            "last_pages": self.last,
+            "time_seconds": self.milliseconds / 1000,
+            "setup_seconds": self.setup / 1000,
+            "down_seconds": self.downtime / 1000,
+            "expected_down_seconds": self.expected / 1000,
+            "reached_bytes": round(self.reached()),
+        }
+
     def reached(self):
         """Bytes a second while the guest ran."""
         return (self.sent - self.last) * memory.PAGE * 1000 / max(1, self.milliseconds - self.downtime)

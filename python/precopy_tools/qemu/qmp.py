@@ -34,11 +34,20 @@ def command_line(command, arguments):
     return json.dumps(asked)
 
 
+def is_taken(path):
+    """Whether a server of a socket has accepted a connection there, as /proc/net/unix tells."""
+    connected = "03"
+    with contextlib.suppress(OSError), open("/proc/net/unix", encoding="utf-8", errors="replace") as lines:
+        rows = [line.split(maxsplit=7) for line in lines]
+        return any(row[7].rstrip("\n") == path and row[5] == connected for row in rows if len(row) == 8)
+    return False
+
+
 class Client:
     """One connection. QEMU serves one client at a time, so keep it no longer than it is needed."""
 
     def __init__(self, path, seconds=SECONDS):
-        self.path, self.seconds, self.rest = path, seconds, bytearray()
+        self.path, self.seconds, self.rest, self.maker = path, seconds, bytearray(), None
         self.socket = socket.socket(socket.AF_UNIX)
         try:
             self._greet()
@@ -52,14 +61,24 @@ class Client:
             return fault
         told = getattr(fault, "strerror", None) or fault
         if isinstance(fault, TimeoutError):
-            told = f"{fault}; QEMU serves one client at a time, and another one may have this socket"
+            told = f"{fault}; {self._silence()}"
         elif isinstance(fault, ValueError):
             told = f"this is no monitor of QEMU's machine protocol, as -qmp makes one: {fault}"
         return Fault(f"{self.path}: {told}")
 
+    def _silence(self):
+        """Why QEMU may not answer."""
+        if is_taken(self.path):
+            return "QEMU serves one client at a time, and another one has this socket"
+        maker = self.maker
+        return (
+            f"nobody else has this socket: QEMU{f', process {maker},' if maker else ''} does not answer; is it stopped?"
+        )
+
     def _greet(self):
         self.socket.settimeout(self.seconds)
         self.socket.connect(self.path)
+        self.maker = self.process()
         self._next("QMP")
         self.ask("qmp_capabilities")
 

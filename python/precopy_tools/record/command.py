@@ -15,8 +15,8 @@ another one is an eighth of it or more. --memory refuses what does not sum to it
 
 Each interval has one record for each page that was written. Tick 0 is the guest as it was found, and the intervals
 begin at tick 1000. Without --for it goes on until SIGINT, SIGTERM, the end of the guest or a limit of traces. Any of
---pages, --one-in, --by, --scan, --mapping and --seed makes it record drawn pages. So does a guest with more pages than
-a trace may have, unless --compact is given. Then NAME.json is written beside the trace, for tools/predict.
+--pages, --one-in, --by, --scan, --mapping and --seed makes it record drawn pages, and so does an OUTPUT that ends in
+.light.pcwt, without --light and --compact. Then NAME.json is written beside the trace, for tools/predict.
 
 With --segment each such time has a trace of its own, NAME.20261127T030000Z.light.pcwt by when it began in UTC, with
 its .json. One that is full is followed by the next at once; what is written between two is in the later one. --keep
@@ -42,7 +42,7 @@ from precopy_tools.formats import samples, traces
 from precopy_tools.predict import plans
 from precopy_tools.qemu import qmp
 from precopy_tools.quantities import micros_of, size_text, time_text
-from precopy_tools.record import guests, looking, memory, series, sources
+from precopy_tools.record import documents, guests, looking, memory, series, sources
 from precopy_tools.record.pagemap import Unavailable
 from precopy_tools.record.sampled import SampledGuest, SampleRecorder
 from precopy_tools.record.ticks import FIRST
@@ -163,6 +163,7 @@ def parser_of():
     add("--image", metavar="PATH", help="the last memory of the trace's pages, beside the trace")
     add("--map", metavar="PATH", help="lines of a page, how many follow on, and where they are in the source")
     add("--qmp", metavar="SOCKET", help="ask this QEMU for its memory; if all is recorded, pause it at first and last")
+    add("--json", action="store_true", help="print a line of JSON for the trace, or for each segment, in place of text")
     add("--bandwidth", metavar="RATE", type=words.rate, default=128 << 20, help="a second (128MiB)")
     add("--downtime", metavar="TIME", type=words.seconds, default=0.3, help="limit (300ms)")
     for name, most in zip(("--limit-writes", "--limit-bytes", "--limit-pages"), traces.Limits()):
@@ -198,7 +199,8 @@ def options_of(given):
         parser.error("--domain has the monitor of libvirt: leave out --qmp")
     if "-" in (options.output, options.image, options.map):
         parser.error("a trace, an image and a map are files with a name")
-    options.is_sampled = any(getattr(options, name) is not None for name in SAMPLING)
+    is_named = is_light_name(options) and not options.light and not options.compact
+    options.is_sampled = is_named or any(getattr(options, name) is not None for name in SAMPLING)
     if options.is_sampled:
         sampled_options(options, parser.error)
     if options.segment and (options.segment < max(1, 2 * options.every) or options.map):
@@ -242,10 +244,7 @@ def recorder_of(options, writer):
     pages = sum(end - begin for begin, end in whole.ranges()) // memory.PAGE
     if options.compact or pages <= samples.MOST_PAGES:
         if is_light_name(options) and not options.light:
-            raise WordsRefused(
-                f"all {pages:,} pages fit a trace, which has their bytes: its name does not end in "
-                f".light.pcwt. --pages {samples.DEFAULT_PAGES} draws pages, --light leaves bytes out"
-            )
+            raise WordsRefused(f"{LIGHT_NAME}: --light leaves bytes out, and without --compact pages are drawn")
         return WholeRecorder(whole, writer, options)
     if not is_light_name(options):
         raise WordsRefused(
@@ -261,7 +260,7 @@ def refused(text):
     raise WordsRefused(text)
 
 
-def record(options, writer, stopping):
+def record(options, writer, stopping, told):
     recorder = recorder_of(options, writer)
     with contextlib.ExitStack() as stack:
         stack.enter_context(contextlib.closing(recorder))
@@ -275,8 +274,11 @@ def record(options, writer, stopping):
         finish(recorder, writer, beside)
     looking.hide()
     tell(recorder, options, (standing, stood), share)
+    if options.is_sampled and recorder.still:
+        print(recorder.still)
     if options.is_sampled and sources.has_changed(options, recorder.guest.source):
         print("memory: the guest has other memory now than when it was asked: what was plugged in is not recorded")
+    told(**documents.of_recording(options.output, recorder, ended_by))
     if ended_by is not None:
         version.complain("record", f"ended with the sample at tick {recorder.last}: {cause_of(ended_by)}")
     if options.image:
@@ -294,9 +296,17 @@ def finish(recorder, writer, beside):
     writer.finish(memory.SHIFT, recorder.pages())
 
 
-def record_series(options, limits, stopping):
+def record_series(options, limits, stopping, told):
     """Segments until the time is over, or one cannot be followed by another."""
-    recording = series.Recording(options, limits, stopping, lambda writer: recorder_of(options, writer), tell_first)
+
+    def tell(recorder, path=None, ended_by=None):
+        """What is known after the first look, or of a segment that is whole."""
+        if path is None:
+            tell_first(recorder)
+        else:
+            told(**documents.of_recording(path, recorder, ended_by))
+
+    recording = series.Recording(options, limits, stopping, lambda writer: recorder_of(options, writer), tell)
     ended_by = recording.run()
     looking.hide()
     if ended_by is not None:
@@ -315,22 +325,29 @@ def cause_of(fault):
     return "memory ran out" if isinstance(fault, MemoryError) else traces.told(fault)
 
 
+def recorded(options, limits, told):
+    """Records a series, or one trace."""
+    stopping = looking.Stopping()
+    if options.segment:
+        return record_series(options, limits, stopping, told)
+    with traces.Writer(options.output, limits) as writer:
+        writer.expect_alone()
+        return record(options, writer, stopping, told)
+
+
 def main(given):
     if not given:
         print(guests.listed())
         return 0
     options = options_of(given)
     try:
-        stopping = looking.Stopping()
         limits = traces.Limits(options.limit_writes, options.limit_bytes, options.limit_pages)
-        if options.segment:
-            return record_series(options, limits, stopping)
-        with traces.Writer(options.output, limits) as writer:
-            return record(options, writer, stopping)
+        with printed.silent(options.json) as told:
+            return recorded(options, limits, told)
     except WordsRefused as fault:
         version.complain("record", fault)
         return 2
-    except (OSError, ValueError, MemoryError, Unavailable, traces.Full, memory.Gone, qmp.Fault, series.Busy) as fault:
+    except (OSError, ValueError, MemoryError, Unavailable, traces.Full, traces.Busy, memory.Gone, qmp.Fault) as fault:
         version.complain("record", cause_of(fault))
         return 1
 

@@ -4,7 +4,7 @@ import os
 import time
 
 from precopy_tools.formats import samples, traces
-from precopy_tools.record import mappings, page_values, pagemap
+from precopy_tools.record import mappings, page_values, pagemap, watching
 from precopy_tools.record.memory import PAGE
 from precopy_tools.record.ticks import FIRST, spread
 
@@ -79,12 +79,14 @@ class SampleRecorder:
         self.first_nonzero, self.is_later = 0, False
         self.unwritten, self.carried = [], []
         self.looked_at = time.monotonic()
+        self.watch = watching.Watch(guest.process, options.qmp, options.domain)
         self._begin(writer)
 
     def _begin(self, writer):
         self.writer, self.numbers, self.times = writer, {}, []
         self.samples = self.last = self.late = 0
-        self.taken_at = samples.now()
+        self.taken_at, self.still, self.ran = samples.now(), "", None
+        self.watch.begin_anew()
 
     def begin_anew(self, writer):
         """Goes on in another trace, without losing a write. Returns when the last look was, where that one begins."""
@@ -151,6 +153,12 @@ class SampleRecorder:
         """Pages as (number in the trace, how many, place in the source)."""
         return ((number, 1, self.guest.places[page]) for page, number in self.numbers.items())
 
+    def ran_share(self):
+        """The share of the time for which the guest ran, if it is known; `still` says what is to be said of it."""
+        share = self.watch.share()
+        self.still, self.ran = self.watch.told(share), None if share is None else round(share, 6)
+        return self.ran
+
     def sample(self, text):
         """What is written beside the trace, whose bytes are `text`."""
         return samples.Sample(
@@ -173,7 +181,9 @@ class SampleRecorder:
             late=self.late,
             taken_at=self.taken_at,
             taken_of=self.guest.of,
+            ran_share=self.ran_share() if text else None,
         )
 
     def close(self):
+        self.watch.end()
         self.tracker.close()

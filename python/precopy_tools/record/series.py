@@ -6,7 +6,6 @@ segments is in the later one. A recorder that is killed loses the segment that i
 
 import contextlib
 import datetime
-import fcntl
 import math
 import os
 import re
@@ -20,10 +19,6 @@ from precopy_tools.record import looking, memory, sources
 LIGHT = ".light.pcwt"
 STAMP = "%Y%m%dT%H%M%SZ"
 SECOND = datetime.timedelta(seconds=1)
-
-
-class Busy(Exception):
-    """Another recorder writes this series."""
 
 
 class Series:
@@ -47,11 +42,15 @@ class Series:
         """Its traces, the earliest first."""
         return [path for path in map(self.path, self.stamps()) if os.path.exists(path)]
 
-    def next_path(self) -> str:
-        """A name that no segment has. Two segments never begin in the same second."""
+    def path_for_now(self) -> str:
+        """The name of a segment that begins now, for its unfinished file."""
+        return self.path(datetime.datetime.now(datetime.timezone.utc).strftime(STAMP))
+
+    def path_for(self, begun: str) -> str:
+        """A name that no segment has, for one that began then. Two segments never begin in the same second."""
         known = set(self.stamps())
-        now = datetime.datetime.now(datetime.timezone.utc).replace(tzinfo=None, microsecond=0)
-        self.last = max(now, self.last + SECOND)
+        moment = datetime.datetime.fromisoformat(begun).astimezone(datetime.timezone.utc)
+        self.last = max(moment.replace(tzinfo=None, microsecond=0), self.last + SECOND)
         while self.last.strftime(STAMP) in known:
             self.last += SECOND
         return self.path(self.last.strftime(STAMP))
@@ -68,13 +67,20 @@ class Series:
         """Removes the unfinished files of recorders that were killed, and returns how many there were."""
         parts = [os.path.join(self.folder, name) for name in os.listdir(self.folder) if self.part.fullmatch(name)]
         for path in parts:
-            with contextlib.suppress(FileNotFoundError), open(path, "rb") as file:
-                try:
-                    fcntl.flock(file, fcntl.LOCK_EX | fcntl.LOCK_NB)
-                except BlockingIOError as fault:
-                    raise Busy(f"another recorder writes this series: {path}") from fault
+            if traces.is_locked(path):
+                raise traces.Busy(f"another recorder writes this series: {path}")
+            with contextlib.suppress(FileNotFoundError):
                 os.unlink(path)
         return len(parts)
+
+
+def named(words: list[str]) -> list[str]:
+    """The traces of some words: a file by its name, and the segments of a series by that of the series."""
+    found = []
+    for word in words:
+        is_series = not os.path.exists(word) and os.path.isdir(os.path.dirname(os.path.abspath(word)))
+        found += (Series(word).paths() if is_series else []) or [word]
+    return found
 
 
 def told(path: str, recorder, seconds: float, ended_by) -> str:
@@ -82,7 +88,8 @@ def told(path: str, recorder, seconds: float, ended_by) -> str:
     writes = f"{recorder.writer.writes:,} writes in {time_text(micros_of(seconds))}"
     looks = f"{recorder.samples} looks, {recorder.late} late"
     early = f"; ended early: {traces.told(ended_by)}" if ended_by is not None else ""
-    return f"segment {os.path.basename(path)}: {writes}, {looks}{early}"
+    still = f"; {recorder.still}" if recorder.still else ""
+    return f"segment {os.path.basename(path)}: {writes}, {looks}{early}{still}"
 
 
 class Recording:
@@ -109,9 +116,11 @@ class Recording:
 
     def segment(self):
         """Records one segment. Returns why it ended before its time, or None."""
-        path = self.series.next_path()
-        with traces.Writer(path, self.limits) as writer, samples.Beside(path) as beside:
+        hidden = self.series.path_for_now()
+        with traces.Writer(hidden, self.limits) as writer, samples.Beside(hidden) as beside:
             begun = self._begin(writer)
+            path = writer.path = self.series.path_for(self.recorder.taken_at)
+            beside.path = samples.path_beside(path)
             until = min(self.end, begun + self.options.segment)
             _, ended_by = looking.go_on(self.recorder, self.options, self.stopping, begun, until)
             text = writer.seal(memory.SHIFT, self.recorder.pages())
@@ -121,6 +130,7 @@ class Recording:
         self.count += 1
         looking.hide()
         print(told(path, self.recorder, self.recorder.looked_at - begun, ended_by), flush=True)
+        self.tell(self.recorder, path, ended_by)
         self.series.prune()
         self._follow_changes()
         return ended_by

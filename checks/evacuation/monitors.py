@@ -1,0 +1,133 @@
+"""Stand-ins for QEMU's monitor and for virsh, for checks/evacuation: guests that move in a known time, or do not."""
+
+import contextlib
+import json
+import os
+import shlex
+import socket
+import stat
+import threading
+import time
+from typing import NamedTuple
+
+VIRSH = """\
+#!/bin/sh
+[ "$1" = --quiet ] && shift
+words=$* command=$1
+while [ $# -gt 0 ]; do
+    [ "$1" = --domain ] && domain=$2
+    shift
+done
+tell() {{ echo "$(date +%s.%N) $1 $domain" >> {log}; }}
+case $command in
+domstate) echo running ;;
+domjobinfo)
+    case $words in
+    *--completed*) printf 'Data processed:   12.000 MiB\\nTotal downtime:   7            ms\\n' ;;
+    *) echo 'Job type:         None' ;;
+    esac ;;
+migrate)
+    tell begins
+    sleep {seconds}
+    case " {failing} " in
+    *" $domain "*) tell fails; echo 'error: operation failed: no such host' >&2; exit 1 ;;
+    esac
+    tell ends ;;
+*) tell "$words" ;;
+esac
+"""
+
+
+class Event(NamedTuple):
+    """What a stand-in was told, and when."""
+
+    time: float
+    guest: str
+    what: str
+
+
+class Monitor(threading.Thread):
+    """A guest of QEMU: it takes so many seconds to move, or fails then. `state` is what query-status tells."""
+
+    def __init__(self, folder: str, name: str, log: list[Event], seconds: float = 0.5, **how):
+        super().__init__(daemon=True)
+        self.path, self.name_of_guest, self.log, self.seconds = os.path.join(folder, f"{name}.qmp"), name, log, seconds
+        self.fails, self.state, self.migration = how.get("fails"), how.get("state", "running"), how.get("migration")
+        self.begun, self.asked = 0.0, []
+        self.server = socket.socket(socket.AF_UNIX)
+        self.server.bind(self.path)
+        self.server.listen()
+        self.start()
+
+    def run(self) -> None:
+        while True:
+            client, _ = self.server.accept()
+            with contextlib.suppress(OSError), client, client.makefile("rw") as stream:
+                self.say(stream, {"QMP": {"version": {}}})
+                for line in stream:
+                    asked = json.loads(line)
+                    self.say(stream, {"event": "RTC_CHANGE"})
+                    self.say(stream, self.answer(asked["execute"], asked.get("arguments", {})))
+
+    @staticmethod
+    def say(stream, message: dict) -> None:
+        stream.write(json.dumps(message) + "\r\n")
+        stream.flush()
+
+    def tell(self, what: str) -> None:
+        self.log.append(Event(time.time(), self.name_of_guest, what))
+
+    def answer(self, command: str, arguments: dict) -> dict:
+        if command not in ("qmp_capabilities", "query-status", "query-migrate"):
+            self.asked.append((command, arguments))
+        if command == "query-status":
+            return {"return": {"status": self.state, "running": self.state == "running"}}
+        if command == "query-migrate":
+            return {"return": self.told()}
+        if command == "migrate":
+            self.begun, self.migration = time.time(), "active"
+            self.tell("begins")
+        if command == "migrate_cancel" and self.migration == "active":
+            self.migration = "cancelled"
+            self.tell("cancelled")
+        return {"return": {}}
+
+    def told(self) -> dict:
+        """The migration as it is now."""
+        if self.migration == "active" and self.begun and time.time() - self.begun >= self.seconds:
+            self.migration = "failed" if self.fails else "completed"
+            self.state = self.state if self.fails else "postmigrate"
+            self.tell("fails" if self.fails else "ends")
+        if self.migration is None:
+            return {}
+        told = {"status": self.migration, "ram": {"transferred": 7 << 20, "remaining": 1 << 20}}
+        return {**told, **({"error-desc": self.fails} if self.migration == "failed" else {"downtime": 9})}
+
+
+def virsh_in(folder: str, seconds: float, failing: tuple[str, ...] = ()) -> tuple[dict, str]:
+    """An environment with a `virsh` whose migrations take so long, and the file of what it did."""
+    programs, log = os.path.join(folder, "programs"), os.path.join(folder, "virsh.log")
+    os.makedirs(programs, exist_ok=True)
+    path = os.path.join(programs, "virsh")
+    with open(path, "w", encoding="utf-8") as file:
+        file.write(VIRSH.format(log=shlex.quote(log), seconds=seconds, failing=" ".join(failing)))
+    os.chmod(path, stat.S_IRWXU)
+    if os.path.exists(log):
+        os.unlink(log)
+    return {**os.environ, "PATH": f"{programs}:{os.environ['PATH']}"}, log
+
+
+def events_in(path: str) -> list[Event]:
+    """What a stand-in of virsh did."""
+    with open(path, encoding="utf-8") as file:
+        rows = [line.rstrip("\n").split(" ", 2) for line in file]
+    return [Event(float(at), domain, what) for at, what, domain in rows if what in ("begins", "ends", "fails")]
+
+
+def most_at_once(events: list[Event]) -> int:
+    """How many guests were under way at once."""
+    count = most = 0
+    for event in sorted(events):
+        count += {"begins": 1, "ends": -1, "fails": -1, "cancelled": -1}[event.what]
+        most = max(most, count)
+    return most

@@ -1,0 +1,275 @@
+"""Cases of checks/recording: guests that do not run, names of records, what is told as JSON, and refusals in words."""
+
+import json
+import os
+import re
+import shutil
+import signal
+import socket
+import subprocess
+import sys
+import tempfile
+import time
+
+from checks.lib import view_texts
+from checks.recording import forecast_cases
+from checks.recording.memory_cases import Known
+from checks.recording.recorder_runs import RECORD, SECONDS, TOP, Writing, expect, read_until_recording
+from checks.recording.sample_runs import Drawn, Pages
+from precopy_tools.formats import samples
+from precopy_tools.qemu import qmp
+from precopy_tools.record import series
+
+LAYOUT = {"nodes": [["a", "private", 600], ["b", "memfd", 500]], "code": 5000}
+# A record of drawn pages, with its NAME.json.
+RECORDED = os.path.join(TOP, "examples", "guests", "sqlite.light.pcwt")
+UNIT = "precopy-record@.service"
+SYSTEMD = "/lib/systemd/systemd"
+
+
+def sample_in(path):
+    with open(samples.path_beside(path), encoding="utf-8") as file:
+        return json.load(file)
+
+
+def expect_share(drawn, least, most):
+    """The share of the time for which the guest ran, in NAME.json and in what the recorder says."""
+    drawn.expect_whole()
+    share = sample_in(drawn.trace_path)["ran_share"]
+    expect(least <= share <= most, f"{share} is not from {least} to {most}; {drawn.output!r}")
+    expect(("stood still: the guest did not run for" in drawn.output) == (share < 1), drawn.output)
+
+
+def paused_while_recorded(_, folder):
+    """A guest that its monitor calls paused does not run; predictions of its record are uncertain."""
+    with Known(folder, LAYOUT) as known:
+        drawn = Drawn(folder, ["--qmp", known.socket], ["--for", "2500ms"])
+        drawn.end()
+        expect_share(drawn, 1, 1)
+        drawn = Drawn(folder, ["--qmp", known.socket], ["--for", "6s"])
+        time.sleep(1.5)
+        known.ask("stop")
+        drawn.end()
+    expect_share(drawn, 0.05, 0.95)
+    words = [drawn.trace_path, "--link", "64MiB"]
+    told, _ = forecast_cases.run_predict(*words, status=4)
+    expect(re.search(r"^uncertain: the guest stood still for \d+\.\d per cent of the recording", told, re.M), told)
+    told, _ = forecast_cases.run_predict(*words, "--json", status=4)
+    expect(json.loads(told)["certain"] is False, told)
+
+
+def stopped_while_recorded(_, folder):
+    """A process that a signal has stopped does not run; one that goes on does."""
+    with Pages("private") as pages:
+        drawn = Drawn(folder, pages.source, ["--for", "6s"])
+        time.sleep(1.5)
+        pages.process.send_signal(signal.SIGSTOP)
+        drawn.end()
+        pages.process.send_signal(signal.SIGCONT)
+    expect_share(drawn, 0.05, 0.95)
+
+
+def segments_that_stood_still(_, folder):
+    """Each segment has the share of its own time."""
+    path = os.path.join(folder, "guest.light.pcwt")
+    with Known(folder, LAYOUT) as known:
+        command = [RECORD, "--qmp", known.socket, "--every", "50ms", "--segment", "3s", "--for", "9s", path]
+        process = subprocess.Popen(command, stdout=subprocess.PIPE, stderr=subprocess.PIPE, text=True)
+        read_until_recording(process.stdout)
+        known.ask("stop")
+        time.sleep(3.2)
+        known.ask("cont")
+        text, faults = process.communicate(timeout=4 * SECONDS)
+    shares = [sample_in(each)["ran_share"] for each in series.Series(path).paths()]
+    expect(process.returncode == 0 and len(shares) >= 3, f"{process.returncode}, {faults}, {shares}")
+    expect(shares[0] < 0.8 and shares[2] == 1 and text.count("stood still") >= 1, f"{shares}, {text}")
+
+
+def light_names_draw(_, folder):
+    """A guest that fits a trace is recorded by drawn pages, if the name is that of a light trace."""
+    with Known(folder, LAYOUT) as known:
+        drawn = Drawn(folder, ["--qmp", known.socket], ["--for", "300ms"])
+        drawn.end()
+    _, _, sample = drawn.expect_whole()
+    expect(sample.guest_pages == sample.sampled_pages == 1100, f"{sample}")
+
+
+def one_recorder_a_name(program, folder):
+    """Of two recorders with one OUTPUT the second is refused, and the first goes on."""
+    path = os.path.join(folder, "guest.pcwt")
+    with Writing(folder, False) as writing:
+        command = [RECORD, *writing.source, "--every", "50ms", "--for", "3s", path]
+        first = subprocess.Popen(command, stdout=subprocess.PIPE, stderr=subprocess.PIPE, text=True)
+        read_until_recording(first.stdout)
+        second = subprocess.run(command, capture_output=True, text=True, timeout=2 * SECONDS)
+        expect(second.returncode == 1 and f"another process writes {path}" in second.stderr, f"{second}")
+        _, faults = first.communicate(timeout=2 * SECONDS)
+    expect(first.returncode == 0 and not faults and os.listdir(folder).count("guest.pcwt") == 1, faults)
+
+
+def named_by_their_begin(_, folder):
+    """A segment has the name of when it began, and not of when the recorder did."""
+    with Pages("private") as pages:
+        words = ["--segment", "60s", "--for", "1s"]
+        Drawn(folder, pages.source, words[2:], cause="slow_count").end()
+        stand_in = [
+            sys.executable,
+            "-B",
+            "-m",
+            "checks.recording.stand_in",
+            "slow_count",
+            "precopy_tools.record.command",
+        ]
+        path = os.path.join(folder, "slow.light.pcwt")
+        done = subprocess.run([*stand_in, *pages.source, *words, path], capture_output=True, text=True, timeout=60)
+    expect(done.returncode == 0, f"{done}")
+    (found,) = series.Series(path).paths()
+    taken = re.sub(r"[-:]|\+00:00", "", sample_in(found)["taken_at"])
+    expect(os.path.basename(found) == f"slow.{taken}Z.light.pcwt", f"{found} began at {taken}")
+
+
+def unit_in(folder):
+    shutil.copy(os.path.join(TOP, "packaging", UNIT), folder)
+    os.chmod(folder, 0o755)
+
+
+def expanded(folder, instance):
+    """The command of the service and its file of options, as systemd's own test shows them for an instance."""
+    name = UNIT.replace("@", f"@{instance}")
+    environment = {**os.environ, "SYSTEMD_UNIT_PATH": f"{folder}:/lib/systemd/system", "XDG_RUNTIME_DIR": folder}
+    command = [SYSTEMD, "--test", "--system", "--no-pager", f"--unit={name}"]
+    user = {"user": 65534, "group": 65534, "extra_groups": []} if os.geteuid() == 0 else {}
+    done = subprocess.run(command, env=environment, capture_output=True, text=True, timeout=60, **user)
+    found = re.search(r"Command Line: (\S*precopy-record .*)$", done.stdout, re.M)
+    return found[1] if found else f"status {done.returncode}, {done.stderr[-300:]}"
+
+
+def services_with_dashes(_, folder):
+    """The service of a guest with a dash, or with other letters, records this guest, into a file of its name."""
+    if not shutil.which("systemd-escape") or not os.access(SYSTEMD, os.X_OK):
+        print("  there is no systemd: the expansion of the unit is not tried", flush=True)
+        return
+    with tempfile.TemporaryDirectory() as units:
+        unit_in(units)
+        for name in ("db-a", "web", "a b", "x--y-", "db\\x2da", "ä.1"):
+            escaped = subprocess.run(["systemd-escape", name], capture_output=True, text=True, check=True)
+            told = expanded(units, escaped.stdout.strip())
+            plain = re.sub(r"\\(.)", r"\1", told.replace('"', ""))
+            wanted = f"--domain={name} --segment 10m --keep 144 $OPTIONS /var/lib/precopy/{name}.light.pcwt"
+            expect(plain.endswith(wanted), f"{name}: {told}")
+
+
+def words_too_little(_, folder):
+    """Nothing is told as nothing, and a start after the end says how long the recording is."""
+    for words, said in (
+        (["--link", "64MiB", "--downtime", "0s"], "'0s' is too little: 1us is the least"),
+        (["--link", "0Gbit"], "'0Gbit' is too little: 1 byte a second is the least"),
+        (["--link", "5"], "'5': a number and its unit"),
+    ):
+        _, faults = forecast_cases.run_predict(RECORDED, *words, status=2)
+        expect(said in faults, f"{words}: {faults!r}")
+    _, faults = forecast_cases.run_predict(RECORDED, "--link", "64MiB", "--start", "1h", status=1)
+    length = sample_in(RECORDED)
+    seconds = (length["last_tick"] - length["first_tick"]) / 1000
+    expect(f"--start 3600.000 s is after the end of the recording, which has {seconds:.3f} s" in faults, faults)
+
+
+def records_elsewhere(_, folder):
+    """NAME.json may have another place: the answers are those of one that is beside the trace."""
+    trace, beside = os.path.join(folder, "other.light.pcwt"), os.path.join(folder, "x.json")
+    shutil.copy(RECORDED, trace)
+    shutil.copy(samples.path_beside(RECORDED), beside)
+    link = ["--link", "64MiB", "--downtime", "300ms"]
+    for words in ([], ["--when"]):
+        wanted, _ = forecast_cases.run_predict(RECORDED, *link, *words)
+        found, _ = forecast_cases.run_predict(trace, *link, *words, "--record", beside)
+        expect(found == wanted, f"{words}: {found!r} in place of {wanted!r}")
+    forecast_cases.run_predict(trace, *link, status=1)
+    _, faults = forecast_cases.run_predict(trace, trace, *link, "--record", beside, status=2)
+    expect("--record and --when are of one trace" in faults, faults)
+
+
+def silent_monitors(_, folder):
+    """A QEMU that does not answer is told apart from one whose monitor somebody else has."""
+    with Known(folder, LAYOUT) as known:
+        client = qmp.Client(known.socket)
+        told = fault_of(known.socket)
+        expect("another one has this socket" in told, told)
+        client.socket.close()
+    path = os.path.join(folder, "silent")
+    with socket.socket(socket.AF_UNIX) as server:
+        server.bind(path)
+        server.listen()
+        told = fault_of(path)
+    expect(f"process {os.getpid()}, does not answer; is it stopped?" in told, told)
+
+
+def fault_of(path):
+    try:
+        qmp.Client(path, 0.5)
+    except qmp.Fault as fault:
+        return str(fault)
+    raise AssertionError(f"{path} answers")
+
+
+def schema_of_records(_, folder):
+    """The published schema of NAME.json takes what the reader takes, and refuses what it refuses field by field."""
+    with open(os.path.join(TOP, "docs", "record.schema.json"), encoding="utf-8") as file:
+        schema = json.load(file)
+    fields = {**sample_in(RECORDED), "ran_share": 0.5}
+    expect(list(schema["properties"]) == list(samples.FIELDS), f"{list(schema['properties'])}")
+    expect(set(schema["required"]) == set(samples.FIELDS) - samples.OPTIONAL, f"{schema['required']}")
+    if view_texts.jsonschema is None:
+        print("  there is no jsonschema: values are not compared with the schema", flush=True)
+        return
+    check = view_texts.jsonschema.Draft202012Validator(schema)
+    expect(check.is_valid(fields), "a record is refused")
+    for name in fields:
+        for value in (None, [], {}, True, "", "x", "x" * 64, -1, 0, 1, 1.5, 2.5, 1 << 53, 1 << 60, 1e9):
+            holds = samples.FIELDS[name][1](value)
+            found = check.is_valid({**fields, name: value})
+            # The schema knows texts, and not which of them is a moment; and for it 1.0 is a whole number.
+            is_other = name == "taken_at" and isinstance(value, str) and value or value == 1e9
+            expect(found == holds or is_other, f"{name}: {value!r} is {found} by the schema, {holds} by the reader")
+
+
+def told_as_json(_, folder):
+    """Each tool with --json prints documents, a line for each, and nothing else."""
+    text, trace, again = (os.path.join(folder, name) for name in ("a.text", "a.pcwt", "b.pcwt"))
+    with open(text, "w", encoding="ascii") as file:
+        file.write("pages 4 size 16\n0 0 0 01\n5 1 15 02\n9000 1 0 03\n")
+    thin = os.path.join(folder, "thin.light.pcwt")
+    with Pages("private") as pages:
+        drawn = os.path.join(folder, "guest.light.pcwt")
+        recorded = ["record", *pages.source, "--for", "500ms", "--json", drawn]
+        rows = [
+            (recorded, "precopy recording 1", {"trace": drawn, "guest_pages": pages.pages, "ran_share": 1.0}),
+            (["import", "--json", text, trace], "precopy imported 1", {"pages": 4, "page_bytes": 16, "writes": 3}),
+            (["export", "--json", trace, text], "precopy exported 1", {"pages": 4, "version": 1, "writes": 3}),
+            (["release", "--after", "50", "--json", trace, again], "precopy releases 1", {"releases": 2, "pages": 2}),
+            (["thin", "--one-in", "2", "--json", drawn, thin], "precopy thinned 1", {"trace": thin, "of": drawn}),
+        ]
+        for (tool, *words), name, wanted in rows:
+            command = [os.path.join(TOP, "tools", tool), *words]
+            done = subprocess.run(command, capture_output=True, text=True, timeout=4 * SECONDS)
+            expect(done.returncode == 0 and done.stdout.count("\n") == 1 and not done.stderr, f"{tool}: {done}")
+            told = json.loads(done.stdout)
+            expect(told["format"] == name and wanted.items() <= told.items(), f"{tool}: {told}")
+    told, _ = forecast_cases.run_predict(thin, "--link", "64MiB", "--json", status=None)
+    expect(json.loads(told)["record"]["trace_pages"] > 0, told)
+
+
+CASES = [
+    paused_while_recorded,
+    stopped_while_recorded,
+    segments_that_stood_still,
+    light_names_draw,
+    one_recorder_a_name,
+    named_by_their_begin,
+    services_with_dashes,
+    words_too_little,
+    records_elsewhere,
+    silent_monitors,
+    schema_of_records,
+    told_as_json,
+]

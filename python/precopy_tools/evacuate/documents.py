@@ -1,0 +1,71 @@
+"""What tools/evacuate answers as JSON, as docs/evacuation.schema.json has it."""
+
+from precopy_tools.evacuate.costs import Cost, Guest
+from precopy_tools.evacuate.schedules import Answer, Limits, Placed, Schedule
+from precopy_tools.evacuate.texts import misses
+
+FORMAT = "precopy evacuation 1"
+Refusal = tuple[str, str]  # a file, and why it is refused
+
+
+def cost_document(cost: Cost) -> dict:
+    return {
+        "at_once": cost.at_once,
+        "link_bytes_per_second": cost.share,
+        "time_seconds": cost.time / 1e6,
+        "least_time_seconds": cost.least / 1e6,
+        "most_time_seconds": cost.most / 1e6,
+        "sent_bytes": cost.sent,
+        "down_seconds": cost.downtime / 1e6,
+        "converges": cost.converges,
+        "kept": cost.kept,
+        "missed": cost.why,
+    }
+
+
+def schedule_document(schedule: Schedule, deadline: float | None) -> dict:
+    return {
+        "at_once": schedule.at_once,
+        "order": schedule.order,
+        "time_seconds": schedule.time / 1e6,
+        "sent_bytes": schedule.sent,
+        "down_seconds": schedule.downtime / 1e6,
+        "kept": schedule.kept,
+        "limits": misses(schedule, deadline),
+        "guests": [guest.name for guest in schedule.guests],
+    }
+
+
+def move_document(move: Placed) -> dict:
+    return {
+        "guest": move.guest.name,
+        "start_seconds": move.start / 1e6,
+        "end_seconds": move.end / 1e6,
+        "slot": move.slot,
+    }
+
+
+def document(limits: Limits, guests: list[Guest], answer: Answer, refused: list[Refusal]) -> dict:
+    """All answers."""
+    deadline = limits.deadline
+    return {
+        "format": FORMAT,
+        "link_bytes_per_second": limits.link,
+        "downtime_seconds": limits.downtime,
+        **({"deadline_seconds": deadline} if deadline else {}),
+        "guests": [
+            {
+                "name": guest.name,
+                "record": guest.record,
+                "downtime_seconds": guest.limits.downtime,
+                "costs": [cost_document(cost) for cost in guest.costs.values()],
+            }
+            for guest in guests
+        ],
+        "schedules": [schedule_document(each, deadline) for each in answer.schedules],
+        "best": {
+            "schedule": answer.schedules.index(answer.best),
+            "moves": [move_document(each) for each in answer.moves],
+        },
+        "refused": [{"record": path, "why": why} for path, why in refused],
+    }

@@ -1,0 +1,193 @@
+"""How one guest is moved and watched: by QEMU's monitor, or by virsh. No mover touches what it did not begin."""
+
+import re
+import subprocess
+import tempfile
+from typing import NamedTuple
+
+from precopy_tools.evacuate.lines import Step, mebibytes, milliseconds, qmp_commands
+from precopy_tools.evacuate.ways import Way
+from precopy_tools.qemu import qmp
+from precopy_tools.record import domains
+
+SECONDS, SECONDS_TO_ANSWER = 10, 3
+# Looks in a row that may stay without an answer.
+MOST_SILENT = 10
+# A guest in one of these states may move, and in one of those no other migration of it is under way.
+MOVABLE, IDLE = ("running", "paused", "suspended"), ("none", "completed", "failed", "cancelled")
+UNITS = {"B": 1, "KiB": 1 << 10, "MiB": 1 << 20, "GiB": 1 << 30, "TiB": 1 << 40}
+JOB_LINE = re.compile(r"^([A-Z][a-z ]+): +(\S+)(?: (\S+))?$", re.M)
+
+
+class Look(NamedTuple):
+    """What is seen of a migration: `state` is moving, moved, failed, cancelled or lost; bytes sent and left, the
+    downtime in microseconds if it is told, and why it did not move."""
+
+    state: str
+    sent: int = 0
+    left: int = 0
+    downtime: int | None = None
+    why: str = ""
+
+
+class QmpMover:
+    """A guest of QEMU by its monitor."""
+
+    def __init__(self, step: Step, way: Way):
+        self.move, self.way, self.client = step.move, way, None
+        self.is_told, self.silent, self.last = False, 0, Look("moving")
+
+    def why_not(self) -> str:
+        """Why this guest must not be touched; nothing if it may."""
+        try:
+            with qmp.Client(self.way.monitor, SECONDS) as client:
+                status, told = client.ask("query-status"), client.ask("query-migrate")
+        except qmp.Fault as fault:
+            return str(fault)
+        if status.get("status") not in MOVABLE:
+            return f"{self.way.monitor}: the guest does not run here: its state is {status.get('status')}"
+        if told.get("status", "none") not in IDLE:
+            return f"{self.way.monitor}: it moves already: its migration is {told['status']}"
+        return ""
+
+    def begin(self) -> None:
+        """Begins, or raises a Fault."""
+        if why := self.why_not():
+            raise qmp.Fault(why)
+        self.client = qmp.Client(self.way.monitor, SECONDS)
+        self.client.ask("migrate-set-capabilities", capabilities=[{"capability": "events", "state": True}])
+        for command in qmp_commands(self.move, self.way.to)[1:]:
+            self.client.ask(command["execute"], **command["arguments"])
+
+    def look(self) -> Look:
+        """How far it is. A monitor that answers no more is asked again for a while."""
+        try:
+            self.client = self.client or qmp.Client(self.way.monitor, SECONDS_TO_ANSWER)
+            self.last, self.silent = self._seen(self.client.ask("query-migrate")), 0
+        except qmp.Fault as fault:
+            self._close()
+            self.silent += 1
+            if self.silent > MOST_SILENT:
+                self.last = self.last._replace(state="lost", why=str(fault))
+        return self.last
+
+    def _seen(self, told: dict) -> Look:
+        status, ram = told.get("status", "none"), told.get("ram", {})
+        state = {"completed": "moved", "failed": "failed", "cancelled": "cancelled", "none": "failed"}.get(status)
+        why = told.get("error-desc", "QEMU says no cause") if state == "failed" else ""
+        downtime = 1000 * told["downtime"] if "downtime" in told else None
+        sent = ram.get("transferred", self.last.sent)
+        return Look(state or "moving", sent, ram.get("remaining", 0), downtime, why)
+
+    def cancel(self) -> None:
+        """Tells it once to stay. A monitor that does not answer is told with the next look."""
+        if not self.is_told and self.client:
+            try:
+                self.client.ask("migrate_cancel")
+                self.is_told = True
+            except qmp.Fault:
+                self._close()
+
+    def whereabouts(self) -> str:
+        """Where a guest is that has not moved."""
+        self._close()
+        try:
+            with qmp.Client(self.way.monitor, SECONDS_TO_ANSWER) as client:
+                status = client.ask("query-status").get("status")
+        except qmp.Fault as fault:
+            return f"nothing is known of it ({fault}): look at both hosts"
+        return "it runs here" if status == "running" else f"it is here, and its state is {status}"
+
+    def _close(self) -> None:
+        if self.client:
+            self.client.socket.close()
+        self.client = None
+
+    def end(self) -> None:
+        self._close()
+
+
+def sizes_of(text: str) -> dict[str, int]:
+    """The bytes and milliseconds that `virsh domjobinfo` tells."""
+    found = {}
+    for name, number, unit in JOB_LINE.findall(text):
+        if re.fullmatch(r"[\d.]+", number):
+            found[name] = round(float(number) * UNITS.get(unit, 1))
+    return found
+
+
+class VirshMover:
+    """A guest of libvirt by a process of virsh, in a session of its own: Ctrl-C is for this program."""
+
+    def __init__(self, step: Step, way: Way):
+        limits = step.move.guest.limits
+        self.move, self.way, self.process = step.move, way, None
+        self.domain = limits.domain or step.move.guest.name
+        self.errors, self.is_told, self.last = tempfile.TemporaryFile(), False, Look("moving")
+
+    def why_not(self) -> str:
+        try:
+            state = domains.virsh("domstate", "--domain", self.domain).strip()
+            job = domains.virsh("domjobinfo", "--domain", self.domain)
+        except qmp.Fault as fault:
+            return str(fault)
+        if state not in MOVABLE:
+            return f"domain {self.domain} does not run here: its state is {state}"
+        kind = re.search(r"^Job type: +(.+?) *$", job, re.M)
+        return "" if kind and kind[1] == "None" else f"domain {self.domain} has a job already"
+
+    def begin(self) -> None:
+        if why := self.why_not():
+            raise qmp.Fault(why)
+        downtime, speed = milliseconds(self.move.guest.limits.downtime), mebibytes(self.move.cost.share)
+        domains.virsh("migrate-setmaxdowntime", "--domain", self.domain, "--downtime", str(downtime))
+        command = ["virsh", "--quiet", "migrate", "--live", "--bandwidth", str(speed), "--domain", self.domain]
+        how = {"stdin": subprocess.DEVNULL, "stdout": subprocess.DEVNULL, "stderr": self.errors}
+        self.process = subprocess.Popen([*command, "--desturi", self.way.to], start_new_session=True, **how)
+
+    def look(self) -> Look:
+        is_over = self.process.poll() is not None
+        self.last = self._seen(["--completed"] if is_over else [])
+        if is_over and self.process.returncode:
+            state = "cancelled" if self.is_told else "failed"
+            self.last = self.last._replace(state=state, why="" if self.is_told else self._complaint())
+        elif is_over:
+            self.last = self.last._replace(state="moved")
+        return self.last
+
+    def _complaint(self) -> str:
+        self.errors.seek(0)
+        said = self.errors.read().decode(errors="replace").strip().removeprefix("error: ")
+        return said.replace("\n", " ") or f"virsh ended with status {self.process.returncode}"
+
+    def _seen(self, words: list[str]) -> Look:
+        """What libvirt tells of the job; what was seen last if it tells nothing."""
+        try:
+            told = sizes_of(domains.virsh("domjobinfo", "--domain", self.domain, *words))
+        except qmp.Fault:
+            return self.last
+        sent = told.get("Memory processed", told.get("Data processed", self.last.sent))
+        left = 0 if words else told.get("Memory remaining", told.get("Data remaining", self.last.left))
+        downtime = 1000 * told["Total downtime"] if "Total downtime" in told else None
+        return Look("moving", sent, left, downtime)
+
+    def cancel(self) -> None:
+        if not self.is_told and self.process.poll() is None:
+            try:
+                domains.virsh("domjobabort", "--domain", self.domain)
+                self.is_told = True
+            except qmp.Fault:
+                pass
+
+    def whereabouts(self) -> str:
+        try:
+            state = domains.virsh("domstate", "--domain", self.domain).strip()
+        except qmp.Fault as fault:
+            return f"nothing is known of it ({fault}): look at both hosts"
+        return "it runs here" if state == "running" else f"it is here, and its state is {state}"
+
+    def end(self) -> None:
+        self.errors.close()
+
+
+MOVERS = {"qmp": QmpMover, "virsh": VirshMover}

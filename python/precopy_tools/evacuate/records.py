@@ -1,0 +1,61 @@
+"""Which record stands for each guest: a file of its own, or one of the segments of a series.
+
+A guest whose recording goes on has many segments. The last of them stands for it, unless it is less than half as long
+as the longest: a recorder that has just begun, or was ended, leaves such a one.
+"""
+
+import json
+import os
+import re
+
+from precopy_tools.formats import samples
+from precopy_tools.record import series
+
+STAMP = re.compile(r"\.\d{8}T\d{6}Z$")
+LIGHT, LEAST_PART = ".light.pcwt", 0.5
+
+
+def name_of(path: str) -> str:
+    """The guest of a record: the name of the file, without the time of a segment."""
+    return STAMP.sub("", os.path.basename(path).removesuffix(".pcwt").removesuffix(".light"))
+
+
+def is_segment(path: str) -> bool:
+    return path.endswith(LIGHT) and STAMP.search(path.removesuffix(LIGHT)) is not None
+
+
+def seconds_of(path: str) -> float:
+    """How long a segment is, as its NAME.json says; 0 if that cannot be read."""
+    try:
+        with open(samples.path_beside(path), "rb") as file:
+            fields = json.load(file)
+        return float((fields["last_tick"] - fields["first_tick"]) * fields["tick_seconds"])
+    except (OSError, ValueError, TypeError, KeyError, RecursionError):
+        return 0.0
+
+
+def last_of(paths: list[str]) -> str:
+    """The segment that stands for a guest."""
+    if len(paths) == 1:
+        return paths[0]
+    in_order = sorted(paths)
+    lengths = [seconds_of(path) for path in in_order]
+    return next(
+        (path for path, length in reversed([*zip(in_order, lengths)]) if length >= LEAST_PART * max(lengths)), ""
+    )
+
+
+def chosen(given: list[str]) -> tuple[list[str], list[str]]:
+    """The records and the files of costs among some words, in their order: the name of a series is that of its
+    segments, and the segments of one series are one record. Lines say which segment stands for a guest."""
+    groups: dict[str, list[str]] = {}
+    for path in series.named(given):
+        folder = os.path.dirname(os.path.abspath(path))
+        groups.setdefault(os.path.join(folder, name_of(path)) if is_segment(path) else path, []).append(path)
+    found = [last_of(list(dict.fromkeys(paths))) for paths in groups.values()]
+    told = [
+        f"{name_of(path)}: {os.path.basename(path)} stands for {len(set(paths)):,} segments"
+        for path, paths in zip(found, groups.values())
+        if len(set(paths)) > 1
+    ]
+    return found, told

@@ -1,0 +1,215 @@
+"""Performs a schedule: begins each guest when its slot and its group are free, and watches all that move.
+
+After a failure no other guest begins, and those under way end as they do. After SIGINT or SIGTERM they are told to
+stay. All is done by one thread, which looks at each guest in turn.
+"""
+
+import argparse
+import sys
+import time
+
+from precopy_tools import version
+from precopy_tools.evacuate import movers as host_movers
+from precopy_tools.evacuate.lines import Step
+from precopy_tools.evacuate.movers import Look
+from precopy_tools.evacuate.outcome import Moved, Outcome
+from precopy_tools.evacuate.ways import Way
+from precopy_tools.qemu import qmp
+from precopy_tools.quantities import micros_of, moment_text, size_text, time_text
+from precopy_tools.record.looking import Stopping
+
+LOOK = 0.2
+# Where nobody looks at a terminal, a line for each guest comes this often.
+EVERY = 5.0
+# A guest is cancelled after so many times what was planned, and so many seconds more.
+TIMES, MORE = 3, 30.0
+# How long the rate is that is shown.
+WINDOW = 2.0
+
+
+class Unready(Exception):
+    """Nothing was begun; the text says why."""
+
+    def __init__(self, text: str, status: int = 1):
+        super().__init__(text)
+        self.status = status
+
+
+class Moving:
+    """The move of one guest: waiting, then under way, then over."""
+
+    def __init__(self, step: Step, mover, patience: float | None):
+        self.step, self.mover, self.name = step, mover, step.move.guest.name
+        self.patience = patience or TIMES * step.move.cost.time / 1e6 + MORE
+        self.seen, self.begun, self.ended = Look("waiting"), 0.0, 0.0
+        self.sent: list[tuple[float, int]] = []
+        self.is_late = False
+
+    @property
+    def is_under_way(self) -> bool:
+        return self.seen.state == "moving"
+
+    def begin(self) -> None:
+        self.begun = time.monotonic()
+        try:
+            self.mover.begin()
+            self.seen = Look("moving")
+        except qmp.Fault as fault:
+            self.seen, self.ended = Look("failed", why=str(fault)), time.monotonic()
+
+    def look(self) -> None:
+        """Looks once. What takes too long is told to stay."""
+        self.seen, now = self.mover.look(), time.monotonic()
+        recent = [each for each in self.sent if each[0] > now - WINDOW]
+        self.sent = (recent or self.sent[-1:]) + [(now, self.seen.sent)]
+        if not self.is_under_way:
+            self.ended = now
+        elif now - self.begun > self.patience:
+            self.is_late = True
+            self.mover.cancel()
+
+    def rate(self) -> int:
+        """Bytes a second, of the last seconds."""
+        (first, before), (last, after) = self.sent[0], self.sent[-1]
+        return int((after - before) / (last - first)) if last > first else 0
+
+    def line(self, begun: float) -> str:
+        """How far it is, with what was planned beside it."""
+        cost, rate = self.step.move.cost, self.rate() if self.sent else 0
+        left = f", about {time_text(1_000_000 * self.seen.left // rate // 1000 * 1000)}" if rate > 0 else ""
+        return (
+            f"{self.name}: {moment_text(micros_of(time.monotonic() - begun) // 1000 * 1000)}, "
+            f"{size_text(self.seen.sent)} of {size_text(cost.sent)} planned, {size_text(rate)} a second, "
+            f"{size_text(self.seen.left)} left{left}; planned until {moment_text(self.step.move.end)}"
+        )
+
+    def moved(self, begun: float) -> Moved:
+        """What is told of it in the end."""
+        state, why = self.seen.state, self.seen.why
+        if state == "waiting":
+            return Moved(self.step.move, "not begun", why="no other guest began after a failure or a signal")
+        if state == "cancelled" and self.is_late:
+            why = f"it took more than {time_text(micros_of(self.patience))}, and was cancelled"
+        elif state == "cancelled":
+            why = "it was cancelled"
+        where = "" if state == "moved" else self.mover.whereabouts()
+        times = (micros_of(each - begun) for each in (self.begun, self.ended))
+        return Moved(self.step.move, state, *times, self.seen.sent, self.seen.downtime, why, where)
+
+
+class Run:
+    """All moves of a schedule."""
+
+    def __init__(self, moves: list[Moving], stopping: Stopping):
+        self.moves, self.stopping = moves, stopping
+        self.by_number = {move.step.number: move for move in moves}
+        self.begun, self.shown, self.lines = time.monotonic(), 0.0, 0
+        self.is_stopped = False
+
+    def perform(self) -> None:
+        while self._begin_due() or any(move.is_under_way for move in self.moves):
+            self.stopping.sleep(time.monotonic() + LOOK)
+            if self.stopping.by:
+                self._cancel()
+                time.sleep(LOOK)
+            for move in self.moves:
+                if move.is_under_way:
+                    move.look()
+                    self._tell_end(move)
+            self._show()
+
+    def _cancel(self) -> None:
+        """Tells all that move to stay."""
+        if not self.is_stopped:
+            self.is_stopped = True
+            self._print(f"{self.stopping.by}: no other guest begins, and those that move are told to stay")
+        for move in self.moves:
+            if move.is_under_way:
+                move.mover.cancel()
+
+    def _is_due(self, move: Moving) -> bool:
+        before = [self.by_number[number] for number in (move.step.of_slot, move.step.of_group) if number]
+        return move.seen.state == "waiting" and all(each.seen.state == "moved" for each in before)
+
+    def _begin_due(self) -> bool:
+        """Begins what is due. Returns whether something was begun."""
+        is_begun = False
+        for move in self.moves:
+            if not self.is_stopped and not self.stopping.by and self._is_due(move):
+                self._print(f"{move.name} begins")
+                move.begin()
+                self._tell_end(move)
+                is_begun = True
+        return is_begun
+
+    def _tell_end(self, move: Moving) -> None:
+        if move.is_under_way:
+            return
+        if move.seen.state == "moved":
+            self._print(f"{move.name} has moved")
+            return
+        why = f": {move.seen.why}" if move.seen.why else ""
+        self._print(f"{move.name} has not moved, {move.seen.state}{why}")
+        if not self.is_stopped:
+            self.is_stopped = True
+            self._print("no other guest begins")
+
+    def _print(self, line: str) -> None:
+        self._erase()
+        print(line, flush=True)
+
+    def _erase(self) -> None:
+        if self.lines:
+            print(f"\033[{self.lines}A\033[J", end="")
+            self.lines = 0
+
+    def _show(self) -> None:
+        """A line for each guest under way: always the newest on a terminal, and else some of them."""
+        is_terminal, now = sys.stdout.isatty(), time.monotonic()
+        if not is_terminal and now - self.shown < EVERY:
+            return
+        self.shown = now
+        self._erase()
+        lines = [move.line(self.begun) for move in self.moves if move.is_under_way]
+        print("".join(f"{line}\n" for line in lines), end="", flush=True)
+        self.lines = len(lines) if is_terminal else 0
+
+    def outcome(self) -> Outcome:
+        return Outcome([move.moved(self.begun) for move in self.moves], micros_of(time.monotonic() - self.begun))
+
+
+def expect_ready(options: argparse.Namespace, steps: list[Step], ways: dict[str, Way], status: int) -> None:
+    """Everything that a run needs is there, and no guest moves already; or Unready, and nothing was begun."""
+    if status and not options.force:
+        raise Unready("the schedule is not sure to keep all limits, or lacks guests: --force performs it", status)
+    for step in steps:
+        name, way = step.move.guest.name, ways[step.move.guest.name]
+        if not way.to:
+            raise Unready(f"{name} has no destination: --to, or `to` in the settings", 2)
+        if options.lines == "qmp" and not way.monitor:
+            raise Unready(f"{name} has no monitor: --monitor, or `monitor` in the settings", 2)
+    found = []
+    for step in steps:
+        mover = host_movers.MOVERS[options.lines](step, ways[step.move.guest.name])
+        if why := mover.why_not():
+            found.append(f"{step.move.guest.name}: {why}")
+        mover.end()
+    if found:
+        raise Unready("\n".join(["nothing was begun", *found]))
+
+
+def performed(options: argparse.Namespace, steps: list[Step], ways: dict[str, Way]) -> Outcome:
+    """Performs the schedule, and prints what was beside what was planned."""
+    kind = host_movers.MOVERS[options.lines]
+    moves = [Moving(step, kind(step, ways[step.move.guest.name]), options.patience) for step in steps]
+    run = Run(moves, Stopping())
+    try:
+        run.perform()
+        outcome = run.outcome()
+    finally:
+        for move in moves:
+            move.mover.end()
+    print("\n".join(["", *outcome.lines()]), flush=True)
+    for line in outcome.faults():
+        version.complain("evacuate", line)
+    return outcome

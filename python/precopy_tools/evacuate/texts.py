@@ -1,0 +1,107 @@
+"""What tools/evacuate prints: a table of schedules, what is doubtful, and the best schedule."""
+
+import math
+from collections.abc import Iterable
+
+from precopy_tools.evacuate.costs import STOOD, Asked, Guest
+from precopy_tools.evacuate.schedules import Answer, Limits, Placed, Schedule
+from precopy_tools.quantities import micros_of, moment_text, size_text, time_text
+
+
+def gigabits(rate: float) -> str:
+    return f"{rate * 8 / 1e9:.3g}"
+
+
+def counted(guests: list) -> str:
+    return f"{len(guests)} guest{'s' if len(guests) > 1 else ''}"
+
+
+def some(guests: list[Guest]) -> list[str]:
+    """The names of the first three, and how many more there are."""
+    return [*(guest.name for guest in guests[:3]), *([f"{len(guests) - 3} more"] if len(guests) > 3 else [])]
+
+
+def is_late(schedule: Schedule, deadline: float | None) -> bool:
+    return deadline is not None and schedule.time > micros_of(deadline)
+
+
+def misses(schedule: Schedule, deadline: float | None) -> str:
+    """Which limits a schedule misses, and whose are not known."""
+    of_verdict: dict[bool, list[Guest]] = {False: [], True: []}
+    for guest, cost in zip(schedule.guests, schedule.costs()):
+        if not cost.kept:
+            of_verdict[cost.converges == "unknown"].append(guest)
+    missed = [*some(of_verdict[False]), *(["the deadline"] if is_late(schedule, deadline) else [])]
+    told = (("missed", missed), ("unknown", some(of_verdict[True])))
+    return "; ".join(f"{what}: {', '.join(names)}" for what, names in told if names) or "kept"
+
+
+def status_of(best: Schedule, deadline: float | None) -> int:
+    """0 if all limits are kept, 3 if one is missed, and 4 if that is not known since records are too short, or their
+    guests stood still."""
+    if best.kept:
+        return 0
+    missed = [cost for cost in best.costs() if not cost.kept and cost.converges != "unknown"]
+    return 3 if missed or is_late(best, deadline) else 4
+
+
+def doubts(guests: list[Guest], numbers: Iterable[int]) -> list[str]:
+    """For each number at once the guests that do not converge, and those whose records cannot tell."""
+    found = []
+    for at_once in numbers:
+        costs = [(guest, guest.costs[at_once]) for guest in guests]
+        unknown = [(guest, cost) for guest, cost in costs if cost.converges == "unknown"]
+        for told, doubtful in (
+            ("no convergence", [guest for guest, cost in costs if cost.converges == "no"]),
+            ("records too short", [guest for guest, cost in unknown if STOOD not in cost.why]),
+            ("recorded while standing still", [guest for guest, cost in unknown if STOOD in cost.why]),
+        ):
+            found += [f"{at_once} at once, {told}: {', '.join(some(doubtful))}"] if doubtful else []
+    return found
+
+
+def table(answer: Answer, deadline: float | None) -> list[str]:
+    """A line for each schedule."""
+    lines = [f"{'at once':>7}  {'order':<18}{'time':>13}{'sent':>13}{'downtime':>13}  limits"]
+    for each in answer.schedules:
+        mark = "  <- best" if each is answer.best else ""
+        lines.append(
+            f"{each.at_once:>7}  {each.order:<18}{time_text(each.time):>13}{size_text(each.sent):>13}"
+            f"{time_text(each.downtime):>13}  {misses(each, deadline)}{mark}"
+        )
+    return lines
+
+
+def slowed(move: Placed, asked: Asked) -> str:
+    """A note of a guest that could have more of the link than a plan of its record has."""
+    share = min(asked.link / move.cost.at_once, move.guest.limits.link or math.inf)
+    return "  the most that a plan of its record has" if move.cost.share < share else ""
+
+
+def best(answer: Answer, asked: Asked) -> list[str]:
+    """The best schedule: a line for each guest."""
+    width = max(len("guest"), *(len(move.guest.name) for move in answer.moves))
+    head = f"{'guest':<{width}}{'start':>15}{'end':>15}{'share, Gbit/s':>15}{'sent':>13}{'downtime':>13}"
+    lines = [f"best: {answer.best.at_once} at once, {answer.best.order}", f"{head}  time by start"]
+    for move in answer.moves:
+        cost = move.cost
+        note = f"  {cost.why}" if cost.why else ""
+        lines.append(
+            f"{move.guest.name:<{width}}{moment_text(move.start):>15}{moment_text(move.end):>15}"
+            f"{gigabits(cost.share):>15}{size_text(cost.sent):>13}{time_text(cost.downtime):>13}"
+            f"  {time_text(cost.least)} to {time_text(cost.most)}{note}{slowed(move, asked)}"
+        )
+    return lines
+
+
+def of_all(guests: list[Guest], answer: Answer, asked: Asked, limits: Limits) -> list[str]:
+    """All of it."""
+    within = f"; all within {time_text(micros_of(limits.deadline))}" if limits.deadline else ""
+    limit = time_text(micros_of(limits.downtime))
+    return [
+        f"{counted(guests)}; link {gigabits(limits.link)} Gbit/s; downtime limit {limit}{within}",
+        *table(answer, limits.deadline),
+        *doubts(guests, dict.fromkeys(each.at_once for each in answer.schedules)),
+        "",
+        *best(answer, asked),
+    ]
