@@ -98,12 +98,13 @@ def one_recorder_a_name(program, folder):
     """Of two recorders with one OUTPUT the second is refused, and the first goes on."""
     path = os.path.join(folder, "guest.pcwt")
     with Writing(folder, False) as writing:
-        command = [RECORD, *writing.source, "--every", "50ms", "--for", "3s", path]
+        command = [RECORD, *writing.source, "--every", "50ms", path]
         first = subprocess.Popen(command, stdout=subprocess.PIPE, stderr=subprocess.PIPE, text=True)
         read_until_recording(first.stdout)
-        second = subprocess.run(command, capture_output=True, text=True, timeout=2 * SECONDS)
+        second = subprocess.run([*command, "--for", "1s"], capture_output=True, text=True, timeout=8 * SECONDS)
         expect(second.returncode == 1 and f"another process writes {path}" in second.stderr, f"{second}")
-        _, faults = first.communicate(timeout=2 * SECONDS)
+        first.send_signal(signal.SIGINT)
+        _, faults = first.communicate(timeout=8 * SECONDS)
     expect(first.returncode == 0 and not faults and os.listdir(folder).count("guest.pcwt") == 1, faults)
 
 
@@ -251,7 +252,7 @@ def told_as_json(_, folder):
         ]
         for (tool, *words), name, wanted in rows:
             command = [os.path.join(TOP, "tools", tool), *words]
-            done = subprocess.run(command, capture_output=True, text=True, timeout=4 * SECONDS)
+            done = subprocess.run(command, capture_output=True, text=True, timeout=12 * SECONDS)
             expect(done.returncode == 0 and done.stdout.count("\n") == 1 and not done.stderr, f"{tool}: {done}")
             told = json.loads(done.stdout)
             expect(told["format"] == name and wanted.items() <= told.items(), f"{tool}: {told}")
