@@ -1,5 +1,6 @@
 """Cases of checks/recording: which memory is recorded, by asking QEMU or libvirt, by mappings, or by no words."""
 
+import itertools
 import json
 import os
 import shutil
@@ -48,9 +49,13 @@ else:
 
 
 def layout_of(draws):
-    """One to four nodes, a code buffer larger than all of them, video memory, and something to plug in."""
+    """One to four nodes, a code buffer larger than all of them, video memory, and something to plug in. No node begins
+    or ends in the hole for devices below 1 MiB, as in no machine."""
     nodes = [[f"node{number}", draws.choice(KINDS), draws.randrange(1, 800)] for number in range(draws.randrange(1, 5))]
-    pages = sum(node[2] for node in nodes)
+    ends = list(itertools.accumulate(node[2] for node in nodes))
+    if any(160 <= end <= 256 for end in ends):
+        return layout_of(draws)
+    pages = ends[-1]
     plugged = ["dimm", draws.choice(KINDS), draws.randrange(1, 500)]
     return {"nodes": nodes, "code": 2 * pages + 9, "video": draws.randrange(1, 300), "plugged": plugged}
 

@@ -11,7 +11,7 @@ import sys
 import tempfile
 import time
 
-from checks.lib import view_texts
+from checks.lib.tally import module
 from checks.recording import forecast_cases
 from checks.recording.memory_cases import Known
 from checks.recording.recorder_runs import RECORD, SECONDS, TOP, Writing, expect, read_until_recording
@@ -220,10 +220,7 @@ def schema_of_records(_, folder):
     fields = {**sample_in(RECORDED), "ran_share": 0.5}
     expect(list(schema["properties"]) == list(samples.FIELDS), f"{list(schema['properties'])}")
     expect(set(schema["required"]) == set(samples.FIELDS) - samples.OPTIONAL, f"{schema['required']}")
-    if view_texts.jsonschema is None:
-        print("  there is no jsonschema: values are not compared with the schema", flush=True)
-        return
-    check = view_texts.jsonschema.Draft202012Validator(schema)
+    check = module("jsonschema").Draft202012Validator(schema)
     expect(check.is_valid(fields), "a record is refused")
     for name in fields:
         for value in (None, [], {}, True, "", "x", "x" * 64, -1, 0, 1, 1.5, 2.5, 1 << 53, 1 << 60, 1e9):
