@@ -9,9 +9,9 @@ import time
 
 import tomllib
 
-from checks.doors import documents
+from checks.doors import documents, launchers
 from checks.lib.tally import has
-from precopy_dev.packaging import contents, launcher, options
+from precopy_dev.packaging import contents, options
 from precopy_dev.tree import TOP
 from precopy_tools import commands, version
 
@@ -87,7 +87,7 @@ def find_large_pages(tally, prefix):
                 found = file.read().decode().rstrip("\0").replace("\0", ":")
         started.kill()
         started.communicate()
-        good = runs == proper and found == f"GLIBC_TUNABLES={launcher.large_pages()}"
+        good = runs == proper and found == f"GLIBC_TUNABLES={':'.join(launchers.LARGE_PAGES)}"
         tally.add(good, f"the installed {name} runs {runs} with {found!r}")
 
 

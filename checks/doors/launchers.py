@@ -16,14 +16,16 @@ from precopy_dev.tree import TOP
 SECONDS = 60
 STARTS, MOST_MILLISECONDS = 200, 0.5
 # Parts of settings.
-PIECES = [*launcher.large_pages().split(":"), "glibc.malloc.hugetlb=0", "glibc.malloc.top_pad=1"]
+# What a launcher adds, as docs/COMMANDS.md tells it.
+LARGE_PAGES = ["glibc.malloc.hugetlb=1", "glibc.malloc.mmap_threshold=4294967296", "glibc.malloc.top_pad=67108864"]
+PIECES = [*LARGE_PAGES, "glibc.malloc.hugetlb=0", "glibc.malloc.top_pad=1"]
 PIECES += ["mine", "a=b", "x=glibc.malloc.hugetlb=1", "glibc.malloc.hugetlb", "glibc.malloc.hugetlb2=1", "", "="]
 
 
 def joined(mine):
     """What becomes of the user's setting."""
     names = {part.split("=")[0] for part in mine.split(":") if "=" in part}
-    more = [part for part in launcher.large_pages().split(":") if part.split("=")[0] not in names]
+    more = [part for part in LARGE_PAGES if part.split("=")[0] not in names]
     return ":".join([mine, *more]) if mine else ""
 
 
@@ -31,7 +33,7 @@ def joined_settings():
     """Settings of users, and what becomes of each."""
     chosen = draws("settings of users")
     drawn = [":".join(chosen.choices(PIECES, k=chosen.randint(1, 4))) for _ in range(20)]
-    return [(mine, joined(mine)) for mine in ["", "mine", "glibc.malloc.hugetlb=0", launcher.large_pages(), *drawn]]
+    return [(mine, joined(mine)) for mine in ["", "mine", "glibc.malloc.hugetlb=0", ":".join(LARGE_PAGES), *drawn]]
 
 
 class Installed:

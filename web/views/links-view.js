@@ -48,7 +48,8 @@ export class LinksView {
       this.prediction = prediction;
       this.points = linkPoints(prediction, sizes);
     }
-    byId("links").classList.toggle("stale", !prediction);
+    this.isStale = !prediction;
+    byId("links").classList.toggle("stale", this.isStale);
   }
 
   questions() {
@@ -58,11 +59,13 @@ export class LinksView {
   /** Draws the curves once all answers are there; until then the last ones stay, grey. */
   draw(answerTo) {
     const answers = this.points.map(({ question }) => (question ? answerTo(question) : null));
-    const isAwaited = answers.includes(undefined);
+    const isMissing = answers.includes(undefined);
+    // Of settings without a plan nothing is asked.
+    const isAwaited = isMissing && !this.isStale;
     byId("links").setAttribute("aria-busy", String(isAwaited));
     byId("links").classList.toggle("old", isAwaited);
     const key = JSON.stringify([widthOf(this.plot), this.points.map(({ link }) => link)]);
-    if (isAwaited || !this.prediction || (this.drawnOf === this.prediction && this.drawnKey === key)) {
+    if (isMissing || !this.prediction || (this.drawnOf === this.prediction && this.drawnKey === key)) {
       return;
     }
     [this.drawnOf, this.drawnKey] = [this.prediction, key];

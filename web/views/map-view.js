@@ -81,12 +81,24 @@ export class MapView {
       rows: Math.min(trace.sizes.pages, MOST_GRID_ROWS),
     };
     const found = await trace.map(grid).catch(() => null);
-    if (found === null || trace !== this.wanted.trace) {
-      this.wanted = found === null ? null : this.wanted;
+    if (trace !== this.wanted.trace) {
+      return;
+    }
+    if (found === null) {
+      this.wanted = null;
+      this.fit(width);
       return;
     }
     this.held = { trace, first, last, width, axis, grid, ...found, settings, tick: settings.tick.amount };
     this.draw();
+  }
+
+  /** Draws what was counted last in another width: a planner that has ended counts nothing anew. */
+  fit(width) {
+    if (this.held) {
+      this.held = { ...this.held, width, axis: axisOf(width - HOT_ROOM, this.held.first, this.held.last) };
+      this.draw();
+    }
   }
 
   /** Draws the counts: the canvas, and over it the axes, the rows that are written most, and room for marks. */
@@ -99,7 +111,7 @@ export class MapView {
     this.image = svg("image", { x: MAP_LEFT, y: MAP_TOP, width: axis.room, height: MAP_HEIGHT,
       preserveAspectRatio: "none", "image-rendering": "pixelated" });
     const { pages, pageBytes } = trace.sizes;
-    const size = briefBytes(BigInt(pages) * BigInt(pageBytes));
+    const size = briefBytes(BigInt(pages) * BigInt(pageBytes)).replace("bytes", "B");
     const parts = [
       label("title", MAP_LEFT, MAP_TOP - 9, settings.sample ? "Where in the sample" : "Where in memory"),
       label("title", axis.width + 6, MAP_TOP - 9, "writes"),
