@@ -15,7 +15,7 @@ import zipfile
 
 HERE = os.path.dirname(os.path.abspath(__file__))
 LIBRARY = os.path.join(HERE, "..", "..", "out", "library", "libprecopy.so.2")
-PARTS = ("__init__.py", "_calls.py", "_predictions.py", "_refusals.py", "py.typed")
+PARTS = ("__init__.py", "_calls.py", "_interface.py", "_predictions.py", "_refusals.py", "py.typed")
 MOMENT = (1980, 1, 1, 0, 0, 0)
 
 

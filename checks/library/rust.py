@@ -42,7 +42,7 @@ def receive(tally, folder, path, trace):
 def check_statuses(tally):
     """The numbers of the crate's statuses are those of the header."""
     pattern = r"\b(?:PRECOPY_|pub const )(\w+)(?:: u32)? = (\d+)"
-    header, crate = (dict(re.findall(pattern, read(path, "r"))) for path in (HEADER, f"{CRATE}/src/refusals.rs"))
+    header, crate = (dict(re.findall(pattern, read(path, "r"))) for path in (HEADER, f"{CRATE}/src/status.rs"))
     reasons = {"FEW", "FAST", "ALL_ROUNDS", "YES", "NO", "UNKNOWN"}
     header = {name: number for name, number in header.items() if name not in reasons}
     differ = header.items() ^ crate.items()

@@ -24,6 +24,7 @@ from checks.refusals.refusal_jobs import (
     JOBS,
     LARGE,
     LARGE_IMAGE,
+    LARGE_LIVE,
     LIVE,
     LIVE_MEMORY,
     LIVE_THREAD,
@@ -262,7 +263,7 @@ def parts(runner):
         yield writes, job, "ZERO_WRITE", "the Nth write takes no byte"
     for job in JOBS:
         yield reads, job
-    for job in [LARGE_IMAGE, WIDE_REPORT, WIDE_SWEEP, LIVE, AT_STOP, EARLY, WARM]:
+    for job in [LARGE_LIVE, WIDE_REPORT, WIDE_SWEEP, LIVE, AT_STOP, EARLY, WARM]:
         yield threads, job, "REFUSE_THREAD", start
         yield threads, job, "REFUSE_INNER", inner
     for job in [LIVE, WARM]:

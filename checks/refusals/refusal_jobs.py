@@ -90,8 +90,9 @@ class Misuse(Job):
 
 
 IMAGE = Job("image", ["image"], A_IMAGE)
+LARGE_IMAGE = Job("image, 8,193 pages", ["image"], LARGE_MEMORY, "large")
 # Four threads make 1,024 pages at a time, so all but the caller's start nine times.
-LARGE_IMAGE = Job("image, 8,193 pages", ["image"], LARGE_MEMORY, "large", savers=1, makers=27)
+LARGE_LIVE = Job("live, 8,193 pages", ["live", *PLAN, "--workers", "4"], LARGE_MEMORY, "large", is_live=True, makers=27)
 REPORT = Job("report", ["report", *PLAN, *TABLES], A_REPORT)
 SWEEP = Job("sweep", ["sweep", *CASES], A_SWEEP)
 LIVE = Job("live", ["live", *PLAN, *THREADS], A_IMAGE, is_live=True)

@@ -37,7 +37,7 @@ def built():
 def made(names, folder):
     """Makes the traces that are missing, and returns their sizes."""
     words = [os.path.join(TOP, "bench", "workloads"), "--traces", folder, *names]
-    if names and subprocess.run([sys.executable, *words], stdout=sys.stderr).returncode:
+    if names and subprocess.run(words, stdout=sys.stderr).returncode:
         raise Fault("the traces cannot be made")
     place, manifest = os.path.join(folder, "manifest.json"), {}
     if os.path.exists(place):
