@@ -28,10 +28,10 @@ domjobinfo)
     esac ;;
 migrate)
     tell begins
-    sleep {seconds}
     case " {failing} " in
-    *" $domain "*) tell fails; echo 'error: operation failed: no such host' >&2; exit 1 ;;
+    *" $domain "*) sleep 0.1; tell fails; echo 'error: operation failed: no such host' >&2; exit 1 ;;
     esac
+    sleep {seconds}
     tell ends ;;
 *) tell "$words" ;;
 esac
