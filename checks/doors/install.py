@@ -58,8 +58,9 @@ def run_from_there(tally, prefix):
         tally.add(told == f"{name} (precopy) {version.VERSION}\n", f"{name} --version tells {told!r}")
     back = shell(f"precopy-export '{trace}' - | precopy-import - - | cmp - '{trace}' && echo same")
     tally.add(back == b"same\n", f"installed precopy-export and precopy-import: {back}")
-    where = "import places; print(places.program())"
-    found = output_of(sys.executable, "-Bc", where, cwd=os.path.join(prefix, "lib", "precopy"), env={}).decode()
+    where = "from precopy_tools import places; print(places.program())"
+    library = os.path.join(prefix, "lib", "precopy", "python")
+    found = output_of(sys.executable, "-Bc", where, cwd="/", env={"PYTHONPATH": library}).decode()
     good = os.path.realpath(found.strip()) == os.path.realpath(os.path.join(bin_folder, "precopy"))
     tally.add(good, f"the installed tools run the program {found}")
     page = os.path.realpath(os.path.join(prefix, "share", "precopy", "precopy.html"))

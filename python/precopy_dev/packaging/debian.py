@@ -159,7 +159,16 @@ License: Apache-2.0
  On Debian systems the full text of this license is in
  /usr/share/common-licenses/Apache-2.0.
 Comment:
-{as_field(notices.notices())}"""
+{as_field(without_apache(notices.notices()))}"""
+
+
+def without_apache(text):
+    """Notices without the text of a licence that Debian has."""
+    head, *parts = re.split(r"^(?=.+\n={78}$)", text, flags=re.M)
+    where = "On Debian systems this license is in /usr/share/common-licenses/Apache-2.0.\n\n"
+    is_apache = re.compile("TERMS AND CONDITIONS FOR USE, REPRODUCTION", re.I)
+    short = [f"{part[: part.index('=')]}{'=' * 78}\n\n{where}" if is_apache.search(part) else part for part in parts]
+    return head + "".join(short)
 
 
 def as_field(text):
