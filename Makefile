@@ -10,11 +10,12 @@
 #     make install-lib PREFIX=/usr    installs the library alone: archive, shared library, header, precopy.pc, and the
 #                                     crate for Rust in share/precopy/rust
 #     make uninstall PREFIX=/usr      removes what make install put there; make uninstall-lib, what make install-lib did
-#     make deb                        makes packages for Debian in out/: the programs, the library, its header. After
-#                                     ./precopy it takes 26 minutes of a processor, and more for the page's module
+#     make deb                        makes packages for Debian in out/, by debhelper and dh-python: the programs, the
+#                                     library, its header, the module for Python. After ./precopy it takes 26 minutes
+#                                     of a processor, and more for the page's module
 #     make dist                       makes a tarball for other systems in out/, and its checksum
-#     make release                    makes all that users get of a version in out/release/, with checksums, and tags the
-#                                     commit; the tree must have no changes
+#     make release                    makes all that users get of a version in out/release/, with checksums, and tags
+#                                     the commit; the tree must have no changes
 #
 # DESTDIR stands in front of each path of an installation. BINDIR, LIBDIR, MANDIR, DOCDIR, BASHDIR, ZSHDIR, SYSTEMDDIR,
 # LIBRARYDIR, INCLUDEDIR and SHAREDIR name single folders, and MAINTAINER who answers for a package.

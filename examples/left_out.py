@@ -3,17 +3,17 @@
 
     examples/left_out.py TRACE [--mended]
 
+It needs the module of bindings/python: installed, or by `export PYTHONPATH=bindings/python` after `make lib`.
+
 It migrates the guest of a trace by the planned rounds: a round sends the pages that the round before left dirty, as
 they are when it begins. The log of dirty pages has a bug: a write at the tick at which a round begins is not seen. At
 the stop the memory that arrived is compared with the memory before that tick. --mended leaves the bug out.
 """
 
-import os
 import struct
 import sys
 
-sys.path.insert(0, os.path.join(os.path.dirname(os.path.abspath(__file__)), "..", "bindings", "python"))
-import precopy  # noqa: E402
+import precopy
 
 
 def writes_of(trace):

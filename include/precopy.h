@@ -52,8 +52,8 @@
 extern "C" {
 #endif
 
-/* The number in the name libprecopy.so.2: it changes when programs must be recompiled. */
-#define PRECOPY_ABI 2
+/* The number in the name libprecopy.so.3: it changes when programs must be recompiled. */
+#define PRECOPY_ABI 3
 
 /* The version of this header as a number, which is 10203 for 1.2.3. */
 #define PRECOPY_VERSION_NUMBER 600
@@ -367,24 +367,32 @@ uint32_t precopy_predict(const uint8_t *trace, size_t trace_length, const struct
  * From a limit that is not kept the link and the downtime are searched upwards, by doublings to 64 times what is asked;
  * from one that is, downwards by halves, to a 64th; then between the two amounts, by 256ths. So the least is the
  * nearest: beyond it the limit may be missed or kept again.
+ *
+ * If the trace ends before the migration does, the link is searched in the same way with which it ends within the
+ * trace, and the start from the question's (or the last tick) back to its base, or to tick 0, by 4,096ths. The limit
+ * may be missed there.
  */
 struct precopy_amounts {
-    uint64_t link;         /* the least link, in bytes a second, if has_link isn't 0 */
-    uint64_t downtime;     /* the least downtime, in microseconds, if has_downtime isn't 0 */
-    uint64_t speed;        /* to how many per cent of its speed the guest is slowed, if has_speed isn't 0 */
-    uint32_t has_link;     /* 0: no link that was tried keeps the limit */
-    uint32_t has_downtime; /* 0: no downtime that was tried keeps it */
-    uint32_t has_speed;    /* 0: no speed of 95, 90 .. 5 per cent keeps it, or it is kept at its own */
-    uint32_t is_kept;      /* 0: the limit is not kept, or the trace ends before the migration does */
+    uint64_t link;             /* the least link, in bytes a second, if has_link isn't 0 */
+    uint64_t downtime;         /* the least downtime, in microseconds, if has_downtime isn't 0 */
+    uint64_t speed;            /* to how many per cent of its speed the guest is slowed, if has_speed isn't 0 */
+    uint64_t ending_link;      /* the least link that ends the migration within the trace, if has_ending_link isn't 0 */
+    uint64_t ending_start;     /* the latest start that does, if has_ending_start isn't 0 */
+    uint32_t has_link;         /* 0: no link that was tried keeps the limit */
+    uint32_t has_downtime;     /* 0: no downtime that was tried keeps it */
+    uint32_t has_speed;        /* 0: no speed of 95, 90 .. 5 per cent keeps it, or it is kept at its own */
+    uint32_t has_ending_link;  /* 0: no link that was tried ends the migration within the trace, or its own does */
+    uint32_t has_ending_start; /* 0: no start that was tried does, or its own does */
+    uint32_t is_kept;          /* 0: the limit is not kept, or the trace ends before the migration does */
+    uint32_t ends;             /* 0: the trace ends before the migration does */
 };
 
 /*
- * Sets *amounts to what is enough for the downtime limit of a question, as the lines `enough:` of `precopy-view
- * predict` tell it. These say nothing if the trace ends before the migration does; this function tells what ends
- * within it.
+ * Sets *amounts to what is enough for the downtime limit of a question, and to end within the trace, as the lines
+ * `enough` of `precopy-view predict` tell it.
  *
  * It tests what precopy_predict does, in the same order. It takes memory as precopy_plan does, and the time of some 35
- * plans, at most 98.
+ * plans, at most 99; of a migration that ends after the trace at most 187.
  */
 PRECOPY_ANSWERS PRECOPY_NOT_NULL(3, 4, 5)
 uint32_t precopy_enough(const uint8_t *trace, size_t trace_length, const struct precopy_question *question,
@@ -576,8 +584,8 @@ struct precopy_progress {
 };
 
 /*
- * Checks the next bytes of a stream, as they come: each whole frame of them. It finds what precopy_check_streams finds in
- * all streams at once, however they are cut into pieces.
+ * Checks the next bytes of a stream, as they come: each whole frame of them. It finds what precopy_check_streams finds
+ * in all streams at once, however they are cut into pieces.
  *
  * `states` has two elements for each page of the guest, and begins as zeros: first the last stamps of the stream, and
  * behind them the greatest of all streams. *progress says how far the stream has come. What is behind its whole frames

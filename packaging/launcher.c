@@ -2,9 +2,9 @@
  * An installed precopy or precopy-view: asks the C library for large pages, as dev/start does, and becomes the
  * program proper, which stands in another folder below the prefix.
  *
- * python/precopy_dev/packaging/launcher.py gives PROGRAM, the way there from the folder of this program, and LARGE_PAGES, the parts of
- * GLIBC_TUNABLES to add. A part that the user has set stays, and so does an empty variable. Arguments, open files,
- * signals and the process itself are handed on as they came.
+ * python/precopy_dev/packaging/launcher.py gives PROGRAM, the way there from the folder of this program, and
+ * LARGE_PAGES, the parts of GLIBC_TUNABLES to add. A part that the user has set stays, and so does an empty variable.
+ * Arguments, open files, signals and the process itself are handed on as they came.
  */
 #define _GNU_SOURCE
 #include <errno.h>

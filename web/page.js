@@ -20,7 +20,7 @@ import { listenToPrinting } from "./views/paper.js";
 import { Past } from "./views/past.js";
 import { watchWidths } from "./views/plot.js";
 import { hasWideMemory, Planner, Refusal } from "./engine/planner.js";
-import { isUnknown, predictionOf } from "./model/predictions.js";
+import { predictionOf } from "./model/predictions.js";
 import { nextTask } from "./engine/slices.js";
 import { StartsView } from "./views/starts-view.js";
 import { fragmentOf, MOST_KEPT, presetOf, stateIn, withoutPreset } from "./model/state.js";
@@ -361,7 +361,8 @@ class Page {
     this.drawLimits();
     this.drawLinks();
     if (this.windows.axis) {
-      this.map.follow(trace, this.windows.axis, settings, found.value);
+      const { length } = this.windows.counted;
+      this.map.follow(trace, this.windows.axis, { settings, prediction: found.value, length });
     }
     this.starts.follow(found.value, this.controls.begin);
     this.starts.draw(this.windows.axis);
@@ -413,11 +414,7 @@ class Page {
   drawLimits() {
     const { trace, found } = this.shown;
     const prediction = found.value ?? null;
-    if (prediction && isUnknown(prediction)) {
-      this.limits.showWays(prediction, this.late.waysOf(trace, prediction));
-    } else {
-      this.limits.show(trace, prediction, prediction && this.late.remediesOf(trace, prediction));
-    }
+    this.limits.show(trace, prediction, prediction && this.late.remediesOf(trace, prediction));
   }
 
   nearest(refusal, settings, { sizes }) {

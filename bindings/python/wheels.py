@@ -14,7 +14,7 @@ import tarfile
 import zipfile
 
 HERE = os.path.dirname(os.path.abspath(__file__))
-LIBRARY = os.path.join(HERE, "..", "..", "out", "library", "libprecopy.so.2")
+LIBRARY = os.path.join(HERE, "..", "..", "out", "library", "libprecopy.so.3")
 PARTS = ("__init__.py", "_calls.py", "_interface.py", "_predictions.py", "_refusals.py", "py.typed")
 MOMENT = (1980, 1, 1, 0, 0, 0)
 
@@ -47,7 +47,7 @@ def build_wheel(wheel_directory, config_settings=None, metadata_directory=None):
     files = {f"precopy/{part}": read("precopy", part) for part in PARTS}
     platform = "any"
     if os.path.exists(LIBRARY):
-        files["precopy/libprecopy.so.2"] = read(LIBRARY)
+        files["precopy/libprecopy.so.3"] = read(LIBRARY)
         platform = re.sub(r"\W", "_", sysconfig.get_platform())
     tag, pure = f"py3-none-{platform}", "true" if platform == "any" else "false"
     files[f"{name}.dist-info/METADATA"] = metadata()

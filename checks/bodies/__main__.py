@@ -5,17 +5,15 @@
 A wrong body of crates/NAME/wrong-bodies (CONTRIBUTING.md) that tests refuse has lines 'tests: CRATE TEST ..', which
 name the tests of one crate that fail on it. A test that does not end within N seconds, 40 if none are
 given, fails. WORD picks the bodies whose names contain it; if none is given, all are tried. Nothing is proved, and
-nothing in this folder changes: the tests run in a copy elsewhere. Each line is about the tests of a crate, or a body.
-The last line is 'N passed, M failed'; the status is 0 if something was tried and nothing failed.
+nothing in this folder changes: the tests run in a copy elsewhere. The tests of a crate are a case, and so is a body.
 """
 
-import argparse
 import re
 import shutil
 import subprocess
-import sys
 import tempfile
 
+from checks.lib.harness import Failure, expect, run_main
 from precopy_dev.edits.files import TESTS, TOP, BadEdit, crates, read_edits, text_of
 
 SECONDS = 40
@@ -23,15 +21,11 @@ SECONDS = 40
 SHOWN = 12
 
 
-class Failure(Exception):
-    """Why a body or the tests of a crate count as failed."""
-
-
 def read_bodies(words):
     """Returns the bodies whose names contain a word, or all if there is none, in order of their tests' crates."""
 
     def stop(name, why):
-        raise SystemExit(f"checks/bodies: {name}: {why}\n0 passed, 1 failed")
+        raise Failure(f"{name}: {why}")
 
     bodies = [edit for crate in crates() for edit in read_edits(crate, stop) if edit.kind == TESTS]
     chosen = [body for body in bodies if not words or any(word in str(body) for word in words)]
@@ -95,57 +89,44 @@ def try_body(room, body, seconds):
     return f"fails {len(failed)} of {len(failed) + len(passed)} tests of {body.tested}, as it must"
 
 
-class Tally:
-    def __init__(self):
-        self.passed, self.failed = 0, 0
-
-    def add(self, name, work, *given):
-        """Does a piece of work, reports it, and counts it. Returns whether it passed."""
-        try:
-            told, good = work(*given), True
-        except Failure as failure:
-            told, good = str(failure), False
-        print(f"{'' if good else 'FAILED '}{name}: {told}", flush=True)
-        self.passed, self.failed = self.passed + good, self.failed + (not good)
-        return good
+def tried(tally, name, work, *words):
+    """Does a piece of work, which is a case. Returns whether it passed."""
+    failed = tally.failed
+    with tally.case(name) as case:
+        print(f"{name}: {work(*words)}", flush=True)
+        case.add(True, name)
+    return tally.failed == failed
 
 
-def try_bodies(bodies, seconds):
+def try_bodies(tally, bodies, seconds):
     """Tries the bodies, crate by crate of their tests, each crate first without any."""
-    tally = Tally()
     with tempfile.TemporaryDirectory(prefix="bodies-") as room:
         copy_sources(room)
         for crate in sorted({body.tested for body in bodies}):
             here = [body for body in bodies if body.tested == crate]
-            if not tally.add(crate, try_unchanged, room, crate, here, seconds):
-                tally.failed += len(here)
+            if not tried(tally, crate, try_unchanged, room, crate, here, seconds):
+                tally.add(False, f"{' '.join(map(str, here))}: not tried")
                 continue
             for body in here:
-                tally.add(str(body), try_body, room, body, seconds)
-    return tally
+                tried(tally, str(body), try_body, room, body, seconds)
 
 
-def arguments():
-    parser = argparse.ArgumentParser(description=__doc__.splitlines()[0])
+def more(parser):
     parser.add_argument("--list", action="store_true", help="name the bodies and the tests that fail on them")
     parser.add_argument("--seconds", type=int, default=SECONDS, help=f"how long a test may take; {SECONDS}")
     parser.add_argument("word", nargs="*", help="a part of the name of a body")
-    return parser.parse_args()
 
 
-def main():
-    given = arguments()
+def check(tally, given):
     bodies = read_bodies(given.word)
     if given.list:
         for body in bodies:
             print(f"{body}: {body.tested}: {' '.join(sorted(body.tests))}")
-        return 0
-    if not shutil.which("rt"):
-        raise SystemExit("checks/bodies: the toolchain's command rt is not on the path\n0 passed, 1 failed")
-    tally = try_bodies(bodies, given.seconds)
-    print(f"{tally.passed} passed, {tally.failed} failed")
-    return 0 if tally.passed and not tally.failed else 1
+        tally.add(bodies, "there is no such body")
+        return
+    expect(shutil.which("rt"), "the toolchain's command rt is not on the path")
+    try_bodies(tally, bodies, given.seconds)
 
 
 if __name__ == "__main__":
-    sys.exit(main())
+    run_main(check, __doc__, more=more)

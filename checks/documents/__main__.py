@@ -23,9 +23,9 @@ import tempfile
 
 from checks.documents import heads, links, names, refusal_words
 from checks.lib.harness import run_main
-from checks.lib.pages import INDEX, agrees, manuals, pages, quotes, read, steps
+from checks.lib.pages import INDEX, agrees, manuals, pages, quotes, steps
 from checks.lib.tally import left_out, why_not
-from precopy_dev.tree import TOP
+from precopy_dev.tree import TOP, read
 
 SECONDS = 120
 MOST_WORDS = 40
@@ -169,12 +169,13 @@ def interface(tally, _):
 
 def index(tally, _):
     made = made_by("index", "--print")
-    tally.add(made.returncode == 0, f"dev/index failed: {made.stderr}")
-    for good, told in names.in_index(made.stdout):
-        tally.add(good, told)
-    tally.add(not FOREIGN.findall(made.stdout), f"the index has {FOREIGN.findall(made.stdout)}")
-    longest = max(map(len, made.stdout.split("\n")))
-    tally.add(longest <= MOST_COLUMNS, f"the index has a line of {longest} characters")
+    with tally.case("the index") as case:
+        case.add(made.returncode == 0, f"dev/index failed: {made.stderr}")
+        for good, told in names.in_index(made.stdout):
+            case.add(good, told)
+        case.add(not FOREIGN.findall(made.stdout), f"the index has {FOREIGN.findall(made.stdout)}")
+        longest = max(map(len, made.stdout.split("\n")))
+        case.add(longest <= MOST_COLUMNS, f"the index has a line of {longest} characters")
 
 
 # ---- Sentences.

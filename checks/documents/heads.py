@@ -6,7 +6,7 @@ here, and one that is no longer true leaves this list and the document in one co
 
 import re
 
-from checks.lib.pages import read
+from precopy_dev.tree import read
 
 DIFFERS = (
     "Places of writes are laid out by a sort of runs",

@@ -3,7 +3,8 @@
 import os
 import re
 
-from checks.lib.pages import INDEX, TOP, pages, read
+from checks.lib.pages import INDEX, pages
+from precopy_dev.tree import TOP, read
 
 LINK = re.compile(r"\]\(([^)\s]*)\)")
 

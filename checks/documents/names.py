@@ -12,16 +12,19 @@ import glob
 import os
 import re
 
-from checks.lib.pages import INDEX, TOP, read
-from precopy_dev import contracts
+from checks.lib.pages import INDEX
+from precopy_dev import contracts, tree
 from precopy_dev.determined import table as determined
 from precopy_dev.determined.laws import named_in
 from precopy_dev.edits.files import texts_in
+from precopy_dev.tree import TOP, read
 
 PAIR = re.compile(r"`([\w:]+)`: (`\w+`(?:(?:,| and) `\w+`(?!:))*)")
 CODE = re.compile(r"`([^`]+)`")
 # Refusals, ranges of ticks, and what a program begins with.
 OTHER = re.compile(r"[CEFLS]\d{1,2}|\[.*\)|main")
+# A path, or the name of a file.
+PATH = re.compile(r"[\w.*@-]+/[\w./*@-]*|[\w*@-]+\.(?:antt|c|h|html|js|json|md|py|rs|rt|service|symbols|toml|txt)")
 # A name of the sources: with an underscore, or in capitals.
 IDENTIFIER = re.compile(r"[a-z]\w*_\w*[a-z]|[A-Z]\w+(?:::\w+)?")
 
@@ -65,8 +68,7 @@ def all_sources():
 @functools.lru_cache(maxsize=None)
 def types_and_crates():
     types = set(re.findall(r"^pub (?:struct|enum|trait) (\w+)", all_sources(), re.M))
-    lines = contracts.read(os.path.join(TOP, "crates.txt")).split("\n")
-    return types | {word for line in lines for word in re.findall(r"\w+", line.partition("#")[0])}
+    return types | {word for name, crate in tree.crates().items() for word in (name, *crate.uses)}
 
 
 def is_of_wrong_body(word):
@@ -161,19 +163,55 @@ def left_open():
 
 
 def laws():
-    """Yields whether each file of contracts that a law makes determine something names that law, and no other law."""
-    used = {}
+    """Yields whether each law that makes contracts determine something is named where they stand: in a line of a file
+    of the crate, or in docs/PROOF.md. And whether the contracts below such a line speak of its relation, or rest on its
+    law."""
+    told = set(CODE.findall(read("docs/PROOF.md")))
+    by_file = {}
     for row in determined.rows().values():
         path = os.path.join(TOP, "crates", row.call.crate, "src", row.call.path)
-        used.setdefault(path, set()).update(row.laws())
+        by_file.setdefault(path, set()).update(row.laws())
     for crate in contracts.crates():
-        for path in contracts.sources(crate, "src", ".rt"):
-            named = {law for names in named_in(path).values() for law in names}
-            where = os.path.relpath(path, TOP)
-            for law in sorted(named ^ used.get(path, set())):
-                yield False, f"{where} names the law {law} in no line, or needlessly"
-            for _ in named & used.get(path, set()):
-                yield True, ""
+        paths = contracts.sources(crate, "src", ".rt")
+        lines = {path: named_in(path) for path in paths}
+        named = {law for relations in lines.values() for laws in relations.values() for law in laws}
+        used = {law for row in determined.rows().values() if row.call.crate == crate for law in row.laws()}
+        for law in sorted(used):
+            yield law in named | told, f"{crate} rests on the law {law}, and neither its files nor docs/PROOF.md say so"
+        for path, relations in lines.items():
+            code = re.sub(r"//.*", "", contracts.read(path))
+            for relation, of_it in relations.items():
+                where = f"{os.path.relpath(path, TOP)} names {', '.join(of_it)} for {relation}"
+                is_due = set(of_it) <= by_file.get(path, set()) or re.search(rf"\b{relation}\b", code)
+                yield bool(is_due), f"{where}, of which no contract there speaks"
+
+
+def places_of(word):
+    """The files and folders that a word is, from the top, from crates/ or from docs/."""
+    paths = [os.path.normpath(os.path.join(TOP, *parts, word)) for parts in ((), ("crates",), ("docs",))]
+    return [path for path in paths if os.path.exists(path)]
+
+
+def folders_of(words):
+    """The folders in which a recipe that has these words may name a file shortly: those of crates and of paths that it
+    names, and outside of crates/ those above, such as all tools."""
+    crates = {os.path.join(TOP, "crates", word.split("/")[0]) for word in words}
+    for place in (place for word in words for place in places_of(word) if "/" in word):
+        while (place := place if os.path.isdir(place) else os.path.dirname(place)) != TOP:
+            yield place
+            place = TOP if place.startswith(os.path.join(TOP, "crates")) else os.path.dirname(place)
+    yield from filter(os.path.isdir, crates)
+
+
+def paths_in_recipes(section):
+    """Yields whether each file that a recipe names is there, where the recipe says that it is."""
+    for recipe in re.split(r"\n(?=### |- \*\*)", section):
+        words = CODE.findall(" ".join(recipe.split()))
+        folders = set(folders_of(words))
+        for word in (word for word in words if PATH.fullmatch(word) and "NAME" not in word):
+            below = (glob.glob(os.path.join(folder, "**", word), recursive=True) for folder in folders)
+            good = places_of(word) or any(below)
+            yield bool(good), f"docs/ARCHITECTURE.md names {word}, which is not there: {recipe.splitlines()[0]}"
 
 
 def in_architecture():
@@ -185,6 +223,7 @@ def in_architecture():
         yield listed.count(crate) == 1, f"docs/ARCHITECTURE.md has {crate} {listed.count(crate)} times"
     for name in sorted(set(listed) - set(contracts.crates())):
         yield False, f"docs/ARCHITECTURE.md has {name}, which is no crate"
+    yield from paths_in_recipes(sections["What to change for ..."])
     for code in CODE.findall(" ".join(sections["What to change for ..."].split())):
         if IDENTIFIER.fullmatch(code):
             yield bool(is_known(code) or is_within(code)), f"docs/ARCHITECTURE.md names {code}, which is not there"

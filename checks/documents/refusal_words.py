@@ -2,8 +2,9 @@
 
 import re
 
-from checks.lib.pages import manuals, pages, read
+from checks.lib.pages import manuals, pages
 from precopy_dev import interface
+from precopy_dev.tree import read
 
 ROW = re.compile(r"^\| (E\d+) \| `(\w+)(?:\(record\))?` \| ([^|]+?) \|", re.M)
 # Those that the library has a status for.

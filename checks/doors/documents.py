@@ -7,6 +7,7 @@ import subprocess
 
 from checks.lib import pages
 from precopy_dev.packaging import documents
+from precopy_dev.tree import read
 
 SECONDS = 120
 # What a command begins with that is not run here: it needs a running guest, or GNU parallel.
@@ -26,7 +27,7 @@ def pages_below(folder):
 
 def names(tally, folder):
     """No document that a user reads names what only the sources have, and each other name stands for one in them."""
-    sources = [pages.read(path) for path, _ in pages_below(folder)]
+    sources = [read(path) for path, _ in pages_below(folder)]
     for name in documents.RENAMED:
         told = f"python/precopy_dev/packaging/documents.py has a name for {name!r} of no page"
         tally.add(any(name in text for text in sources), told)
@@ -55,6 +56,7 @@ def runner(folder, prefix):
     """Runs commands of each page in a copy of the documents, with nothing of the sources on the way."""
     shared = os.path.join(prefix, "share", "doc", "precopy")
     environment = {"PATH": f"{prefix}/bin:/usr/bin:/bin", "LC_ALL": "C.UTF-8", "LD_LIBRARY_PATH": f"{prefix}/lib"}
+    environment["PYTHONPATH"] = "bindings/python"
 
     def run(page, words):
         place = os.path.join(folder, page.replace("/", "-"))

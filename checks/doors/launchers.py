@@ -8,7 +8,7 @@ import signal
 import subprocess
 import time
 
-from checks.lib.harness import draws
+from checks.lib.harness import drawn, draws
 from checks.lib.tally import LeftOut, has
 from precopy_dev.packaging import launcher
 from precopy_dev.tree import TOP
@@ -81,10 +81,9 @@ class Installed:
 
 
 def hand_on_words(tally, it):
-    chosen = draws("words of launchers")
-    for number in range(30):
+    for chosen in drawn("words of launchers", range(30)):
         words = [bytes(chosen.choices(range(1, 256), k=chosen.randint(0, 40))) for _ in range(chosen.randint(1, 50))]
-        words = [b"precopy" if number % 2 else words[0], b"", *words]
+        words = [b"precopy" if chosen.number % 2 else words[0], b"", *words]
         status, output, faults = it.run(words)
         good = (status, output, faults) == (0, b"", b"") and it.heard_bytes("word") == words
         tally.add(good, f"the launcher with words {words[:4]}: status {status}, {faults!r}")

@@ -3,6 +3,7 @@
 import contextlib
 import glob
 import os
+import re
 import shlex
 import shutil
 import subprocess
@@ -13,7 +14,7 @@ from checks.lib.tally import has, left_out
 from precopy_dev.packaging import contents
 from precopy_dev.tree import TOP
 
-SECONDS = 400
+SECONDS, SECONDS_TO_BEGIN = 400, 1500
 SUITE, MIRROR = "bookworm", "http://deb.debian.org/debian"
 # Files of the system's own that any installation changes.
 OF_THE_SYSTEM = ("var/lib/dpkg", "var/lib/apt", "var/cache", "var/log", "proc", "sys", "dev", "tmp", "root")
@@ -122,8 +123,18 @@ def try_library(tally, folder, files):
         tally.add(wanted and ran.stdout.splitlines() == wanted, f"the example over the packed library: {ran.stdout}")
 
 
+def try_symbols(tally, files):
+    """Programs that are linked with the library depend on it by its symbols: those are the calls of the header."""
+    (package,) = (path for path in files if os.path.basename(path).startswith("libprecopy3_"))
+    told = run("dpkg-deb", "--info", package, "symbols").stdout
+    listed = re.findall(r"^ (precopy_\w+)@PRECOPY_1 \d", told, re.M)
+    with open(os.path.join(TOP, "include", "precopy.h"), encoding="utf-8") as file:
+        called = re.findall(r"^(?:uint32_t |bool |const char \*)(precopy_\w+)\(", file.read(), re.M)
+    tally.add(called and set(listed) == set(called), f"the symbols of {package} are {listed}, and not {called}")
+
+
 def try_loaded(tally, tree):
-    line = "import ctypes; it = ctypes.CDLL('libprecopy.so.2').precopy_version; it.restype = ctypes.c_char_p"
+    line = "import ctypes; it = ctypes.CDLL('libprecopy.so.3').precopy_version; it.restype = ctypes.c_char_p"
     ran = in_tree(tree, f'python3 -c "{line}; print(it().decode())"')
     tally.add(ran.stdout == f"{contents.version.VERSION}\n", f"in a fresh tree: the library loaded: {ran.stdout}")
     line = "import precopy; trace = open('/usr/share/doc/precopy/examples/gzip.pcwt', 'rb').read()"
@@ -180,15 +191,14 @@ def try_fresh_tree(tally, tree, files):
 @contextlib.contextmanager
 def fresh_debian(folder):
     """A new Debian tree with nothing but what its packages need, or None if there can be none here."""
-    tree = os.path.join(folder, "debian")
-    ran = run("debootstrap", "--variant=minbase", SUITE, tree, MIRROR) if os.geteuid() == 0 else None
-    if ran is None or ran.returncode:
-        why = f"debootstrap cannot run: {ran.stdout[-200:] if ran else 'not root'}"
-        left_out("the package in a fresh Debian tree", why)
-        yield None
-        return
+    tree, why = os.path.join(folder, "debian"), "not root"
     try:
-        yield tree
+        if os.geteuid() == 0:
+            ran = run("debootstrap", "--variant=minbase", SUITE, tree, MIRROR, timeout=SECONDS_TO_BEGIN)
+            why = ran.returncode and f"status {ran.returncode}: {ran.stdout[-200:]}"
+        if why:
+            left_out("the package in a fresh Debian tree", f"debootstrap cannot run: {why}")
+        yield None if why else tree
     finally:
         # debootstrap may leave these mounted; what is below them is not this tree's.
         for name in ("proc", "sys", "dev/pts", "dev"):
@@ -213,13 +223,15 @@ def try_release(tally, folder, made):
 
 def check(tally, folder):
     tarball = try_tarball(tally, folder)
-    if not has("dpkg-deb", "dpkg", "the package for Debian"):
+    if not all(has(tool, "debhelper", "the packages for Debian") for tool in ("dh", "dh_python3")):
         return
     files = make_twice(tally, "deb", folder)
     try_release(tally, folder, [*files, *tarball])
     for package in files:
         print(f"  {os.path.basename(package)}: {os.path.getsize(package):,} bytes", flush=True)
         try_lintian(tally, package)
+    if files:
+        try_symbols(tally, files)
     if has("cc", "gcc", "the packed library, linked"):
         try_library(tally, folder, files)
     if files and has("debootstrap", "debootstrap", "the package in a fresh Debian tree"):

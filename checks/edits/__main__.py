@@ -8,19 +8,18 @@ the bodies that are listed here, and no others. WORD picks the bodies whose name
 it. Edits of different lines are compiled together, and those near a refusal then one by one.
 Compiling is the toolchain's pass over types and borrows, with no proof; an edited definition is parsed.
 With --text nothing is compiled. It works in a copy elsewhere, and needs nothing that an earlier run built.
-It says how many bodies the prover refused as they stand, by the record that `dev/edits --record` keeps.
-The last line is 'N passed, M failed'; the status is 0 if something was tried and nothing failed.
+It says how many bodies the prover refused as they stand, by the record that `dev/edits --record` keeps. A body that
+compiles is a case, and so are the record, the list and the twins.
 """
 
-import argparse
 import os
 import re
 import shutil
 import subprocess
-import sys
 import tempfile
 
-from checks.lib.tally import Tally
+from checks.lib.harness import expect, run_main
+from precopy_dev import tree
 from precopy_dev.edits.files import GATE, PROVER, TESTS, TOP, TWIN, BadEdit, crates, read_edits, text_of
 
 # The bodies that the gate tries.
@@ -65,20 +64,15 @@ def applied_edits(tally):
             bad(str(edit), why)
     names = {str(edit) for edit in edits}
     twins = {f"{edit.crate}/{edit.twin_of()}" for edit in edits if edit.kind == TWIN}
-    for name in sorted(twins):
-        tally.add(name in names, f"{name} has a twin, and is no wrong body")
+    with tally.case("twins") as case:
+        for name in sorted(twins):
+            case.add(name in names, f"{name} has a twin, and is no wrong body")
     there = {str(edit) for edit in edits if edit.kind == GATE}
     print(f"of {len(there)} bodies of the gate these have no twin: {' '.join(sorted(there - twins)) or 'none'}")
     listed = {f"{crate}/{name}" for crate, names in NAMED.items() for name in names.split()}
-    for name in sorted(listed ^ there):
-        tally.add(False, f"{name}: must-fail/ and the list in checks/edits differ, or it does not apply")
+    differ = sorted(listed ^ there)
+    tally.add(not differ, f"{differ}: must-fail/ and the list in checks/edits differ, or they do not apply")
     return edits
-
-
-def dependencies():
-    """Returns the lines of crates.txt: each crate's libraries by its name."""
-    lines = [line.split("#")[0].partition(":") for line in text_of(TOP, "crates.txt").splitlines()]
-    return {head.split()[0]: below.split() for head, _, below in lines if head.strip()}
 
 
 def make_room(room):
@@ -106,7 +100,7 @@ class Compiler:
     """A copy of the sources in which edits are compiled."""
 
     def __init__(self, room):
-        self.room, self.below = room, dependencies()
+        self.room, self.below = room, {name: crate.uses for name, crate in tree.crates().items()}
         make_room(room)
 
     def told(self, words, crate):
@@ -143,7 +137,7 @@ class Compiler:
         # Of the crate over all the toolchain gives paths in its folder, of others whole ones.
         below = [(os.path.relpath(it[1], f"{self.room}/crates"), it) for it in found if os.path.isabs(it[1])]
         if not found:
-            raise SystemExit(f"checks/edits: the toolchain compiled nothing, and said:\n{told}\n0 passed, 1 failed")
+            raise ValueError(f"the toolchain compiled nothing, and said:\n{told}")
         return [((f"crates/{path}", int(it[2]) - 1), f"{path}:{it[2]}: {it[4]}") for path, it in below]
 
     def refused(self, edits):
@@ -211,38 +205,33 @@ def compile_all(edits, tally):
 
 
 def compare_record(edits, tally):
-    """Counts the lines of the record of tries, each of which has to be of an edit that was refused."""
+    """Compares the record of tries, of which each line has to be of an edit that was refused."""
     names, current = {str(edit): edit for edit in edits if edit.kind in (GATE, PROVER)}, {}
-    for line in text_of(TOP, RECORD).splitlines():
-        name, digest, _, how, _ = line.split("\t")
-        tally.add(name in names and how in KINDS, f"{RECORD}: {name} is no edit here, or was not refused")
-        if name in names and names[name].digest() == digest:
-            current[how] = current.get(how, 0) + 1
+    with tally.case(RECORD) as case:
+        for line in text_of(TOP, RECORD).splitlines():
+            name, digest, _, how, _ = line.split("\t")
+            case.add(name in names and how in KINDS, f"{name} is no edit here, or was not refused")
+            if name in names and names[name].digest() == digest:
+                current[how] = current.get(how, 0) + 1
     shown = ", ".join(f"{count} by {KINDS[how]}" for how, count in sorted(current.items()) if how in KINDS)
     print(f"of {len(names)} bodies the prover refused as they stand: {shown or 'none'}")
 
 
-def arguments():
-    parser = argparse.ArgumentParser(description=__doc__.splitlines()[0])
+def more(parser):
     parser.add_argument("--text", action="store_true", help="compile nothing")
     parser.add_argument("word", nargs="*", help="a part of the name of a body, as collector/last_frame_wins")
-    return parser.parse_args()
 
 
-def main():
-    given, tally = arguments(), Tally()
+def check(tally, given):
     edits = applied_edits(tally)
     compare_record(edits, tally)
     edits = [it for it in edits if not given.word or any(word in str(it) for word in given.word)]
     if given.text:
-        tally.passed += len(edits)
-    elif not shutil.which("rt"):
-        raise SystemExit("checks/edits: the toolchain's command rt is not on the path\n0 passed, 1 failed")
-    else:
-        compile_all(edits, tally)
-    print(tally)
-    return 0 if tally.passed and not tally.failed else 1
+        tally.add(edits, f"no body has {given.word} in its name")
+        return
+    expect(shutil.which("rt"), "the toolchain's command rt is not on the path")
+    compile_all(edits, tally)
 
 
 if __name__ == "__main__":
-    sys.exit(main())
+    run_main(check, __doc__, more=more)

@@ -11,7 +11,7 @@ from typing import NamedTuple
 
 from checks.evacuation import model
 from checks.lib.amount_texts import time_text
-from checks.lib.harness import cases_of, draws, expect, run
+from checks.lib.harness import cases_of, drawn, draws, expect, run
 from checks.lib.tally import expect_in_time
 from checks.lib.view_texts import keeps_schema
 from precopy_dev.tree import TOP
@@ -22,7 +22,7 @@ from precopy_tools.formats import samples, traces
 EVACUATE = os.path.join(TOP, "tools", "evacuate")
 SVG = "{http://www.w3.org/2000/svg}"
 SETS, GUESTS, LIMIT = 500, 100, 5.0
-LINK, DOWNTIME = "64MiB", 0.3
+LINK = "64MiB"
 RATE = 64 << 20
 
 
@@ -60,12 +60,11 @@ def random_plans(draw: random.Random) -> list[tuple[int, int, list[model.Move]]]
 
 
 def random_tables(programs: Programs, _: str) -> None:
-    draw = draws("tables of plans")
-    for number in range(SETS):
+    for draw in drawn("tables of plans", range(SETS)):
         plans = random_plans(draw)
         status, told, fault = answered(programs.scheduler, model.table(plans))
         wanted = model.answer(plans)
-        expect((status, told, fault) == (0, wanted, ""), f"set {number}: {told!r} in place of {wanted!r}, {fault!r}")
+        expect((status, told, fault) == (0, wanted, ""), f"{told!r} in place of {wanted!r}, {fault!r}")
 
 
 def tables_that_are_none(programs: Programs, _: str) -> None:
@@ -160,8 +159,8 @@ def write_record(folder: str, name: str, guest: model.Guest, **changed) -> str:
 
 def random_costs(programs: Programs, folder: str) -> None:
     """The costs of each guest at each share, and the range over starts, are those of a plain planner."""
-    draw, compared = draws("records of guests"), 0
-    for number in range(SETS):
+    compared = 0
+    for draw in drawn("records of guests", range(SETS)):
         guests = [random_guest(draw) for _ in range(draw.randrange(1, 4))]
         link, downtime = draw.choice([1, 4, 16, 64, 1000]) * (1 << 20), draw.choice([0.01, 0.1, 0.3, 0.335, 2.0])
         asked = host_costs.Asked(programs.view, float(link), schedules.numbers_up_to(len(guests)), 0.001)
@@ -173,7 +172,7 @@ def random_costs(programs: Programs, folder: str) -> None:
                 wanted = model.costs(guest, link / at_once, round(1e6 * downtime), base)
                 cost = told.costs.get(at_once)
                 compared += wanted is not None
-                where = f"set {number}, {guest._replace(writes=[])}, {base}, {at_once} at once"
+                where = f"{guest._replace(writes=[])}, {base}, {at_once} at once"
                 expect((cost and cost[2:10]) == wanted, f"{where}: {cost} in place of {wanted}")
     expect(compared > SETS, f"only {compared} costs were compared")
 

@@ -7,10 +7,12 @@ import re
 import signal
 import subprocess
 import time
+import xml.etree.ElementTree
 
 from checks.evacuation import model, monitors
 from checks.evacuation.cases import (
     EVACUATE,
+    SVG,
     Programs,
     document_of,
     expect,
@@ -183,9 +185,9 @@ def run_of(programs: Programs, folder: str, *words: str, kill=None, status: int 
 
 
 def runs_that_end_well(programs: Programs, folder: str) -> None:
-    """All move, two at once; the report has what was beside what was planned, as text and as JSON."""
+    """All move, two at once; the report has what was beside what was planned, as text, as JSON and as a picture."""
     records, (log, guests) = four_guests(folder), four_monitors(folder)
-    words = [*by_qmp(folder), "--json", f"{folder}/told.json"]
+    words = [*by_qmp(folder), "--json", f"{folder}/told.json", "--picture", f"{folder}/run.svg"]
     text, fault = run_of(programs, folder, *records, *words)
     expect(not fault and monitors.most_at_once(log) == 2, f"{fault}, {log}")
     expect(text.count(" has moved\n") == 4 and "the whole" in text, text)
@@ -198,6 +200,43 @@ def runs_that_end_well(programs: Programs, folder: str) -> None:
         expect(each["down_seconds"] == 0.009, f"{name}: {each}")
         parameters = dict(guests[name].asked)["migrate-set-parameters"]
         expect(parameters == {"max-bandwidth": 32 << 20, "downtime-limit": 300}, f"{name}: {parameters}")
+    title = expect_report(f"{folder}/run.svg", told)
+    expect(re.match(r"4 of 4 guests have moved, in [\d.]+ s; planned [\d.]+ (?:s|ms)$", title), title)
+
+
+def bars_in(group: xml.etree.ElementTree.Element, scale: float) -> list[tuple[str, float, float, float]]:
+    """The bars of a guest as (kind, begin and end in seconds, place from above)."""
+    found = []
+    for bar in group.findall(f"{SVG}rect"):
+        x, y, width = (float(bar.get(name)) for name in ("x", "y", "width"))
+        found.append((bar.get("class"), (x - 170) / scale, (x + width - 170) / scale, y))
+    return found
+
+
+def expect_report(path: str, told: dict) -> str:
+    """The picture of a run has for each guest a bar of what was planned, and below it one of what was. Returns its
+    title."""
+    root = xml.etree.ElementTree.parse(path).getroot()
+    runs = {each["guest"]: each for each in told["run"]["guests"]}
+    moves, groups = told["best"]["moves"], root.findall(f"{SVG}g")
+    ends = [move["end_seconds"] for move in moves] + [each.get("end_seconds", 0) for each in runs.values()]
+    scale = 640 / max(ends)
+    near = 2.1 / scale
+    expect(len(groups) == len(moves), f"{len(groups)} rows")
+    for group, move in zip(groups, moves):
+        was, bars = runs[move["guest"]], bars_in(group, scale)
+        kinds = [bar[0] for bar in bars]
+        real = {"moved": ["moving", "down"], "not begun": []}.get(was["state"], ["missed"])
+        expect(kinds == ["planned", "down", *real], f"{was}: {bars}")
+        pairs = [(bars[0], move)] + ([(bars[2], was)] if real else [])
+        for (_, begin, end, _), wanted in pairs:
+            apart = abs(begin - wanted["start_seconds"]), abs(end - wanted["end_seconds"])
+            expect(max(apart) < near, f"{wanted}: a bar from {begin} to {end}")
+        expect(all(bar[3] > bars[0][3] for bar in bars[2:]), f"{was}: what was is not below what was planned")
+        title = group.find(f"{SVG}title").text
+        expect(title.startswith(f"{move['guest']}: planned ") and f"; {was['state']}" in title, title)
+        expect(was.get("why", "") in title or was["state"] == "not begun", title)
+    return root.findall(f"{SVG}text")[0].text
 
 
 def runs_that_do_not(programs: Programs, folder: str) -> None:
@@ -206,13 +245,16 @@ def runs_that_do_not(programs: Programs, folder: str) -> None:
     first, other, *_ = re.findall(r"^(\w+), at once, ", run_tool(programs, *records, *words)[0], re.M)
     log, guests = four_monitors(folder, **{first: {"fails": "the destination refuses"}})
     guests[other].seconds = 4.0
-    text, fault = run_of(programs, folder, *records, *by_qmp(folder), "--json", f"{folder}/told.json", status=5)
+    written = ["--json", f"{folder}/told.json", "--picture", f"{folder}/run.svg"]
+    text, fault = run_of(programs, folder, *records, *by_qmp(folder), *written, status=5)
     begun = [event.guest for event in log if event.what == "begins"]
     expect(sorted(begun) == sorted((first, other)), f"{log}")
     expect(f"{first} has not moved: the destination refuses; it runs here" in fault, fault)
     states = {each["guest"]: each["state"] for each in document_of(folder)["run"]["guests"]}
     waiting = {name: "not begun" for name in NAMES if name not in begun}
     expect(states == {first: "failed", other: "moved", **waiting}, f"{states}")
+    title = expect_report(f"{folder}/run.svg", document_of(folder))
+    expect(title.startswith("1 of 4 guests have moved, in "), title)
 
 
 def stopped_runs(programs: Programs, folder: str) -> None:

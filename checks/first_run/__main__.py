@@ -17,6 +17,7 @@ import time
 from typing import NamedTuple
 
 from checks.lib.harness import run_main
+from checks.lib.tally import need
 from precopy_dev.tree import TOP
 
 SECONDS = 3 * 3600
@@ -30,6 +31,7 @@ BUILT = {
     "page": "out/browser_planner.wasm",
 }
 GUESTS = "examples/guests/mid.light.pcwt examples/guests/sqlite.light.pcwt"
+BUG = "examples/left_out.py examples/gzip.pcwt --mended"
 PLAN = "-Iinclude examples/c/plan.c out/library/libprecopy.a"
 
 
@@ -55,6 +57,7 @@ COMMANDS = (
     FirstRun(f"make lib && cc {PLAN} -o plan && ./plan examples/gzip.pcwt > said", ("library",), "said"),
     FirstRun("make lib && cargo test --offline --manifest-path bindings/rust/Cargo.toml && touch done", (), "done"),
     FirstRun("make lib && python3 -m venv of && of/bin/pip install ./bindings/python && touch done", (), "done"),
+    FirstRun(f"make lib && PYTHONPATH=bindings/python {BUG} > said", ("library",), "said"),
     FirstRun("tools/export examples/gzip.pcwt said", (), "said"),
     FirstRun("make && tools/predict examples/guests/mid.light.pcwt --link 1Gbit > said; [ $? -le 3 ]", (), "said"),
     FirstRun(f"make && tools/evacuate {GUESTS} --link 10Gbit > said", ("precopy_schedule",), "said"),
@@ -121,6 +124,8 @@ def check(tally, given):
     chosen = [it for it in COMMANDS if any(word in it.words for word in given.only or ())] or [of_today]
     for first in COMMANDS if given.all else chosen:
         with tally.case(first.words) as case:
+            if first.words == "make deb":
+                need("dh", "dh_python3")
             try_first(case, first, set(BUILT) if given.all else set(first.builds))
 
 

@@ -2,6 +2,7 @@
 
 import argparse
 import inspect
+import itertools
 import os
 import random
 import subprocess
@@ -9,14 +10,17 @@ import sys
 import tempfile
 import time
 import traceback
+from collections.abc import Iterable, Iterator
 from concurrent.futures import ThreadPoolExecutor
 from dataclasses import dataclass
 
-from checks.lib.tally import Failure, Late, LeftOut, Tally, expect, left_out
+from checks.lib.tally import OF_THREAD, Failure, Late, LeftOut, Tally, draw_now, drawn_from, expect, left_out
 from precopy_dev.tree import TOP, program
 
 SECONDS = 120
 SEED = "CHECKS_SEED"
+# The file of a check that has the draws with which one of its cases failed once.
+KEPT = "failed_seeds.tsv"
 
 
 # ---- Commands.
@@ -66,6 +70,68 @@ def draws(name: object) -> random.Random:
     return random.Random(f"{name} {seed()}")
 
 
+class Draw(random.Random):
+    """Random numbers of one case: the number, the kind and the seed tell what it draws, whatever else is drawn."""
+
+    def __init__(self, kind: str, number: int, of_seed: int):
+        super().__init__(f"{kind} {number} {of_seed}")
+        self.kind, self.number, self.seed_of_run = kind, number, of_seed
+
+    def __str__(self) -> str:
+        return f"{self.kind} {self.number} of seed {self.seed_of_run}"
+
+    def __reduce__(self):
+        return Draw, (self.kind, self.number, self.seed_of_run)
+
+    @property
+    def line(self) -> str:
+        return f"{self.kind}\t{self.number}\t{self.seed_of_run}"
+
+
+# The lines of the draws that this run took.
+DRAWN: set[str] = set()
+
+
+def folder_of_check() -> str:
+    return os.path.dirname(sys.argv[0])
+
+
+def kept_lines() -> list[str]:
+    """The lines of the draws with which a case of this check failed once, each of which has a reason behind it."""
+    path = os.path.join(folder_of_check(), KEPT)
+    if not os.path.exists(path):
+        return []
+    with open(path, encoding="utf-8") as file:
+        rows = [line.rstrip("\n").split("\t") for line in file if not line.startswith("#")]
+    expect(all(len(row) == 4 and row[3] for row in rows), f"{path}: a kind, a number, a seed and a reason, by tabs")
+    return ["\t".join(row[:3]) for row in rows]
+
+
+def drawn(kind: str, numbers: Iterable[int]) -> Iterator[Draw]:
+    """The draws of the cases of a kind that have these numbers. Before them come those that failed once. Of a case that
+    fails in the loop over them the draw is told, so the loop has no break."""
+    kept = [line.split("\t")[1:] for line in kept_lines() if line.startswith(f"{kind}\t")]
+    for number, of_seed in itertools.chain(kept, ((number, seed()) for number in numbers)):
+        draw = Draw(kind, int(number), int(of_seed))
+        DRAWN.add(draw.line)
+        OF_THREAD.draw = draw
+        yield draw
+    OF_THREAD.draw = None
+
+
+def tell_failed_draws(tally: Tally) -> None:
+    """Says which lines keep the draws with which cases failed."""
+    kept, name = kept_lines(), os.path.basename(folder_of_check())
+    for line in dict.fromkeys(tally.failed_draws):
+        if line not in kept:
+            print(f"  KEEP it as a case by a line of checks/{name}/{KEPT}: {line}\tWHY", flush=True)
+
+
+def expect_all_drawn() -> None:
+    left = [line for line in kept_lines() if line not in DRAWN]
+    expect(not left, f"{KEPT}: nothing is drawn by {left}")
+
+
 # ---- Cases.
 
 
@@ -88,13 +154,13 @@ def cases_of(module: str) -> list:
 
 def outcome(case, words: tuple) -> Failure | None:
     """What is wrong with a case in a folder of its own, or why it is left out; None if it passes."""
-    with tempfile.TemporaryDirectory() as folder:
+    with tempfile.TemporaryDirectory() as folder, drawn_from(None):
         try:
             case(*words, folder)
-        except Failure as wrong:
+        except Exception as fault:
+            wrong = fault if isinstance(fault, Failure) else Failure(traceback.format_exc())
+            wrong.draw = draw_now()
             return wrong
-        except Exception:
-            return Failure(traceback.format_exc())
     return None
 
 
@@ -110,7 +176,7 @@ def run_cases(tally: Tally, cases, *words, at_once: int = 1, only=None) -> None:
         elif isinstance(wrong, Late) and not is_last:
             again.append((case, wrong))
         else:
-            tally.add(wrong is None, f"{case.__name__}: {wrong}")
+            tally.add(wrong is None, f"{case.__name__}: {wrong}", wrong and wrong.draw)
 
     with ThreadPoolExecutor(at_once) as pool:
         for case, wrong in zip(cases, pool.map(lambda case: outcome(case, words), cases)):
@@ -155,8 +221,11 @@ def main(check, doc: str, *programs: str, more=None) -> int:
     if not missing:
         try:
             check(tally, given)
+            if kept_lines() and not given.only:
+                tally.tries("draws that failed once", expect_all_drawn)
         except Exception:
             tally.add(False, traceback.format_exc())
+    tell_failed_draws(tally)
     good = not tally.failed and (tally.passed or "skipped" in str(tally))
     if tally.flaky:
         print(f"{len(tally.flaky)} flaky: {', '.join(tally.flaky)}")
@@ -169,11 +238,13 @@ def run_main(check, doc: str, *programs: str, more=None) -> None:
 
 
 __all__ = [
+    "Draw",
     "Failure",
     "LeftOut",
     "Run",
     "Tally",
     "cases_of",
+    "drawn",
     "draws",
     "expect",
     "left_out",

@@ -92,7 +92,7 @@ class Question:
 
     def rate(self, size: int) -> int:
         """Pages in 1,000 ticks."""
-        return size * self.tick * self.sampled // (1000 * self.page * self.guest)
+        return remedies.rate(self.scale(), size)
 
     def rates(self) -> tuple[int, int]:
         """The greatest rate, and that of the first round."""
@@ -142,11 +142,9 @@ class Question:
             return Refusal(89, 1, f"the trace has {trace.pages} pages, more than --sampled says")
         return None
 
-    def settings(self) -> redrawn.Settings:
+    def settings(self) -> redrawn.Settings | None:
         """The settings that the limits make, if they are in range."""
-        most, least = self.rates()
-        increment = (most - least) // 10 if self.increment is None else self.increment
-        return redrawn.Settings(least, most, increment, self.threshold(), self.rounds, self.start, self.skip, self.base)
+        return remedies.settings(self.trial())
 
     def scale(self) -> redrawn.Scale:
         return redrawn.Scale(self.tick, self.page, self.sampled, self.guest)
@@ -185,8 +183,7 @@ def _refused(number, name, word, asked, why, nearest, which="nearest") -> Refusa
 
 
 class Answer(NamedTuple):
-    """What is predicted: times in microseconds. Errors are of bytes, time and downtime, if there are any. It is not
-    known what is enough if a migration ends late."""
+    """What is predicted: times in microseconds. Errors are of bytes, time and downtime, if there are any."""
 
     converges: str
     kept: str
@@ -198,7 +195,7 @@ class Answer(NamedTuple):
     left: int
     recorded: int
     errors: Optional[tuple[int, int, int]]
-    enough: Optional[remedies.Remedies]
+    enough: remedies.Remedies
     plan: redrawn.Outcome
 
 
@@ -222,7 +219,7 @@ def answer_of(asked: Question, trace: Trace) -> Optional[Answer]:
         plan.left,
         max(0, trace.last - asked.start) * asked.tick,
         redrawn.errors(trace.guest, settings, asked.scale()) if has_errors else None,
-        remedy_model.found_of(trace.guest, asked.trial(), is_late),
+        remedies.remedies(trace.guest, asked.trial()),
         plan,
     )
 
@@ -262,6 +259,11 @@ def units_member(asked: Question) -> dict:
     return {"tick_seconds": seconds(asked.tick), **scale}
 
 
+def errors_member(errors: tuple[int, int, int]) -> dict:
+    sent, time, down = errors
+    return dict(zip(ERRORS, (sent, seconds(time), seconds(down))))
+
+
 def document_of(asked: Question, told: Answer, trace: Trace) -> dict:
     """The document of `precopy-view json predict`, with times as fractions of a second."""
     settings = asked.settings()
@@ -299,8 +301,7 @@ def document_of(asked: Question, told: Answer, trace: Trace) -> dict:
         "left_pages": told.left,
     }
     if told.errors:
-        sent, time_error, down_error = told.errors
-        migration["errors"] = dict(zip(ERRORS, (sent, seconds(time_error), seconds(down_error))))
+        migration["errors"] = errors_member(told.errors)
     return {**document, "migration": migration}
 
 
@@ -350,7 +351,7 @@ class Starts:
 
 
 class Cost(NamedTuple):
-    """What a migration from a start costs."""
+    """What a migration from a start costs, and the standard errors of bytes, time and downtime, if they are counted."""
 
     start: int
     reason: str
@@ -360,6 +361,7 @@ class Cost(NamedTuple):
     down: int
     is_kept: bool
     is_known: bool
+    errors: Optional[tuple[int, int, int]] = None
 
     @staticmethod
     def of(asked: Question, trace: Trace, start: int) -> "Cost":
@@ -371,10 +373,21 @@ class Cost(NamedTuple):
     def prices(self) -> tuple[int, int, int]:
         return self.sent, self.time, self.down
 
-    def preference(self):
-        """The numbers by which the least of some starts is the best, and the greatest the worst."""
-        prices = (self.sent, self.down) if self.is_kept else (self.down, self.sent)
-        return not self.is_kept, *prices, self.time
+    def rated(self, asked: Question, trace: Trace) -> "Cost":
+        """The same with its errors, if a part of the guest was sampled."""
+        if not 2 <= asked.sampled < asked.guest or asked.sampled > 65_536:
+            return self
+        settings = asked.settings()._replace(start=self.start)
+        return self._replace(errors=redrawn.errors(trace.guest, settings, asked.scale()))
+
+    def likely(self) -> int:
+        """The downtime with two standard errors."""
+        return self.down + (2 * self.errors[2] if self.errors else 0)
+
+    def preference(self, limit: int) -> tuple[int, int, int]:
+        """The numbers by which the least of some starts is the best, and the greatest the worst: by how much the limit
+        is likely to be missed counts first."""
+        return self.likely() if self.likely() > limit else 0, self.sent, self.time
 
     def verdict(self) -> str:
         return "unknown" if not self.is_known else "yes" if self.is_kept else "no"
@@ -393,18 +406,26 @@ class Cost(NamedTuple):
             "sent_bytes": self.sent,
             "down_seconds": seconds(self.down),
             "kept": self.verdict(),
+            **({"errors": errors_member(self.errors)} if self.errors else {}),
         }
 
-    def choice(self, name: str, tick: int) -> str:
+    def downtime(self) -> str:
+        """The downtime in words, with its error."""
+        return time_text(self.down) + (f" +- {error_text(self.errors[2])}" if self.errors else "")
+
+    def choice(self, name: str, asked: Question) -> str:
         mark = "kept" if self.is_kept else "not kept"
-        costs = f"time {time_text(self.time)}, sent {size_text(self.sent)}, downtime {time_text(self.down)}, {mark}"
-        return f"{name} {moment_text(self.start * tick)}, --start {self.start}: {costs}"
+        mark += " by less than two standard errors" if self.is_kept and self.likely() > asked.downtime else ""
+        costs = f"time {time_text(self.time)}, sent {size_text(self.sent)}, downtime {self.downtime()}, {mark}"
+        return f"{name} {moment_text(self.start * asked.tick)}, --start {self.start}: {costs}"
 
 
-def chosen(costs: list[Cost]) -> tuple[Optional[Cost], Optional[Cost]]:
-    """The best and the worst start of those that are known."""
+def chosen(costs: list[Cost], asked: Question, trace: Trace) -> tuple[Optional[Cost], Optional[Cost]]:
+    """The best start of those that are known, with their errors, and the worst without."""
     within = [cost for cost in costs if cost.is_known]
-    return min(within, key=Cost.preference, default=None), max(within, key=Cost.preference, default=None)
+    rated = [cost.rated(asked, trace) for cost in within]
+    best = min(rated, key=lambda cost: cost.preference(asked.downtime), default=None)
+    return best, max(within, key=lambda cost: cost.preference(asked.downtime), default=None)
 
 
 # ---- Reports and sweeps, in ticks and pages.

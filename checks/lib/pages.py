@@ -23,11 +23,6 @@ def manuals():
     return sorted(f"man/{name}" for name in os.listdir(os.path.join(TOP, "man")))
 
 
-def read(path):
-    with open(os.path.join(TOP, path), encoding="utf-8") as file:
-        return file.read()
-
-
 def steps(text):
     """The blocks of Python of a page, and its commands with what they print: (kind, words, lines)."""
     lines, at = text.split("\n"), 0

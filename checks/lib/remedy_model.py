@@ -1,8 +1,7 @@
 """What is enough for the limit of a migration, by the model of python/precopy_dev/models/remedies.py, which makes plans
 page by page."""
 
-
-from precopy_dev.models.remedies import Remedies, Trial, remedies
+from precopy_dev.models.remedies import Remedies
 
 LINES = {
     "asked": "enough: what is asked; also one of these, changed alone",
@@ -12,38 +11,41 @@ LINES = {
 }
 
 
-def found_of(guest: list[list[int]], trial: Trial, is_late: bool) -> Remedies | None:
-    """What is enough for a migration of a guest, by the ticks at which each page is written; None if it ends late."""
-    return None if is_late else remedies(guest, trial)
-
-
-def answer_of(found: Remedies | None) -> str:
-    if found is None:
-        return "unknown"
+def answer_of(found: Remedies) -> str:
     if found.is_kept:
         return "asked"
-    return "nothing" if found[1:] == (None, None, None) else "other"
+    if not found.ending.ends:
+        return "unknown"
+    return "nothing" if found[1:4] == (None, None, None) else "other"
 
 
-def enough_lines(found: Remedies | None) -> list[str]:
+def enough_lines(found: Remedies) -> list[str]:
     """The lines of `precopy-view predict`."""
     lines = [LINES[answer_of(found)]]
-    if found and found.link is not None:
+    if found.link is not None:
         lines.append(f"enough: --link {found.link}Kbit")
-    if found and found.downtime is not None:
+    if found.downtime is not None:
         lines.append(f"enough: --downtime {found.downtime}us")
-    if found and found.speed is not None:
+    if found.speed is not None:
         lines.append(f"enough: the guest slowed to {found.speed} per cent of its speed")
+    if found.ending.link is not None:
+        lines.append(f"enough to end within the trace: --link {found.ending.link}Kbit")
+    if found.ending.start is not None:
+        lines.append(f"enough to end within the trace: --start {found.ending.start}")
     return lines
 
 
-def enough_member(found: Remedies | None, seconds) -> dict:
+def enough_member(found: Remedies, seconds) -> dict:
     """The member of `precopy-view json predict`, with times by a function of microseconds."""
     member = {"answer": answer_of(found)}
-    if found and found.link is not None:
+    if found.link is not None:
         member["link_bytes"] = 125 * found.link
-    if found and found.downtime is not None:
+    if found.downtime is not None:
         member["down_seconds"] = seconds(found.downtime)
-    if found and found.speed is not None:
+    if found.speed is not None:
         member["guest_percent"] = found.speed
+    if found.ending.link is not None:
+        member["ending_link_bytes"] = 125 * found.ending.link
+    if found.ending.start is not None:
+        member["ending_start"] = found.ending.start
     return member

@@ -4,10 +4,10 @@ tried again. A case is what somebody would name: a trace, a page of documents, a
 
 import contextlib
 import importlib
+import importlib.util
 import os
 import shutil
 import subprocess
-import sys
 import threading
 import traceback
 
@@ -15,14 +15,14 @@ SECONDS_TO_INSTALL = 300
 # Of the expectations of one case that failed, so many are told.
 MOST_TOLD = 5
 TOOLS = os.path.join(os.path.dirname(os.path.abspath(__file__)), "tools.txt")
-# Where Debian's modules are, if python3 is another than Debian's.
-OF_DEBIAN = "/usr/lib/python3/dist-packages"
 # What this process left out, each with its reason.
 SKIPPED: list[tuple[str, str]] = []
 
 
 class Failure(Exception):
-    """What a check saw that it did not want."""
+    """What a check saw that it did not want, and what the case was drawn from, if that is known."""
+
+    draw = None
 
 
 class LeftOut(Failure):
@@ -50,6 +50,24 @@ def left_out(what: str, why: object) -> None:
     print(f"  SKIPPED {what}: {' '.join(str(why).split())}", flush=True)
 
 
+# What the case that a thread tries was drawn from, as `draw`.
+OF_THREAD = threading.local()
+
+
+def draw_now():
+    return getattr(OF_THREAD, "draw", None)
+
+
+@contextlib.contextmanager
+def drawn_from(draw):
+    """What this thread tries meanwhile was drawn from this, or from nothing that is known."""
+    before, OF_THREAD.draw = draw_now(), draw
+    try:
+        yield
+    finally:
+        OF_THREAD.draw = before
+
+
 class Case:
     """What was expected of a case, and what of it does not hold."""
 
@@ -68,14 +86,17 @@ class Tally:
 
     def __init__(self):
         self.passed, self.failed, self.flaky = 0, 0, []
+        self.failed_draws: list[str] = []
         self.lock = threading.Lock()
 
-    def add(self, good, told) -> bool:
+    def add(self, good, told, draw=None) -> bool:
         """A case of one expectation."""
+        draw = draw or draw_now()
         with self.lock:
             self.passed, self.failed = self.passed + bool(good), self.failed + (not good)
         if not good:
-            print(f"  FAILED {told}", flush=True)
+            self.failed_draws += [draw.line] if draw else []
+            print(f"  FAILED {told}" + (f"\n    drawn: {draw}" if draw else ""), flush=True)
             if "CHECKS_END_EARLY" in os.environ:
                 # Other threads may work on, and would be waited for.
                 print(self, flush=True)
@@ -109,7 +130,7 @@ class Tally:
 
     def add_all(self, other: "Tally") -> None:
         self.passed, self.failed = self.passed + other.passed, self.failed + other.failed
-        self.flaky += other.flaky
+        self.flaky, self.failed_draws = self.flaky + other.flaky, self.failed_draws + other.failed_draws
 
     def __str__(self) -> str:
         return f"{self.passed} passed, {self.failed} failed" + (f", {len(SKIPPED)} skipped" if SKIPPED else "")
@@ -165,16 +186,12 @@ def need(*commands: str) -> None:
 
 
 def module(name: str):
-    """A module of Debian. It leaves the case out if the module is not here and cannot be installed."""
-    with contextlib.suppress(ImportError):
-        return importlib.import_module(name)
+    """A module that Debian has. It leaves the case out if the module is not here and cannot be installed."""
     package = f"python3-{name}"
-    if not os.path.isdir(os.path.join(OF_DEBIAN, name)) and not is_installed([package]):
+    if not importlib.util.find_spec(name) and not is_installed([package]):
         raise LeftOut(f"there is no module {name}, and {package} could not be installed")
-    sys.path.append(OF_DEBIAN)
+    importlib.invalidate_caches()
     try:
         return importlib.import_module(name)
     except ImportError as fault:
-        raise LeftOut(f"the module {name} of {package} cannot be loaded: {fault}") from fault
-    finally:
-        sys.path.remove(OF_DEBIAN)
+        raise LeftOut(f"the module {name} cannot be loaded: {fault}") from fault

@@ -1,8 +1,8 @@
 /*
  * The calls of the library for C, each over the inputs of a guest and three buffers, for checks/library/library.c.
  */
-#include "fences.h"
 #include "precopy.h"
+#include "rooms.h"
 
 #include <string.h>
 
@@ -103,8 +103,8 @@ static uint32_t check_streams(const struct guest *g, struct outputs *out) {
                                  (void *)out->record.at);
 }
 
-/* The first stream of a guest in one piece. The states are what is told; if they stay zeros, they get their pattern back.
- */
+/* The first stream of a guest in one piece. The states are what is told; if they stay zeros, they get their pattern
+ * back. */
 static uint32_t check_piece(const struct guest *g, struct outputs *out) {
     struct precopy_progress progress = {0, 0, 0, UINT32_MAX};
     struct precopy_finding found;

@@ -8,7 +8,7 @@ import sys
 import precopy
 from checks.lib import migration_model
 from checks.lib import traces as all_traces
-from checks.lib.harness import draws
+from checks.lib.harness import drawn, draws
 from checks.lib.library_runs import LIBRARY, is_done, program_says, read, run
 from checks.lib.traces import EXAMPLES, Trace
 from checks.lib.view_texts import report_facts
@@ -20,6 +20,9 @@ from precopy_tools import version
 GENERATED = 500
 WARNINGS = ["-Wall", "-Wextra", "-pedantic", "-Werror"]
 SANITIZERS = ["-fsanitize=address,undefined", "-fno-sanitize-recover=all", "-g", "-O1"]
+# The guard page at which the buffers of a call lie, as checks/library/fences.c is told.
+FENCES = ("front", "behind")
+WITHOUT_BUFFERS = {"precopy_strerror", "precopy_version", "precopy_abi"}
 
 
 # ---- The form of the library, and its header.
@@ -35,20 +38,20 @@ def names_of(header):
 def check_form(tally):
     header = read("include/precopy.h", "r")
     declared, numbers = names_of(header)
-    shared, archive = os.path.join(LIBRARY, "libprecopy.so.2"), os.path.join(LIBRARY, "libprecopy.a")
+    shared, archive = os.path.join(LIBRARY, "libprecopy.so.3"), os.path.join(LIBRARY, "libprecopy.a")
     found = run("nm", "-D", "--defined-only", "-f", "posix", shared).stdout.decode().split("\n")
     exported = {line.split()[0].split("@")[0] for line in found if line and " A " not in line}
-    tally.add(exported == declared, f"libprecopy.so.2 and the header differ in {sorted(exported ^ declared)}")
+    tally.add(exported == declared, f"libprecopy.so.3 and the header differ in {sorted(exported ^ declared)}")
     found = run("nm", "-g", "--defined-only", "-f", "posix", archive).stdout.decode().split("\n")
     exported = {line.split()[0] for line in found if " T " in line or " D " in line or " R " in line}
     tally.add(exported == declared, f"libprecopy.a and the header differ in {sorted(exported ^ declared)}")
     told = run("readelf", "-d", shared).stdout.decode()
-    tally.add("[libprecopy.so.2]" in told and "TEXTREL" not in told, f"readelf -d tells\n{told}")
+    tally.add("[libprecopy.so.3]" in told and "TEXTREL" not in told, f"readelf -d tells\n{told}")
     needed = set(re.findall(r"NEEDED.*\[(.*)\]", told))
-    tally.add(needed <= {"libc.so.6"}, f"libprecopy.so.2 needs {sorted(needed)}")
+    tally.add(needed <= {"libc.so.6"}, f"libprecopy.so.3 needs {sorted(needed)}")
     size = os.path.getsize(shared)
-    tally.add(size < 100 * 1024, f"libprecopy.so.2 has {size} bytes")
-    print(f"libprecopy.so.2 has {size} bytes, libprecopy.a {os.path.getsize(archive)}", flush=True)
+    tally.add(size < 100 * 1024, f"libprecopy.so.3 has {size} bytes")
+    print(f"libprecopy.so.3 has {size} bytes, libprecopy.a {os.path.getsize(archive)}", flush=True)
     # The contracts say the same numbers, but for two that no call answers: a failed read, and threads out of range.
     names = ("Answers", "Places", "Predictions", "StreamChecks")
     files = ["c_layout/specs/Refusals.antt", *(f"precopy_c/specs/{name}.antt" for name in names)]
@@ -161,13 +164,12 @@ def check_beside(tally, program):
         for settings in (precopy.Settings(), few, precopy.Settings(min=2, max=4, increment=1, threshold=1, rounds=8)):
             with tally.case(f"{os.path.basename(path)} with {settings}") as case:
                 compare(case, program, read(path), settings, os.path.basename(path))
-    chosen = draws("beside")
-    for number in range(GENERATED):
+    for chosen in drawn("traces beside the program", range(GENERATED)):
         trace = all_traces.generated(chosen)
-        if number % 2:
+        if chosen.number % 2:
             trace = all_traces.damaged(chosen, trace)
-        with tally.case(f"trace {number} beside the program") as case:
-            compare(case, program, trace, traces.settings(chosen), f"trace {number}")
+        with tally.case(str(chosen)) as case:
+            compare(case, program, trace, traces.settings(chosen), str(chosen))
     # Where a plan stops the guest, a live run leaves what is written before that tick.
     for path in EXAMPLES:
         trace = read(path)
@@ -199,11 +201,10 @@ def check_ends(tally, program, name, values):
 
 
 def check_streams(tally):
-    chosen = draws("streams of frames")
-    for number in range(60):
-        with tally.case(f"stream {number}") as case:
-            check_stream(case, chosen, number)
-    sizes, frames = traces.frames(chosen)
+    for chosen in drawn("streams of frames", range(60)):
+        with tally.case(str(chosen)) as case:
+            check_stream(case, chosen)
+    sizes, frames = traces.frames(draws("a stream that is cut"))
     text = b"".join(traces.frame_text(*frame) for frame in frames)
     ends = traces.ends_of(frames)
     for cut in range(len(text) + 1):
@@ -212,12 +213,12 @@ def check_streams(tally):
         good = taken == max(end for end in ends if end <= cut)
         good = good and traces.taken_of(flat, text[taken:]) == len(text) - taken
         tally.add(good and traces.state(flat) == traces.joined(sizes, frames), f"a stream cut at byte {cut}")
-    for number in range(300):
-        with tally.case(f"damage {number}") as case:
-            check_damage(case, chosen, number)
+    for chosen in drawn("damaged streams", range(300)):
+        with tally.case(str(chosen)) as case:
+            check_damage(case, chosen)
 
 
-def check_stream(tally, chosen, number):
+def check_stream(tally, chosen):
     """Frames that are shuffled, repeated, and come in pieces."""
     sizes, frames = traces.frames(chosen)
     wanted = traces.joined(sizes, frames)
@@ -225,7 +226,7 @@ def check_stream(tally, chosen, number):
     sent = frames * chosen.randint(1, 3)
     chosen.shuffle(sent)
     texts = [precopy.encode_frame(sizes, *frame) for frame in sent]
-    tally.add(all(traces.frame_text(*it) == text for it, text in zip(sent, texts)), f"stream {number}: encodings")
+    tally.add(all(traces.frame_text(*it) == text for it, text in zip(sent, texts)), "encodings")
     pieces, text = [], b"".join(texts)
     while text:
         length = chosen.randint(1, 60)
@@ -234,11 +235,11 @@ def check_stream(tally, chosen, number):
     for piece in pieces:
         rest += piece
         rest = rest[traces.taken_of(flat, rest) :]
-    tally.add(not rest and traces.state(flat) == wanted, f"stream {number}: shuffled, repeated, in pieces")
-    tally.add(flat.missing() == traces.first_missing(sizes, wanted), f"stream {number}: missing {flat.missing()}")
+    tally.add(not rest and traces.state(flat) == wanted, "shuffled, repeated, in pieces")
+    tally.add(flat.missing() == traces.first_missing(sizes, wanted), f"missing {flat.missing()}")
 
 
-def check_damage(tally, chosen, number):
+def check_damage(tally, chosen):
     """A stream of which some bytes are others: the frames in front of the first that is none are taken."""
     sizes, frames = traces.frames(chosen)
     text = bytearray(b"".join(traces.frame_text(*frame) for frame in frames))
@@ -251,22 +252,48 @@ def check_damage(tally, chosen, number):
     except precopy.FrameRefused as refused:
         taken, found = refused.taken, str(refused).split(":")[0]
     good = found == cause and (taken.frames, taken.bytes) == (len(whole), len(text) - len(rest))
-    tally.add(good and traces.state(flat) == traces.joined(sizes, whole), f"damage {number}: {found} {cause} {taken}")
+    tally.add(good and traces.state(flat) == traces.joined(sizes, whole), f"{found} {cause} {taken}")
     if whole:
         frame = precopy.decode_frame(sizes, bytes(text))
-        tally.add((frame.page, frame.stamp, frame.content) == whole[0], f"damage {number}: {frame}")
+        tally.add((frame.page, frame.stamp, frame.content) == whole[0], f"{frame}")
 
 
 # ---- Sanitizers.
 
 
+def fenced():
+    """The names of the calls that have guard pages round their buffers."""
+    return re.findall(r"^\w+ __wrap_(precopy_\w+)\(", read("checks/library/fences.c", "r"), re.M)
+
+
+def check_fences(tally):
+    """Each call of the header that is given a buffer has guard pages, and one of the programs makes it."""
+    declared = names_of(read("include/precopy.h", "r"))[0] - WITHOUT_BUFFERS
+    differ = declared ^ set(fenced())
+    tally.add(not differ, f"the header and checks/library/fences.c differ in {sorted(differ)}")
+    made = re.findall(
+        r"\b(precopy_\w+)\(", "".join(read(f"checks/library/{name}.c", "r") for name in ("rows", "edges"))
+    )
+    tally.add(declared <= set(made), f"no row makes the calls {sorted(declared - set(made))}")
+
+
+def is_compiled(tally, folder, source, *words):
+    """Compiles a program with the sanitizers, which watch its own code, and with guard pages for the library's."""
+    built = os.path.join(folder, os.path.basename(source).removesuffix(".c"))
+    wrapped = [f"-Wl,--wrap={name}" for name in fenced()]
+    words = [*WARNINGS, *SANITIZERS, f"-I{TOP}/include", "-o", built, f"{TOP}/{source}", *words, *wrapped]
+    done = run("cc", *words, f"{TOP}/checks/library/fences.c", os.path.join(LIBRARY, "libprecopy.a"))
+    return is_done(tally, done, f"{source} is compiled with sanitizers")
+
+
 def check_rows(tally, folder):
     """Worked examples of each function; null pointers with length 0, and the order of refusals."""
     for name in ("rows", "edges"):
-        built, source = os.path.join(folder, name), f"checks/library/{name}.c"
-        words = ["-std=c99", *WARNINGS, *SANITIZERS, f"-I{TOP}/include", "-o", built, f"{TOP}/{source}"]
-        if is_done(tally, run("cc", *words, os.path.join(LIBRARY, "libprecopy.a")), f"{source} is compiled"):
-            expect_counts(tally, run(built), source)
+        source = f"checks/library/{name}.c"
+        if is_compiled(tally, folder, source, "-std=c99"):
+            for fence in FENCES:
+                done = run(os.path.join(folder, name), env={**os.environ, "FENCE": fence})
+                expect_counts(tally, done, f"{source}, {fence}")
 
 
 def expect_counts(tally, done, what):
@@ -277,35 +304,29 @@ def expect_counts(tally, done, what):
 
 
 def check_sanitized(tally, folder):
-    driver = os.path.join(folder, "library")
     wrapped = [f"-Wl,--wrap={name}" for name in ("malloc", "realloc", "free")]
-    words = ["-std=c11", *WARNINGS, *SANITIZERS, f"-I{TOP}/include", "-o", driver, f"{TOP}/checks/library/library.c"]
-    done = run("cc", *words, os.path.join(LIBRARY, "libprecopy.a"), *wrapped, "-pthread")
-    if not is_done(tally, done, "checks/library/library.c is compiled with sanitizers"):
+    if not is_compiled(tally, folder, "checks/library/library.c", "-std=c11", *wrapped, "-pthread"):
         return
-    chosen = draws("traces of library.c")
     path = os.path.join(folder, "trace.pcwt")
-    for number in range(40):
-        if number < len(EXAMPLES):
-            shutil.copy(EXAMPLES[number], path)
+    for chosen in drawn("traces of library.c", range(40)):
+        if chosen.number < len(EXAMPLES):
+            shutil.copy(EXAMPLES[chosen.number], path)
         else:
             trace = all_traces.generated(chosen)
             with open(path, "wb") as file:
-                file.write(all_traces.damaged(chosen, trace) if number % 4 == 0 else trace)
+                file.write(all_traces.damaged(chosen, trace) if chosen.number % 4 == 0 else trace)
         tick = str(chosen.choice([0, 5, 100, 2500]))
-        for fence in ("front", "behind"):
-            expect_counts(tally, run(driver, path, tick, fence), f"checks/library/library.c, trace {number}, {fence}")
+        for fence in FENCES:
+            done = run(os.path.join(folder, "library"), path, tick, env={**os.environ, "FENCE": fence})
+            expect_counts(tally, done, f"{chosen}, {fence}")
 
 
 # ---- Examples and what the page on the library shows.
 
 
 def check_c(tally, folder, program):
-    for name in ("plan", "receiver"):
-        words = ["-std=c99", *WARNINGS, *SANITIZERS, f"-I{TOP}/include", "-o", os.path.join(folder, name)]
-        done = run("cc", *words, f"{TOP}/examples/c/{name}.c", os.path.join(LIBRARY, "libprecopy.a"))
-        if not is_done(tally, done, f"examples/c/{name}.c is compiled"):
-            return
+    if not all([is_compiled(tally, folder, f"examples/c/{name}.c", "-std=c99") for name in ("plan", "receiver")]):
+        return
     for path in EXAMPLES:
         trace = read(path)
         wanted = program_says(program, ["report", "--min=500", "--max=4000", "--threshold=10"], trace)
@@ -346,11 +367,15 @@ def check_page(tally, folder):
 
 def check(tally, folder, program):
     """All of it, in a folder that is empty."""
+    check_rows(tally, folder)
+    check_sanitized(tally, folder)
     for name, part, *words in (
         ("the form of the library", check_form),
+        ("guard pages", check_fences),
         ("the header", check_header, folder),
         ("the example at the head of the header", header.check_example, folder),
         ("the version of the header", header.check_version),
+        ("defaults in Python", header.check_defaults, program),
         ("the bound of a report's length", header.check_bound, folder),
         ("what a compiler tells", header.check_warnings, folder),
         ("the examples in C", check_c, folder, program),
@@ -365,7 +390,5 @@ def check(tally, folder, program):
     check_streams(tally)
     streams.check(tally)
     places.check(tally)
-    check_rows(tally, folder)
-    check_sanitized(tally, folder)
     python.check(tally, folder)
     rust.check(tally, folder, program)

@@ -1,9 +1,11 @@
 """Trials of include/precopy.h for checks/library: its example, its version, and what it lets a compiler tell."""
 
+import dataclasses
 import os
 import re
 
-from checks.lib.library_runs import LIBRARY, TOP, is_done, read, run
+from checks.lib.library_runs import LIBRARY, TOP, is_done, program_says, read, run
+from checks.lib.traces import EXAMPLES
 from precopy_tools import version
 
 HEADER = "include/precopy.h"
@@ -58,6 +60,30 @@ def check_version(tally):
     told = re.search(r"^#define PRECOPY_VERSION_NUMBER (\d+)$", read(HEADER, "r"), re.M)
     good = told and int(told[1]) == first * 10_000 + second * 100 + third
     tally.add(good, f"the version of precopy.h is {told and told[1]}, and that of the tools {version.VERSION}")
+
+
+def defaults_of(name):
+    """The members of a struct of the header, with the numbers that its constant of defaults gives them."""
+    header = read(HEADER, "r")
+    members = re.findall(r"^    \w+ (\w+);", re.search(rf"struct precopy_{name} {{\n(.*?)\n}};", header, re.S)[1], re.M)
+    constant = re.search(rf"define PRECOPY_{name.upper()}_DEFAULT\s*\\?\s*{{sizeof\([^)]*\), ([\d, ]+)}}", header)[1]
+    return dict(zip(members[1:], map(int, constant.split(", ")), strict=True))
+
+
+def check_defaults(tally, program):
+    """The defaults in Python are those of the header, and settings without options are those of the program."""
+    import precopy  # noqa: PLC0415
+
+    for name, made in (("settings", precopy.Settings()), ("question", precopy.Question(link=0, downtime=0))):
+        wanted = defaults_of(name)
+        for member in wanted.keys() & {field.name for field in dataclasses.fields(made)}:
+            found, is_there = getattr(made, member), wanted.get(f"has_{member}", 1)
+            good = found == wanted[member] if is_there else found is None
+            tally.add(good, f"in Python the {member} of {name} is {found} without a word, and {wanted} in C")
+    for path in EXAMPLES:
+        trace = read(path)
+        found, wanted = precopy.report(trace, precopy.Settings()), program_says(program, ["report"], trace)
+        tally.add(found.encode() == wanted, f"in Python a report without settings is {found}, not {wanted!r:.500}")
 
 
 def check_bound(tally, folder):

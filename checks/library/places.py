@@ -3,7 +3,7 @@ works them out from the bytes of the trace."""
 
 import precopy
 from checks.lib import stream_model
-from checks.lib.harness import draws
+from checks.lib.harness import drawn
 from checks.lib.traces import generated
 
 TRACES = 150
@@ -57,9 +57,8 @@ def check_steps(tally, trace, guest, chosen):
 
 
 def check(tally):
-    chosen = draws("places")
-    for number in range(TRACES):
-        with tally.case(f"places of trace {number}") as case:
+    for chosen in drawn("places in traces", range(TRACES)):
+        with tally.case(str(chosen)) as case:
             check_trace(case, generated(chosen), chosen)
 
 

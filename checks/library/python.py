@@ -15,13 +15,13 @@ import tracemalloc
 
 import precopy
 from checks.lib import traces as all_traces
-from checks.lib.harness import draws
+from checks.lib.harness import drawn, draws
 from checks.lib.tally import LeftOut
 from checks.lib.traces import header, record
 from checks.library import traces
 from precopy_dev.tree import TOP
 
-LIBRARY = os.path.join(TOP, "out", "library", "libprecopy.so.2")
+LIBRARY = os.path.join(TOP, "out", "library", "libprecopy.so.3")
 SECONDS = 300
 HOSTILE = [-1, 1 << 31, 1 << 32, (1 << 32) + 1, (1 << 32) + 4, 1 << 63, 1 << 64, (1 << 64) + 1, 10**5000]
 HOSTILE += [-(1 << 31), -(1 << 32), -(1 << 63), -(1 << 64), -(10**30)]
@@ -202,13 +202,12 @@ def check_kinds(tally, name, data, call, folder):
 
 
 def check_bytes(tally, folder):
-    chosen = draws("bytes")
-    for number in range(20):
+    for chosen in drawn("traces over all kinds of bytes", range(20)):
         trace = all_traces.generated(chosen)
         frames = [(chosen.randrange(3), chosen.randrange(21), chosen.choice([bytes(16), PAGE])) for _ in range(5)]
         stream = b"".join(traces.frame_text(*frame) for frame in frames)
         for name, data, call in taking_bytes(trace, stream):
-            with tally.case(f"bytes in Python: {name}, trace {number}") as case:
+            with tally.case(f"bytes in Python: {name}, {chosen}") as case:
                 check_kinds(case, name, data, call, folder)
 
 
@@ -275,14 +274,14 @@ def check_refusal(tally, trace, wanted):
 
 def check_refusals(tally):
     """A refused record is named by each call over a trace, and a refusal goes from process to process."""
-    chosen, settings, named = draws("refusals"), precopy.Settings(), 0
-    for number in range(200):
+    settings, named = precopy.Settings(), 0
+    for chosen in drawn("damaged traces", range(200)):
         trace = all_traces.damaged(chosen, all_traces.generated(chosen))
         try:
             precopy.check_trace(trace)
         except precopy.TraceRefused as fault:
             named += fault.record is not None
-            with tally.case(f"damaged trace {number} in Python") as case:
+            with tally.case(f"{chosen} in Python") as case:
                 check_refusal(case, trace, fault)
     tally.add(named > 20, f"only {named} damaged traces have a record that is named")
     tally.add(outcome(precopy.plan, b"", settings) == "Refused", "a trace without bytes")
@@ -295,8 +294,8 @@ def check_refusals(tally):
 
 def check_flat(tally):
     """Frames that stand in the memory that takes them, and threads that share one memory."""
-    chosen, frame = draws("flat"), precopy.encode_frame(SIZES, 0, 7, bytes(range(1, 17)))
-    for number in range(100):
+    frame = precopy.encode_frame(SIZES, 0, 7, bytes(range(1, 17)))
+    for chosen in drawn("frames in memory", range(100)):
         sizes = precopy.Sizes(4, 6, 20)
         frames = [(chosen.randrange(6), chosen.randrange(21), chosen.randbytes(16)) for _ in range(3)]
         stream, start = b"".join(traces.frame_text(*it) for it in frames), chosen.randrange(96 - 75)
@@ -305,16 +304,16 @@ def check_flat(tally):
             each.memory[start : start + len(stream)] = stream
         good = wanted.accept(stream) == flat.accept(memoryview(flat.memory)[start : start + len(stream)])
         good = good and traces.state(flat) == traces.state(wanted)
-        tally.add(good, f"frames that stand in the memory that takes them, {number}")
+        tally.add(good, f"frames that stand in the memory that takes them, {chosen}")
     check_turns(tally)
-    for number in range(10):
+    for chosen in drawn("frames of eight threads", range(10)):
         sizes, frames = traces.frames(chosen)
         frames *= 40
         chosen.shuffle(frames)
         flat = precopy.FlatMemory(sizes)
         with concurrent.futures.ThreadPoolExecutor(8) as threads:
             list(threads.map(lambda it: flat.accept(traces.frame_text(*it)), frames))
-        tally.add(traces.state(flat) == traces.joined(sizes, frames), f"eight threads and one memory, {number}")
+        tally.add(traces.state(flat) == traces.joined(sizes, frames), f"eight threads and one memory, {chosen}")
     flat = precopy.FlatMemory(SIZES)
     del flat.memory[5:]
     tally.add(outcome(flat.accept, frame) == "Refused", "memory that was cut")

@@ -7,7 +7,7 @@ import shutil
 
 import precopy
 from checks.lib import traces as all_traces
-from checks.lib.harness import draws
+from checks.lib.harness import drawn, draws
 from checks.lib.library_runs import LIBRARY, TOP, is_done, program_says, read, run
 from checks.lib.tally import left_out, why_not
 from checks.lib.traces import EXAMPLES, Trace
@@ -74,8 +74,10 @@ def prediction_lines(it):
 
 
 def amounts_line(it):
-    words = ["-" if amount is None else str(amount) for amount in (it.link, it.downtime, it.speed)]
-    return f"enough {str(it.is_kept).lower()} {' '.join(words)}"
+    amounts = (it.link, it.downtime, it.speed, it.ending_link, it.ending_start)
+    link, downtime, speed, *ending = ["-" if amount is None else str(amount) for amount in amounts]
+    is_kept, ends = str(it.is_kept).lower(), str(it.ends).lower()
+    return f"enough {is_kept} {link} {downtime} {speed} {ends} {' '.join(ending)}"
 
 
 def answer_lines(trace, settings):
@@ -114,17 +116,16 @@ def check_crate(tally, crate, target, environment):
     is_done(tally, run("cargo", "doc", "--offline", cwd=crate, env=warned), "cargo doc of bindings/rust")
     if not is_done(tally, run("cargo", "build", "--offline", "--examples", cwd=crate, env=environment), "answers.rs"):
         return
-    chosen = draws("answers.rs")
-    for number in range(200):
+    for chosen in drawn("answers.rs", range(200)):
         trace, settings = all_traces.generated(chosen), traces.settings(chosen)
-        trace = all_traces.damaged(chosen, trace) if number % 3 == 0 else trace
-        if number % 10 == 9:
+        trace = all_traces.damaged(chosen, trace) if chosen.number % 3 == 0 else trace
+        if chosen.number % 10 == 9:
             settings = dataclasses.replace(settings, rounds=chosen.choice([0, 65, (1 << 64) - 1]))
         base = "-" if settings.base is None else settings.base
         words = [getattr(settings, it) for it in "min max increment threshold rounds start window hot".split()]
         done = run(f"{target}/debug/examples/answers", *map(str, [*words, base, int(settings.skip)]), input=trace)
         wanted = "".join(f"{line}\n" for line in answer_lines(trace, settings))
-        tally.add(done.stdout.decode() == wanted, f"answers.rs of trace {number}: {done}, and in Python\n{wanted}")
+        tally.add(done.stdout.decode() == wanted, f"{chosen}: {done}, and in Python\n{wanted}")
 
 
 def check_example(tally, folder, source, target, environment, program):

@@ -2,13 +2,14 @@
 tool over it, tools/check, tells worked examples."""
 
 import collections
+import itertools
 import os
 import tempfile
 import time
 
 import precopy
 from checks.lib import stream_model, stream_rows
-from checks.lib.harness import draws
+from checks.lib.harness import drawn, draws
 from checks.lib.library_runs import TOP, run
 from checks.lib.stream_rows import frame
 from checks.lib.traces import generated, header, record
@@ -111,7 +112,7 @@ def is_named(told, page, at, number, offset, length):
     return told[1] == at and told[2] in (number, number + 1) and offset <= told[3] <= offset + length
 
 
-def trial(chosen, tally, number):
+def trial(chosen, tally):
     """Plants a mistake in streams of a random trace. Returns which, or None if nothing is wrong with it: its frame has
     no room for the mistake, or is as right as before."""
     trace = generated(chosen)
@@ -121,10 +122,10 @@ def trial(chosen, tally, number):
     texts = texts_of(guest, streams)
     right = [b"".join(it) for it in texts]
     found = precopy.check_streams(trace, stop, right)
-    tally.add(found is None, f"streams {number}: {found} where nothing was planted")
+    tally.add(found is None, f"{found} where nothing was planted")
     tick = chosen.choice([0, stop, guest.ticks[stop - 1] if stop else 0, 1 << 40])
     count = precopy.writes_before(trace, tick)
-    tally.add(count == guest.writes_before(tick), f"streams {number}: {count} writes before tick {tick}")
+    tally.add(count == guest.writes_before(tick), f"{count} writes before tick {tick}")
     at = chosen.choice([at for at, it in enumerate(streams) if it])
     place, mistake = chosen.randrange(len(streams[at])), chosen.choice(MISTAKES)
     offset = sum(map(len, texts[at][:place]))
@@ -133,7 +134,7 @@ def trial(chosen, tally, number):
     sent = [b"".join(it) for it in texts]
     wrong = stream_model.first_wrong(guest, stop, sent)
     told = stream_rows.told_by_library(precopy.check_streams(trace, stop, sent))
-    name = f"streams {number}: {mistake.__name__} in frame {place} of stream {at}"
+    name = f"{mistake.__name__} in frame {place} of stream {at}"
     tally.add(told == stream_rows.told_by_model(wrong), f"{name}: the library tells {told}, and the model {wrong}")
     pieces = stream_rows.told_by_library(in_pieces(chosen, trace, stop, sent))
     tally.add(pieces == told, f"{name}: in pieces the library tells {pieces}, and at once {told}")
@@ -220,10 +221,12 @@ def check_speed(tally):
 
 
 def check(tally):
-    chosen, planted, number = draws("mistakes"), collections.Counter(), 0
-    while planted.total() < TRIALS:
-        with tally.case(f"streams {number}") as case:
-            if name := trial(chosen, case, number):
+    planted, number = collections.Counter(), 0
+    for chosen in drawn(
+        "mistakes in streams", itertools.takewhile(lambda _: planted.total() < TRIALS, itertools.count())
+    ):
+        with tally.case(str(chosen)) as case:
+            if name := trial(chosen, case):
                 planted[name] += 1
         number += 1
     tally.add(len(planted) == len(MISTAKES), f"of the mistakes only {sorted(planted)} were planted")

@@ -2,7 +2,8 @@
 
     checks/run lint
 
-The tools are those of TOOLS. One that is missing and cannot be installed is left out. A tool is a case.
+The tools are those of TOOLS. One that is missing and cannot be installed is left out. A tool is a case. One more says
+that no line outside of crates/ has more than 120 columns, in whatever language.
 """
 
 import os
@@ -16,6 +17,10 @@ from precopy_dev.tree import TOP
 
 # Headers whose layout is by hand: a line for each status and field, with what it means.
 BY_HAND = ("include/precopy.h", "packaging/status_texts.h")
+# Of the first two a row, or a question, is one line by its format, and the others are no text. Of crates/ `rt fmt` sees
+# to it.
+WIDE = ("crates.txt", ".dashboard.json", ".tsv", ".lock", ".pcwt", ".png", ".stream")
+COLUMNS = 120
 SHELL = re.compile(rb"#!.*\b(?:sh|bash)\n")
 
 
@@ -53,11 +58,22 @@ TOOLS = (
     ("shellcheck", "shellcheck", ["-x"], shell_scripts),
     ("codespell", "codespell", [], texts),
     ("clang-format", "clang-format", ["--dry-run", "--Werror"], ending(".c", ".h")),
-    ("rustfmt", "rustfmt", ["--check", "--config", "max_width=120"], rust),
+    ("rustfmt", "rustfmt", ["--check"], rust),
 )
 
 
+def too_wide() -> Iterator[str]:
+    for path in sources():
+        if not path.endswith(WIDE) and not path.startswith("crates/"):
+            with open(os.path.join(TOP, path), encoding="utf-8") as file:
+                for number, line in enumerate(file, 1):
+                    if len(line.rstrip("\n").expandtabs()) > COLUMNS:
+                        yield f"{path}:{number}"
+
+
 def check(tally, _) -> None:
+    wide = list(too_wide())
+    tally.add(not wide, f"lines of more than {COLUMNS} columns: {', '.join(wide)}")
     for command, package, words, files in TOOLS:
         if has(command, package, "its rules"):
             done = subprocess.run([command, *words, *files()], cwd=TOP, capture_output=True, text=True)

@@ -8,11 +8,13 @@ start, there must be a number. With little room for addresses a job gives its wh
 it may have, and the whole output if it has enough room. A run is a case.
 """
 
+import bisect
 import re
 from collections import Counter
 from concurrent.futures import ThreadPoolExecutor
 
-from checks.lib.harness import draws, expect, run, run_main
+from checks.lib.harness import drawn, expect, run, run_main
+from checks.lib.tally import drawn_from
 from checks.lib.traces import EXAMPLES, Trace
 
 AT_ONCE, LIVE_RUNS = 2, 1000
@@ -66,9 +68,9 @@ def settings(draw, trace):
     return words_of(plan) + skip, words_of(crew)
 
 
-def live_run(program, trace, drawn, at_stop, seen):
+def live_run(program, trace, words, at_stop, seen):
     """One live run, and what is seen in it."""
-    plan, crew = drawn
+    plan, crew = words
     report = run([program, "report", *plan], trace.text)
     stop = re.search(rb"^stop (\w+) at (\d+) ", report.output, re.M)
     expect(report.status == 0 and stop, f"report {' '.join(plan)}: {report}")
@@ -91,17 +93,18 @@ def expect_seen(seen):
 
 
 def live_runs(tally, program, traces):
-    seen, draw = Counter(), draws("live runs")
+    seen = Counter()
 
-    def one(number):
+    def one(draw):
         # The recorded trace of a real program more often than the short ones.
         trace = draw.choices(traces, [8 if len(it.records) > 100 else 1 for it in traces])[0]
-        drawn, at_stop = settings(draw, trace), number % 2 == 1
-        told = f"live {' '.join(drawn[0] + drawn[1] + ['--at-stop'] * at_stop)} < examples/{trace}"
-        return pool.submit(tally.tries, told, live_run, program, trace, drawn, at_stop, seen)
+        words, at_stop = settings(draw, trace), draw.number % 2 == 1
+        told = f"live {' '.join(words[0] + words[1] + ['--at-stop'] * at_stop)} < examples/{trace}"
+        with drawn_from(draw):
+            tally.tries(told, live_run, program, trace, words, at_stop, seen)
 
     with ThreadPoolExecutor(AT_ONCE) as pool:
-        for each in [one(number) for number in range(LIVE_RUNS)]:
+        for each in [pool.submit(one, draw) for draw in drawn("live runs", range(LIVE_RUNS))]:
             each.result()
     print(f"live runs: {dict(seen)}", flush=True)
     tally.tries("what was seen in live runs", expect_seen, seen)
@@ -128,15 +131,13 @@ MOST_ROOM = 1 << 20
 
 def least_room(program):
     """The least room, in KiB, with which the program gets to read its words."""
-    low, high = 64, MOST_ROOM
-    while high - low > 16:
-        middle = (low + high) // 2
-        done = run(limited(middle, [program, "sweep"]), b"")
-        if done.status in (1, 2) and b"error while loading" not in done.faults:
-            high = middle
-        else:
-            low = middle
-    return high
+
+    def is_enough(room):
+        done = run(limited(room, [program, "sweep"]), b"")
+        return done.status in (1, 2) and b"error while loading" not in done.faults
+
+    rooms = range(64, MOST_ROOM, 16)
+    return rooms[bisect.bisect_left(rooms, True, key=is_enough)]
 
 
 def jobs_of(program, trace):

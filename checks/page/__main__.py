@@ -1,44 +1,38 @@
 """Tests the planner's page in a headless Chromium, and what users do with it in Firefox too.
 
-    checks/run page [PRECOPY [MODULE]]
-    checks/run page --pictures FOLDER [PRECOPY [MODULE]]
-    checks/run page --only PART [PRECOPY [MODULE]]
+    checks/run page [--seed N] [--only PART] [--pictures FOLDER] [--module MODULE] [PRECOPY]
 
-PRECOPY is crates/precopy/out/precopy of this repository if none is given, and MODULE the WebAssembly module, by default
-out/browser_planner.wasm, which `make page` builds; if it is missing, dev/page-module builds it. The page is joined
-from web/. Numbers that it shows for 400 random settings over 20 traces must be those of `precopy report` and `precopy
-sweep`, and the words that it gives for `precopy-view predict` and `when` ask for the same; what a click takes as enough
-for the limit keeps it. Each damage of the table in docs/FORMATS.md is refused by its name; a trace of `2^28` bytes is
-planned, or refused in a sentence. Fifty traces of all shapes plan at once. No task of the page's own thread works for
-more than 50 ms, however large the trace. The page opens no connection, fits widths from 360 to 1,920 pixels in each
-state, has contrasts of 4.5 for text and 3 for marks in light and in dark, and a name of its own for each control. In
-tables points are below each other, and no plan has a gap beside it, on paper neither. If Node is there,
-web/engine/planner.js plans the same in it, and the tests of checks/page/modules pass. Without Chromium all but sizes
-and Node are left out, and a line says so. The last line is 'N passed, M failed'; the status is 0 if something was tried
-and nothing failed.
+MODULE is the WebAssembly module, by default out/browser_planner.wasm, which `make page` builds; if it is missing,
+dev/page-module builds it. The page is joined from web/. Numbers that it shows for 400 random settings over 20 traces
+must be those of `precopy report` and `precopy sweep`, and the words that it gives for `precopy-view predict` and `when`
+ask for the same; what a click takes as enough for the limit keeps it. Each damage of the table in docs/FORMATS.md is
+refused by its name; a trace of `2^28` bytes is planned, or refused in a sentence. Fifty traces of all shapes plan at
+once. No task of the page's own thread works for more than 50 ms, however large the trace. The page opens no connection,
+fits widths from 360 to 1,920 pixels in each state, has contrasts of 4.5 for text and 3 for marks in light and in dark,
+and a name of its own for each control. In tables points are below each other, and no plan has a gap beside it, on paper
+neither. If Node is there, web/engine/planner.js plans the same in it, and the tests of checks/page/modules pass.
+Without Chromium all but sizes and Node are left out.
 
 With --pictures only looks are tried, in Chromium, and FOLDER gets them for a reader's eye: a PNG of each state of the
 page at each width, in light and in dark; PDFs of what is printed; and the files that the page saves. With --only one
 part is tried: `node`, `firefox`, or in Chromium `numbers`, `starts`, `damages`, `addresses`, `uses`, `states`, `looks`,
-`loads` or `silence`.
+`loads` or `silence`; or one trial of these by the name of its function, as `check_told`.
 """
 
-import argparse
 import copy
 import json
 import os
-import random
 import re
 import subprocess
-import sys
 import tempfile
 
 from checks.lib.amount_texts import error_text, moment_text, size_text, time_text
-from checks.lib.tally import Tally, has, left_out
+from checks.lib.harness import drawn, run_main
+from checks.lib.tally import drawn_from, has, left_out
 from checks.lib.view_texts import TOP, Failure, ran, report_facts, sweep_facts, told
 from checks.page import addresses, cases, enough, loads
 from checks.page import looks as page_looks
-from checks.page import states, uses, worker
+from checks.page import records, states, uses, worker
 from checks.page.browser import Browser
 from checks.page.firefox import Firefox
 from checks.page.node import node_command, put_web
@@ -49,8 +43,15 @@ from checks.view.quantity_cases import amounts, quantities, texts_of
 MOST_MODULE, MOST_PAGE = 65_536, 400_000
 VIEW = os.path.join(TOP, "crates", "precopy_view", "out", "precopy_view")
 IN_CHROMIUM = ["numbers", "starts", "damages", "addresses", "uses", "states", "looks", "loads", "silence"]
+# The trials of a page that need nothing else, by their functions' names.
+TRIALS = {
+    act.__name__: (words, act)
+    for words, act in [*uses.USES.items(), *records.RECORDS.items(), *page_looks.LOOKS.items()]
+}
 # The standard error of a start's downtime.
 ERROR = re.compile(" \u00b1 ([^,]+)")
+# For how many of the random settings it must be compared what is enough for the limit.
+LEAST_COMPARED = 60
 STARTS_OF, STARTS_TIMES = ["gzip.pcwt", "guests/sqlite.light.pcwt"], 4
 
 
@@ -119,6 +120,8 @@ def node_facts(asked, report):
         "rounds": [list(row.values())[1:] for row in report["rounds"]],
         "stop": list(report["stop"].values()),
         "settings": list(asked.settings()),
+        "map": [[row["pages"], row["sent"], row["dirtied"]] for row in report["rounds"]]
+        + [[report["stop"]["pages"], report["stop"]["pages"], 0]],
         "isSame": True,
         "answer": [str(figures[name]) for name in ("time", "sent", "down", "recorded", "kept", "converges")],
     }
@@ -173,16 +176,24 @@ def check_node(tally, folder, module, precopy):
         ran = subprocess.run(words, input=json.dumps(questions).encode(), capture_output=True, check=False)
         if not tally.add(ran.returncode == 0, f"Node: {ran.stderr.decode()[:300]}"):
             continue
-        for asked, found in zip(fitting, json.loads(ran.stdout)):
-            report = report_facts(told(precopy, ["report", *asked.words()], known.path))
-            drawn, remedies = found.pop("errors"), found.pop("remedies")
-            tally.add(found == node_facts(asked, report), f"in Node {known}, {asked.fragment()}: {found['stop']}")
-            if known.pages <= cases.SMALL:
-                wanted = cases.drawn_errors(asked)
-                tally.add(drawn == (wanted and list(wanted)), f"in Node {known}, {asked.fragment()}: {drawn}, {wanted}")
-                wanted = enough.remedies_of(asked, asked.limits()[1], asked.settings()[2])
-                wanted = [wanted.is_kept, *(None if amount is None else str(amount) for amount in wanted[1:])]
-                tally.add(remedies == wanted, f"in Node {known}, {asked.fragment()}: {remedies}, {wanted}")
+        for asked, found in zip(fitting, json.loads(ran.stdout), strict=True):
+            with drawn_from(asked.draw), tally.case(f"in Node {known}, {asked.fragment()}") as case:
+                compare_in_node(case, precopy, asked, found)
+
+
+def compare_in_node(case, precopy, asked, found):
+    """What the module answers beside the lines of a report; of a small sample also its errors, and what is enough."""
+    report = report_facts(told(precopy, ["report", *asked.words()], asked.known.path))
+    errors, remedies = found.pop("errors"), found.pop("remedies")
+    case.add(found == node_facts(asked, report), f"{found['stop']}")
+    if asked.known.pages <= cases.SMALL:
+        wanted = cases.drawn_errors(asked)
+        case.add(errors == (wanted and list(wanted)), f"{errors}, {wanted}")
+        wanted = enough.remedies_of(asked, asked.limits()[1], asked.settings()[2])
+        amounts = (*wanted[1:4], *wanted.ending[1:])
+        amounts = [None if amount is None else str(amount) for amount in amounts]
+        wanted = [wanted.is_kept, wanted.ending.ends, *amounts]
+        case.add(remedies == wanted, f"{remedies}, {wanted}")
 
 
 # ---- Numbers.
@@ -196,7 +207,10 @@ def check_numbers(tally, page, precopy, folder):
         page.load(known.path)
         page.browser.value("document.getElementById('windows-details').open = true")
         for asked in some:
-            tried(tally, f"{known}, {asked.fragment()}", check_one, page, precopy, asked, has_view)
+            with drawn_from(asked.draw):
+                tried(tally, f"{known}, {asked.fragment()}", check_one, page, precopy, asked, has_view)
+    told = f"what is enough was compared for {len(enough.COMPARED)} settings, of {LEAST_COMPARED} at least"
+    tally.add(len(enough.COMPARED) >= LEAST_COMPARED, told)
 
 
 def check_one(page, precopy, asked, has_view):
@@ -204,18 +218,23 @@ def check_one(page, precopy, asked, has_view):
     document = cases.predicted(VIEW, asked, found) if has_view and not asked.refusal() else None
     cases.check_facts(precopy, asked, found, document)
     if not asked.refusal():
-        enough.check_enough(asked, page, document)
+        enough.check_enough(asked, page, found, document)
         enough.check_taken(asked, page, precopy)
 
 
 def start_prices(asked, line, start):
-    """What a migration from a start costs: whether it is kept, and its prices."""
+    """What a migration from a start costs: its price with its standard errors, that without, and what it comes to. The
+    errors of a large sample are unknown here."""
     _, _, limit, reserve = asked.limits()
     down = line["down"] * asked.tick + reserve
     time = (line["at"] - start) * asked.tick + down
     sent = asked.bytes(line["total"])
-    is_kept = down <= limit
-    return (not is_kept, *((sent, down) if is_kept else (down, sent)), time), (time, sent, down, is_kept)
+    place = copy.copy(asked)
+    place.start = start
+    drawn = cases.drawn_errors(place) if asked.known.pages <= cases.SMALL else None
+    likely = down + (2 * drawn[2] if drawn else 0)
+    prices = [(some if some > limit else 0, sent, time) for some in (likely, down)]
+    return *prices, (time, sent, down, down <= limit)
 
 
 def start_ticks(asked, last):
@@ -225,10 +244,9 @@ def start_ticks(asked, last):
     return range(first, max(first, last) + 1, every)
 
 
-def check_starts(page, precopy, name, seed):
+def check_starts(page, precopy, name, draw):
     """Compares the best and the worst start with those of the lines of `precopy sweep`, and of `precopy-view when`."""
     known = Known(cases.example(name))
-    draw = random.Random(f"{name} {seed}")
     asked = next(some for some in iter(lambda: cases.Asked(draw, known), None) if not some.refusal())
     page.load(known.path)
     page.ask(asked.fragment())
@@ -249,8 +267,13 @@ def check_starts(page, precopy, name, seed):
         if line["at"] <= known.last:
             costs.append((*start_prices(asked, line, start), start))
     wanted, chosen = [], []
-    for title, choice in (("Best", min), ("Worst", max)) if costs else ():
-        _, (time, sent, down, is_kept), start = choice(costs, key=lambda cost: cost[0])
+    best, worst = (lambda cost: cost[0]), (lambda cost: cost[1])
+    if costs and 2 <= asked.sampled < asked.guest and known.pages > cases.SMALL:
+        # No model counts the errors of a large sample: the program tells which start is the best with them.
+        first = best_told(page.browser.value("textOf('command-when')"), known.path)
+        best = lambda cost: cost[3] != first  # noqa: E731
+    for title, choice, price in (("Best", min, best), ("Worst", max, worst)) if costs else ():
+        _, _, (time, sent, down, is_kept), start = choice(costs, key=price)
         chosen.append(start)
         cost = (
             f"time {time_text(time)}, sent {size_text(sent)}, "
@@ -267,6 +290,14 @@ def check_starts(page, precopy, name, seed):
         raise Failure(f"{words!r} for {len(ticks)} starts")
     if os.access(VIEW, os.X_OK):
         check_when(page.browser.value("textOf('command-when')"), known.path, len(ticks), chosen)
+
+
+def best_told(words, path):
+    """The best start by the words that the page gives for `precopy-view when`."""
+    _, text, faults = ran(VIEW, ["json", *words.removesuffix(" < TRACE").split()[1:]], path)
+    if faults:
+        raise Failure(f"{words}: {faults}")
+    return json.loads(text)["best"]["start"]
 
 
 def check_errors(asked, known, found, chosen):
@@ -347,8 +378,8 @@ def in_chromium(act, tally, path, *words):
 
 def all_starts(tally, page, precopy):
     for name in STARTS_OF:
-        for seed in range(STARTS_TIMES):
-            tried(tally, f"starts of {name}, {seed}", check_starts, page, precopy, name, seed)
+        for draw in drawn(f"starts of {name}", range(STARTS_TIMES)):
+            tried(tally, str(draw), check_starts, page, precopy, name, draw)
 
 
 def all_damages(tally, page, folder):
@@ -362,7 +393,7 @@ def all_uses(tally, page, folder, precopy, only):
         "starts": lambda: all_starts(tally, page, precopy),
         "damages": lambda: all_damages(tally, page, folder),
         "addresses": lambda: addresses.check_addresses(tally, page, tried),
-        "uses": lambda: uses.check_uses(tally, page, folder),
+        "uses": lambda: uses.check_uses(tally, page),
         "states": lambda: looks(tally, page),
         "looks": lambda: page_looks.check_looks(tally, page, tried),
         "loads": lambda: loads.check_loads(tally, page, folder),
@@ -371,8 +402,10 @@ def all_uses(tally, page, folder, precopy, only):
     page.open()
     page.wait_for_plan()
     for name, act in parts.items():
-        if only in (None, name):
+        if not only or name in only:
             act()
+    for words, act in (TRIALS[name] for name in only or () if name in TRIALS):
+        tried(tally, words, act, page)
 
 
 def looks(tally, page, pictures=None):
@@ -380,11 +413,11 @@ def looks(tally, page, pictures=None):
     tried(tally, "traces of other shapes", page_looks.check_shapes, page, pictures)
 
 
-def in_firefox(tally, folder, path):
+def in_firefox(tally, path):
     """What users do with the page, in the other kind of browser."""
     with Firefox() as browser:
         browser.begin_with(COLLECTOR)
-        uses.check_uses(tally, Page(browser, path), folder)
+        uses.check_uses(tally, Page(browser, path))
 
 
 def check_pictures(tally, path, pictures):
@@ -392,37 +425,33 @@ def check_pictures(tally, path, pictures):
         tried(tally, "the browser", in_chromium, looks, tally, path, pictures)
 
 
-def check_all(tally, folder, module, path, precopy, only=None):
+def check_all(tally, folder, module, path, precopy, only):
     check_sizes(tally, folder, module, path)
-    if only in (None, "node"):
+    if not only or "node" in only:
         check_node(tally, folder, module, precopy)
-    if only in (None, *IN_CHROMIUM) and has("chromium", "chromium", "the page in a browser"):
+    is_in_chromium = not only or not set(only).isdisjoint({*IN_CHROMIUM, *TRIALS})
+    if is_in_chromium and has("chromium", "chromium", "the page in a browser"):
         tried(tally, "the browser", in_chromium, all_uses, tally, path, folder, precopy, only)
-    if only in (None, "firefox") and has("firefox-esr", "firefox-esr", "what users do, in Firefox"):
-        tried(tally, "Firefox", in_firefox, tally, folder, path)
+    if (not only or "firefox" in only) and has("firefox-esr", "firefox-esr", "what users do, in Firefox"):
+        tried(tally, "Firefox", in_firefox, tally, path)
 
 
-def main():
-    parser = argparse.ArgumentParser(description=__doc__, formatter_class=argparse.RawDescriptionHelpFormatter)
-    parser.add_argument("--pictures", metavar="FOLDER")
-    parser.add_argument("--only", metavar="PART", choices=["node", "firefox", *IN_CHROMIUM])
-    parser.add_argument("precopy", nargs="?", default=os.path.join(TOP, "crates", "precopy", "out", "precopy"))
-    parser.add_argument("module", nargs="?")
-    asked = parser.parse_args()
-    precopy, tally = os.path.abspath(asked.precopy), Tally()
+def check(tally, given):
+    if unknown := set(given.only or ()) - {"node", "firefox", *IN_CHROMIUM, *TRIALS}:
+        tally.add(False, f"there is no part {sorted(unknown)}")
+        return
     with tempfile.TemporaryDirectory() as folder:
-        try:
-            module, path = built_page(folder, asked.module and os.path.abspath(asked.module))
-        except (OSError, subprocess.CalledProcessError) as error:
-            tally.add(False, f"the page was not built: {error}")
+        module, path = built_page(folder, given.module)
+        if given.pictures:
+            check_pictures(tally, path, given.pictures)
         else:
-            if asked.pictures:
-                check_pictures(tally, path, asked.pictures)
-            else:
-                check_all(tally, folder, module, path, precopy, asked.only)
-    print(tally)
-    return 0 if tally.passed and not tally.failed else 1
+            check_all(tally, folder, module, path, given.precopy, given.only)
+
+
+def more(parser):
+    parser.add_argument("--pictures", metavar="FOLDER")
+    parser.add_argument("--module", type=os.path.abspath)
 
 
 if __name__ == "__main__":
-    sys.exit(main())
+    run_main(check, __doc__, "precopy", more=more)

@@ -17,6 +17,8 @@ PROTOTYPES = [
     "__defineGetter__",
 ]
 KEYS = [
+    "skip",
+    "ticks",
     "link",
     "first",
     "increase",
@@ -24,12 +26,10 @@ KEYS = [
     "reserve",
     "start",
     "rounds",
-    "skip",
     "base",
     "tick",
     "sample",
     "window",
-    "ticks",
 ]
 UNITS = {"link": "Gbit", "downtime": "s", "reserve": "ms", "tick": "us"}
 ODD = ["", "-1", "1e9", "NaN", "0x10", "%", "%00", "%F0%9F%98%80", "1" * 400, "<script>", "null", "1/0", "0/1", "0/0"]
@@ -54,8 +54,7 @@ FRESH_EVERY = 10
 
 def hostile_addresses():
     """Each key with names of prototypes, with what is huge, odd, empty and repeated; and others."""
-    found = [f"{key}={word}" for key, word in zip(KEYS, itertools.cycle(PROTOTYPES))]
-    found += [f"{key}={word}" for key in ("skip", "ticks", "sample", "base") for word in PROTOTYPES]
+    found = [f"{key}={word}" for key, word in itertools.product(KEYS, PROTOTYPES)]
     found += [f"{key}={word}" for key, word in itertools.product(KEYS, ODD[:7])]
     found += [f"{key}={word}" for key, word in zip(itertools.cycle(KEYS), ODD[7:] * 2)]
     for key in KEYS:

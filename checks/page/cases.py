@@ -4,9 +4,9 @@ The facts are worked out from the lines of `precopy report` and `precopy sweep`,
 """
 
 import os
-import random
 
 from checks.lib.amount_texts import error_text, moment_text, size_text, time_text
+from checks.lib.harness import drawn
 from checks.lib.host_words import host_lines, is_command, sentence_of
 from checks.lib.view_texts import TOP, Failure, document_of, ran, report_facts, sweep_facts, told
 from checks.page import shapes
@@ -71,7 +71,7 @@ class Asked:
     """What the controls of the page say, and the settings that they make."""
 
     def __init__(self, draw, known):
-        self.known, self.page, self.sampled = known, known.size, known.pages
+        self.draw, self.known, self.page, self.sampled = draw, known, known.size, known.pages
         self.tick = draw.choice([1, 10, 100, 1_000, 1_000, 20_000])
         self.guest = draw.choice([known.pages, known.pages, draw.randrange(known.pages, 5_000 * known.pages)])
         self.link = self._link(draw)
@@ -404,8 +404,14 @@ def predicted(view, asked, found):
 
 def tries(folder):
     """Random settings over the examples and over traces of other shapes, trace by trace."""
-    draw = random.Random(2005)
-    paths = [example(name) for name in TRACES] + shapes.written(folder, SHAPES, 67)
-    for path in paths:
+    for name in TRACES:
+        known = Known(example(name))
+        yield known, [Asked(draw, known) for draw in drawn(f"settings over {name}", range(SETTINGS))]
+    corners = list(filter(shapes.has_write, shapes.corners()))
+    for draw in drawn("settings over a shape", range(SHAPES)):
+        is_corner = draw.number < len(corners)
+        path, text = os.path.join(folder, f"shape-{draw.number}.pcwt"), corners[draw.number] if is_corner else None
+        with open(path, "wb") as file:
+            file.write(text or shapes.fit_shape(draw, shapes.has_write))
         known = Known(path)
         yield known, [Asked(draw, known) for _ in range(SETTINGS)]

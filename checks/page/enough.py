@@ -4,24 +4,38 @@ click takes of them."""
 import math
 import re
 from fractions import Fraction
+from typing import NamedTuple
 
+from checks.lib.amount_texts import moment_text
 from checks.lib.view_texts import Failure, sweep_facts, told
 from checks.page.cases import SMALL, micros
 from checks.view.limit_cases import RATES, TIMES, redrawn
-from precopy_dev.models.remedies import Limits, Others, Remedies, Trial, remedies
+from precopy_dev.models.remedies import Ending, Limits, Others, Remedies, Trial, remedies
 
 UNKNOWN = "Enough for the limit: unknown, since the trace ends before the migration does."
 # The page takes smaller amounts than this.
 MOST_OF_PAGE = 1 << 53
 
 
+class Shown(NamedTuple):
+    """What the page shows: whether the limit is kept, the amounts that keep it, and whether the migration ends within
+    the trace."""
+
+    is_kept: bool
+    link: int | None
+    downtime: int | None
+    speed: int | None
+    ends: bool
+
+
 def remedies_of(asked, first, increment):
-    """What keeps the limit by the model, the link in bytes a second. `first` and `increment` may be None."""
+    """What keeps the limit by the model, links in bytes a second. `first` and `increment` may be None."""
     link, _, downtime, reserve = asked.limits()
     others = Others(asked.rounds, asked.start, bool(asked.skip), asked.base, increment)
     scale = redrawn.Scale(asked.tick, asked.page, asked.sampled, asked.guest)
     found = remedies(asked.known.guest, Trial(scale, Limits(link, downtime, first, reserve), others))
-    return found._replace(link=found.link and found.link * 125)
+    ending = found.ending._replace(link=found.ending.link and found.ending.link * 125)
+    return found._replace(link=found.link and found.link * 125, ending=ending)
 
 
 def amount_in(lines, words, units):
@@ -38,11 +52,12 @@ def enough_in(lines):
     slowed = [re.fullmatch(r"the guest slowed to (\d+) % of its speed, by a throttle of \d+ %", line) for line in lines]
     speeds = [int(found[1]) for found in slowed if found]
     is_kept = lines[0].startswith("Enough for the limit: these settings.")
-    return Remedies(
+    return Shown(
         is_kept,
         amount_in(lines, "link rate ", RATES),
         amount_in(lines, "downtime limit ", TIMES),
         speeds[0] if speeds else None,
+        not lines[0].startswith(UNKNOWN),
     )
 
 
@@ -57,7 +72,13 @@ def enough_of(document):
         told.get("link_bytes"),
         down if down is None else micros(down),
         told.get("guest_percent"),
+        Ending(told["answer"] != "unknown", told.get("ending_link_bytes"), told.get("ending_start")),
     )
+
+
+def shown_of(found):
+    """What the page has to show of what is enough for the limit."""
+    return Shown(*found[:4], found.ending.ends)
 
 
 def check_shown(asked, lines, found):
@@ -76,21 +97,54 @@ def check_shown(asked, lines, found):
             raise Failure(f"{some} is shown for {exact}, where {set_one} is set: {lines}")
 
 
-def check_enough(asked, page, document):
+# The settings of which it was compared what is enough.
+COMPARED = []
+
+
+def check_enough(asked, page, found, document):
     """Tests what is enough for the limit: beside the model if the trace is small, and beside the program."""
     lines, exact = page.enough(), page.exact_enough()
-    if lines[0] == UNKNOWN:
-        return
-    found, wanted = enough_in(exact), [enough_of(document)]
+    # What the page shows of the migration was compared with the program's report.
+    is_late = found["comparison"]["downtime"][0] == "unknown"
+    if lines[0].startswith(UNKNOWN) != is_late:
+        raise Failure(f"enough: {lines} of a migration that ends {'late' if is_late else 'within the trace'}")
+    COMPARED.append(asked)
+    shown, wanted = enough_in(exact), [enough_of(document)]
     if asked.known.pages <= SMALL:
         first = None if asked.first == 100 else asked.limits()[1]
         wanted.append(remedies_of(asked, first, None if asked.increase == 10 else asked.settings()[2]))
-    if max(found.link or 0, found.downtime or 0) >= MOST_OF_PAGE:
+    if max(shown.link or 0, shown.downtime or 0) >= MOST_OF_PAGE:
         return
-    check_shown(asked, lines, found)
+    check_shown(asked, lines, shown)
     for some in filter(None, wanted):
-        if found != some:
+        if shown != shown_of(some):
             raise Failure(f"enough: {exact} in place of {some}")
+        check_ways(asked, lines, some)
+
+
+# The least link that ends a migration within the trace is shown with few digits, as one that keeps the limit is.
+WAY = re.compile(r"(with a link of|from a start at) (.*) it ends within the trace, and the limit is (not kept|kept)")
+
+
+def ways_in(lines):
+    """The link in bytes a second and the start as a text that the page shows to end a migration within the trace, with
+    whether the limit is kept then."""
+    return {found[1]: (found[2], found[3]) for found in map(WAY.fullmatch, lines) if found}
+
+
+def check_ways(asked, lines, found):
+    """A way out of a migration that ends after the trace is shown if one is found. A link is, unless it keeps the
+    limit, as the one that is shown for that does; and a start that is not before the trace was recorded."""
+    ways, ending = ways_in(lines), found.ending
+    link, start = ways.get("with a link of"), ways.get("from a start at")
+    if link:
+        shown = amount_in([f"x{link[0]}"], "x", RATES)
+        if ending.link is None or not ending.link - RATES["Kbit"] < shown <= ending.link + max(1, ending.link // 100):
+            raise Failure(f"{link[0]} is shown for {ending.link} bytes a second: {lines}")
+    elif ending.link is not None and found.link is None:
+        raise Failure(f"the link of {ending.link} bytes a second is not shown: {lines}")
+    if (start and start[0]) != (None if ending.start is None else moment_text(ending.start * asked.tick)):
+        raise Failure(f"{start} is shown for the start at tick {ending.start}: {lines}")
 
 
 # What can be taken, and what the controls say of it: the line of each, and the amount of its control.
@@ -104,8 +158,8 @@ CONTROL = """(() => {
 
 def check_taken(asked, page, precopy):
     """What a click takes is what is shown, and keeps the limit: the page says so, and so does a plan of the program."""
-    offers = page.browser.value(OFFERED)
-    if not offers or page.enough()[0] == UNKNOWN:
+    offers = [some for some in page.browser.value(OFFERED) if some[0] in ("link", "downtime")]
+    if not offers:
         return
     name, said = offers[asked.start % len(offers)]
     found = page.after(f"document.querySelector('[data-takes={name}]').click()")

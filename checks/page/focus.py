@@ -65,14 +65,18 @@ def check_commands(page):
     """A key with Ctrl is the browser's: it zooms the page, and no picture with it."""
     asked(page)
     page.browser.value("document.getElementById('zoom-out').click()")
+    page.rest()
     sent = page.browser.value(
-        """["ctrlKey", "metaKey", "altKey"].flatMap((other) =>
-      ["+", "-", "ArrowLeft", "0"].filter((key) =>
-        !document.getElementById("windows-plot").dispatchEvent(new KeyboardEvent("keydown",
-          { key, bubbles: true, cancelable: true, [other]: true }))))"""
+        """["rounds-plot-this", "windows-plot", "map-plot", "links-plot"].flatMap((id) =>
+      ["ctrlKey", "metaKey", "altKey"].flatMap((other) =>
+        ["+", "-", "*", "/", "ArrowLeft", "ArrowDown", "0"].filter((key) =>
+          !document.getElementById(id).dispatchEvent(new KeyboardEvent("keydown",
+            { key, bubbles: true, cancelable: true, [other]: true }))).map((key) => `${other} ${key} in ${id}`)))"""
     )
     require(not sent, f"keys that the page takes from the browser: {sent}")
-    require(page.browser.value("document.getElementById('zoom-out').disabled"), "a picture was zoomed with the page")
+    page.rest()
+    still = "['zoom-out', 'all-pages'].every((id) => document.getElementById(id).disabled)"
+    require(page.browser.value(still), "a picture was zoomed with the page")
 
 
 def check_fingers(page):

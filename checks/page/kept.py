@@ -69,7 +69,7 @@ ROUNDS = """["this", "kept-1"].map((name) => {
     Number(plot.querySelector("rect.stop").getAttribute("x")) + 1,
     Number(rowsOf(`rounds-table-${name}`).at(-1)[2].replaceAll(",", ""))];
 })"""
-LEFT_OF_PLOT = 64
+LEFT_OF_PLOT = 68
 
 
 def check_axes(page):

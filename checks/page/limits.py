@@ -40,36 +40,42 @@ def check_limits(page):
             require(page.enough()[0] == ALSO, f"{said}, {name}: {page.enough()}")
 
 
-# Plans that end after their trace, and what leads to one that does not.
+# Plans that end after their trace, and what leads to one that does not: what keeps the limit, and what ends it within
+# the trace.
 LATE_PLANS = [
-    ("trace=sqlite&link=8Mbit&downtime=300ms&start=1000", ["link"]),
-    ("trace=sqlite&link=64MiB&first=50&start=30000", ["link", "start"]),
-    ("trace=gzip&link=8MiB&downtime=4ms&start=999999", ["start"]),
-    ("trace=gzip&link=40Kbit&first=100&downtime=4ms", ["link"]),
+    ("trace=sqlite&link=8Mbit&first=100&downtime=300ms&start=1000", ["link", "ending-link"]),
+    ("trace=sqlite&link=64MiB&first=50&start=30000", ["ending-start"]),
+    ("trace=gzip&link=8MiB&downtime=4ms&start=999999", ["ending-start"]),
+    ("trace=gzip&link=40Kbit&first=100&downtime=4ms", ["ending-link"]),
     # Of the faster links many move more pages in the limit than there may be.
     ("trace=gzip&link=40Kbit&first=100&downtime=60s&reserve=59s", ["link"]),
 ]
 
 
 def check_ways(page):
-    """Of a plan that ends after the trace, the least link and the latest start that were tried lead to one that ends
-    within it; the link before, and the start after, do not."""
+    """Of a plan that ends after the trace, what is offered leads to one that ends within it, of which is said whether
+    it keeps its limit; a later start does not."""
     for fragment, names in LATE_PLANS:
         page.ask(fragment)
         said = page.enough()
         offered = page.browser.value("[...document.querySelectorAll('[data-takes]')].map((each) => each.dataset.takes)")
-        require(said[0] == LATE and offered == names, f"{fragment}: {said} can be taken by {offered}")
+        require(said[0].startswith(LATE) and offered == names, f"{fragment}: {said} can be taken by {offered}")
         for name in names:
             page.ask(fragment)
-            line = page.enough()[1 + names.index(name)]
-            found = page.after(f"document.querySelector('[data-takes={name}]').click()")
+            button = f"document.querySelector('[data-takes={name}]')"
+            page.enough()
+            line = page.browser.value(f"{button}.closest('li').textContent.replace(/ Take it$/, '')")
+            found = page.after(f"{button}.click()")
             is_kept = "is kept." in found["verdict"]
             require("Unknown" not in found["verdict"] and found["refused"] is None, f"{line}: {found['verdict']}")
-            require(line.endswith("the limit is kept" if is_kept else "the limit is not kept"), f"{line}: {is_kept}")
-            if name == "start":
+            said_kept = not line.endswith("the limit is not kept")
+            require(said_kept == is_kept, f"{line}: {is_kept}")
+            if name == "ending-start":
                 last = int(re.search(r"in ([\d.]+)", page.browser.value("textOf('trace-state')"))[1].replace(".", ""))
                 start = page.browser.value("ticksOf('start')") + -(-last // 200)
-                require("Unknown" in typed(page, name, f"{start} ticks")["verdict"], f"{line}: {start} ends in it too")
+                require(
+                    "Unknown" in typed(page, "start", f"{start} ticks")["verdict"], f"{line}: {start} ends in it too"
+                )
 
 
 def check_links(page):
@@ -107,8 +113,9 @@ def check_links(page):
 
 
 def check_doubtful(page):
-    """The best start is told with the standard error of its downtime, and that it may miss the limit if it may."""
-    for limit, is_doubtful in (("300ms", True), ("2s", False)):
+    """The best start is told with the standard error of its downtime, and that it may miss the limit if it may. Of a
+    limit that some start is likely to keep, the best does."""
+    for limit, is_doubtful in (("300ms", False), ("2s", False)):
         page.ask(f"trace=sqlite&link=64MiB&first=50&downtime={limit}&start=1000")
         page.browser.value("document.getElementById('ask').click()")
         page.browser.wait(

@@ -12,7 +12,7 @@ from checks.page.shown import tried
 MOST_BYTES = 1 << 28
 # A change takes 20 ms on a quiet machine, and twice that on a busy one; with plans over the trace's bytes it was 137.
 MOST_MILLIS, MOST_TASK_MILLIS, MOST_CANCEL_SECONDS = 60, 50, 1
-# A zoom of the map takes 100 ms on a quiet machine.
+# A zoom of the map takes 100 ms on a quiet machine, and it is there no later after a plan.
 MOST_MAP_MILLIS = 300
 # By how many times a plan may take longer if each write has more bytes, and the bytes of each.
 MOST_TIMES, LENGTHS = 2, (1, 236)
@@ -212,25 +212,47 @@ def check_late(page, folder):
         raise Failure(f"{more_memory():,} bytes more than without the trace")
 
 
-# Draws the map of pages over all of a trace, which was near before, and tells after how many milliseconds it is drawn.
+# Has the map of pages drawn anew, with the rounds on it, by pressing a button or by another plan, and tells after how
+# many milliseconds it is there.
 ZOOM = """(async () => {
   const plot = document.getElementById("map-plot");
   const since = performance.now();
-  const before = plot.querySelector("canvas").nextSibling;
+  const before = plot.querySelector("svg");
   document.getElementById("NAME").click();
-  while (plot.querySelector("canvas").nextSibling === before) { await new Promise((resume) => setTimeout(resume, 1)); }
+  while (plot.querySelector("svg") === before || !isTold("map")) {
+    await new Promise((resume) => setTimeout(resume, 1));
+  }
   return performance.now() - since;
+})()"""
+PLAN = """(async () => {
+  const field = document.getElementById("control-rounds");
+  const since = performance.now();
+  const before = document.querySelector("#map-plot .edge");
+  field.value = "NUMBER";
+  field.dispatchEvent(new Event("input"));
+  while (begun < since || !isTold("map") || document.querySelector("#map-plot .edge") === before) {
+    await new Promise((resume) => setTimeout(resume, 1));
+  }
+  const [{ startTime, duration }] = performance.getEntriesByName("plan");
+  return performance.now() - (startTime + duration);
 })()"""
 
 
 def check_map(page):
-    """The map of pages is drawn soon after a zoom, and no task of the page's own thread takes long for it."""
-    times = []
+    """The map of pages is there soon after a zoom and after a plan, with the rounds on it; no task of the page's own
+    thread takes long."""
+    page.rest()
+    zooms, plans = [], []
     for name in ("zoom-plan", "zoom-out") * 3:
-        require_free(page, f"the map by {name}", lambda: times.append(page.browser.value(ZOOM.replace("NAME", name))))
-    print(f"  the map is drawn {statistics.median(times):.0f} ms after a zoom in the middle, {max(times):.0f} at most")
-    if statistics.median(times) > MOST_MAP_MILLIS:
-        raise Failure(f"the map is drawn in {times} ms")
+        require_free(page, f"the map by {name}", lambda: zooms.append(page.browser.value(ZOOM.replace("NAME", name))))
+    for number in (9, 8, 7, 6, 5):
+        script = PLAN.replace("NUMBER", str(number))
+        require_free(page, "the map after a plan", lambda: plans.append(page.browser.value(script)))
+        page.rest()
+    for words, times in (("a zoom", zooms), ("a plan", plans)):
+        print(f"  the map is there {statistics.median(times):.0f} ms after {words}, {max(times):.0f} at most")
+        if statistics.median(times) > MOST_MAP_MILLIS:
+            raise Failure(f"after {words} the map is there in {times} ms")
 
 
 def tell_starts(page, more_memory):
@@ -278,7 +300,7 @@ def check_many_windows(page, folder):
         """(() => {
       const lefts = [...document.querySelectorAll("#windows-plot path")].flatMap((path) =>
         [...path.getAttribute("d").matchAll(/M([\\d.]+) /g)].map(([, left]) => Math.floor(left)));
-      return [new Set(lefts).size, document.querySelector("#windows-plot svg").clientWidth - 76];
+      return [new Set(lefts).size, document.querySelector("#windows-plot svg").clientWidth - 80];
     })()"""
     )
     if not 0.9 * room < bars <= room + 1:

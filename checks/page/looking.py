@@ -12,7 +12,7 @@ def check_looking(page):
       const plot = document.getElementById("windows-plot");
       const box = plot.getBoundingClientRect();
       const send = (to, kind, share) => to.dispatchEvent(new PointerEvent(kind, { pointerType: "mouse", bubbles: true,
-        clientX: box.left + 64 + (box.width - 76) * share, clientY: box.top + 60 }));
+        clientX: box.left + 68 + (box.width - 80) * share, clientY: box.top + 60 }));
       send(plot, "pointermove", 0.25);
       const tip = plot.querySelector(".tip").textContent;
       send(plot, "pointerdown", 0.25);
@@ -48,11 +48,11 @@ POINTED = """((id, share, kinds) => {
   const box = plot.getBoundingClientRect();
   for (const [kind, at] of kinds.map((kind, place) => [kind, place === 0 ? share : share + 0.2])) {
     (kind === "pointermove" || kind === "pointerdown" ? plot : window).dispatchEvent(new PointerEvent(kind, {
-      pointerType: "mouse", bubbles: true, clientX: box.left + 64 + (box.width - 76) * at, clientY: box.top + 60 }));
+      pointerType: "mouse", bubbles: true, clientX: box.left + 68 + (box.width - 80) * at, clientY: box.top + 60 }));
   }
   return Object.fromEntries(["rounds-plot-this", "windows-plot", "starts-plot"].map((name) => {
     const mark = document.querySelector(`#${name} .moment`);
-    return [name, mark && (Number(mark.getAttribute("x")) + 0.5 - 64) / (mark.ownerSVGElement.clientWidth - 76)];
+    return [name, mark && (Number(mark.getAttribute("x")) + 0.5 - 68) / (mark.ownerSVGElement.clientWidth - 80)];
   }));
 })"""
 LABELS = """((id) => [...document.querySelectorAll(`#${id} text.middle:not(.title)`)].map((text) =>

@@ -6,6 +6,7 @@ import http.server
 import os
 import threading
 
+from checks.lib.harness import drawn
 from checks.lib.view_texts import Failure
 from checks.page import first, focus, shapes
 from checks.page.browser import WIDER_THAN_PHONES
@@ -204,7 +205,10 @@ def check_shapes(page, folder):
     """The same for pictures of traces of other shapes, with and without a plan, with starts, and taken nearer."""
     browser = page.browser
     open_example(page)
-    for number, text in enumerate(shapes.shapes(SHAPES, 7)):
+    corners = shapes.corners()
+    for draw in drawn("looks of a shape", range(SHAPES)):
+        number = draw.number
+        text = corners[number] if number < len(corners) else shapes.random_shape(draw)
         width, is_dark = WIDTHS[number % len(WIDTHS)], number % 2 == 1
         browser.dress(width, HEIGHT, is_dark)
         page.drop((f"shape-{number}.pcwt", text))
@@ -337,20 +341,23 @@ def check_stillness(page):
         require((seconds == 0) == is_still, f"{seconds} s of a transition, still {is_still}")
 
 
+LOOKS = {
+    "stillness": check_stillness,
+    "the first look": first.check_first_look,
+    "undo and redo": first.check_past,
+    "the first look at a trace of one's own": first.check_own_trace,
+    "keyboard": check_keyboard,
+    "address": check_address,
+    "focus": focus.check_focus,
+    "keys of the browser": focus.check_commands,
+    "fingers": focus.check_fingers,
+    "forced colours": focus.check_forced_colours,
+    "old browser": check_old_browser,
+}
+
+
 def check_looks(tally, page, tried):
-    tried(tally, "stillness", check_stillness, page)
-    for words, check in (
-        ("the first look", first.check_first_look),
-        ("undo and redo", first.check_past),
-        ("the first look at a trace of one's own", first.check_own_trace),
-        ("keyboard", check_keyboard),
-        ("address", check_address),
-        ("focus", focus.check_focus),
-        ("keys of the browser", focus.check_commands),
-        ("fingers", focus.check_fingers),
-        ("forced colours", focus.check_forced_colours),
-        ("old browser", check_old_browser),
-    ):
+    for words, check in LOOKS.items():
         tried(tally, words, check, page)
 
 

@@ -5,12 +5,13 @@ import shutil
 import subprocess
 from typing import Optional
 
+from checks.lib.tally import why_not
 from precopy_dev.tree import TOP
 
 
 def node_command() -> Optional[list[str]]:
     """Node with memory of 64-bit addresses, or None."""
-    node = shutil.which("node")
+    node = None if why_not("node") else shutil.which("node")
     tests = "process.exit(WebAssembly.validate(new Uint8Array([0,97,115,109,1,0,0,0,5,3,1,4,1])) ? 0 : 1)"
     for words in ([], ["--experimental-wasm-memory64"]):
         if node and subprocess.run([node, *words, "-e", tests], capture_output=True, check=False).returncode == 0:

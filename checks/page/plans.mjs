@@ -2,10 +2,26 @@
 // each item the settings of a plan, and the question that they are made of.
 
 import { readFileSync } from "node:fs";
+import { writesIn } from "./engine/light-trace.js";
 import { Planner } from "./engine/planner.js";
+import { WritesMap } from "./engine/writes-map.js";
+
+const MOST_ROWS = 256;
 
 const [module, trace] = process.argv.slice(2).map((path) => readFileSync(path));
 const planner = await Planner.open(await WebAssembly.compile(module), trace.length, [trace]);
+const { writes, pages, last } = planner.sizes;
+const map = new WritesMap(writesIn(planner.traceBytes(), writes), pages);
+const grid = { first: 0, last: last + 1, columns: 100, rows: Math.min(pages, MOST_ROWS), fromPage: 0, endPage: pages };
+
+/** How many pages the map's rows have of each round, sent and dirtied, and of the copy after the stop. */
+function pagesOnMap({ start, base, skip, max }, plan) {
+  const found = map.rounds({ grid, plan: { start, base, skip, max, ...plan } });
+  const sum = (name, round) => found[name].subarray(round * grid.rows, (round + 1) * grid.rows)
+    .reduce((all, count) => all + count, 0);
+  return Array.from({ length: plan.rounds.length + 1 }, (_, round) =>
+    ["pages", "sent", "dirtied"].map((name) => sum(name, round)));
+}
 const answers = JSON.parse(readFileSync(0, "utf8")).map(({ settings, question }) => {
   const plan = planner.plan(settings);
   const windows = planner.windows(settings);
@@ -13,16 +29,19 @@ const answers = JSON.parse(readFileSync(0, "utf8")).map(({ settings, question })
   const { min, max, increment, threshold } = planner.settings(question);
   const answer = planner.predict(question);
   const errors = planner.errors(question);
-  const { isKept, link, downtime, speed } = planner.remedies(question);
+  const { isKept, ends, ...amounts } = planner.remedies(question);
+  const { link, downtime, speed, endingLink, endingStart } = amounts;
   return {
     windows: Array.from({ length: windows.count }, (_, row) => columns.map((name) => windows[name][row])),
     rounds: plan.rounds.map((round) => Object.values(round)),
     stop: [plan.reason, plan.stop, plan.left, plan.down, plan.total],
     settings: [min, max, increment, threshold],
     answer: ["time", "bytes", "downtime", "recorded", "kept", "converges"].map((name) => String(answer[name])),
+    map: pagesOnMap(settings, plan),
     isSame: JSON.stringify(answer.rows) === JSON.stringify(plan.rounds) && answer.left === plan.left,
     errors: errors && [errors.bytes, errors.time, errors.downtime].map(Number),
-    remedies: [isKept, ...[link, downtime, speed].map((amount) => (amount === null ? null : String(amount)))],
+    remedies: [isKept, ends, ...[link, downtime, speed, endingLink, endingStart]
+      .map((amount) => (amount === null ? null : String(amount)))],
   };
 });
 console.log(JSON.stringify(answers));

@@ -10,10 +10,8 @@ const planner = await Planner.open(await WebAssembly.compile(module), trace.leng
 function answerTo(question) {
   try {
     const { rows, ...told } = planner.predict(question);
-    if (told.kept === "unknown") {
-      return { ...told, errors: null, remedies: null };
-    }
-    return { ...told, errors: planner.errors(question), remedies: planner.remedies(question) };
+    const errors = told.kept === "unknown" ? null : planner.errors(question);
+    return { ...told, errors, remedies: planner.remedies(question) };
   } catch (error) {
     if (!(error instanceof Refusal)) {
       throw error;

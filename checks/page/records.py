@@ -104,16 +104,20 @@ def check_own_address(page):
     require(", as a.json says" in page.browser.value("textOf('trace-state')"), "what was taken is not told")
 
 
+OFFERED = "[...document.querySelectorAll('[data-suggested=link]')].map((each) => each.innerText)"
+
+
 def check_fitted(page):
     """Limits that were fitted to a trace are told as such, with links of today's networks, until one is chosen."""
     page.open()
     page.wait_for_plan()
+    page.drop(("own.pcwt", read(example("gzip.pcwt"))))
+    offered = page.browser.value(OFFERED)
+    require(offered == ["1 Gbit/s", "10 Gbit/s", "25 Gbit/s"], f"links that are offered: {offered}")
     page.drop(*guest_with_record())
     for name, words in (("link", "Fitted to this trace."), ("downtime", "Fitted, too.")):
         require(suggestion(page, name).startswith(words), f"{name}: {suggestion(page, name)!r}")
-    offered = page.browser.value(
-        "[...document.querySelectorAll('[data-suggested=link]')]" ".map((each) => each.innerText)"
-    )
+    offered = page.browser.value(OFFERED)
     require(offered[-2:] == ["10 Gbit/s", "25 Gbit/s"], f"links that are offered: {offered}")
     found = page.after("[...document.querySelectorAll('[data-suggested=link]')].at(-2).click()")
     require(limits(page)[0] == ["10", "Gbit"] and not found["refused"], f"{limits(page)}, {found['fault']}")
@@ -150,12 +154,15 @@ def check_doubts(page):
     require("2 writes in 23\u00a0h\u00a059\u00a0min" in said, said)
 
 
+RECORDS = {
+    "records": check_records,
+    "a record and an address": check_addressed,
+    "a record and an address of its trace": check_own_address,
+    "limits that were fitted": check_fitted,
+    "doubts of a record": check_doubts,
+}
+
+
 def check_all(tally, page):
-    for words, check in (
-        ("records", check_records),
-        ("a record and an address", check_addressed),
-        ("a record and an address of its trace", check_own_address),
-        ("limits that were fitted", check_fitted),
-        ("doubts of a record", check_doubts),
-    ):
+    for words, check in RECORDS.items():
         tried(tally, words, check, page)

@@ -44,13 +44,15 @@ HEADS = {
     "working-set": "window,from_us,to_us,writes,pages,again_pages,fresh_pages",
     "starts": "tick,start_us,time_us,sent_bytes,downtime_us,kept",
     "links": "link_bytes_per_second,time_us,sent_bytes,downtime_us,kept",
+    "map": "round,first_page,last_page,pages,sent_pages,sent_and_dirtied_pages,skipped_pages,dirtied_pages,"
+    "first_turn_us,last_turn_us",
 }
 LEGENDS = {
     "rounds-this": ["Rounds", "sent", "downtime"],
     "working-set": ["Working set", "never before", "stop"],
     "starts": ["When to move", "by start", "worst"],
     "links": ["Slower and faster links", "by link", "this plan"],
-    "map": ["Pages over time", "a round begins", "stop"],
+    "map": ["Pages over time", "sent, but dirtied", "a round begins", "stop"],
 }
 
 
@@ -89,7 +91,7 @@ def check_files_saved(page):
     page.browser.value("document.getElementById('ask').click()")
     page.browser.wait("document.querySelector('#starts-plot svg') !== null")
     page.rest()
-    wanted = 4 * 3 + 2 + 1
+    wanted = 5 * 3 + 1
     files = saved_files(page, wanted)
     require(len(files) == wanted, f"files: {sorted(files)}")
     shown = page.shown()

@@ -1,7 +1,6 @@
 """Traces of all shapes for checks/page: few and many pages and writes, small pages, long and short times, releases."""
 
-import os
-import random
+import itertools
 import struct
 
 MOST_TICK = (1 << 40) - 1
@@ -16,7 +15,7 @@ def trace(shift, pages, writes):
     return b"".join(parts)
 
 
-def drawn(draw, shift, pages, count, last):
+def written_at_random(draw, shift, pages, count, last):
     """A trace of random writes up to a tick; a few pages take most of them."""
     hot, least = max(1, pages // 20), draw.choice([0, 1, 1, 1])
     ticks = sorted(draw.randrange(last + 1) for _ in range(count))
@@ -53,24 +52,17 @@ def corners():
     ]
 
 
-def shapes(count, seed):
-    """Traces of so many shapes, the corners first."""
-    draw = random.Random(seed)
-    found = corners()
-    while len(found) < count:
-        shift = draw.choice([4, 6, 8, 10, 12, 12, 12])
-        pages = min(MOST_PAGES, max(1, round(2 ** draw.uniform(0, 16.2))))
-        last = round(10 ** draw.uniform(0, 12))
-        found.append(drawn(draw, shift, pages, draw.choice([0, 1, 2, 50, 1_000, 6_000]), min(last, MOST_TICK)))
-    return found[:count]
+def random_shape(draw):
+    shift = draw.choice([4, 6, 8, 10, 12, 12, 12])
+    pages = min(MOST_PAGES, max(1, round(2 ** draw.uniform(0, 16.2))))
+    last = min(MOST_TICK, round(10 ** draw.uniform(0, 12)))
+    return written_at_random(draw, shift, pages, draw.choice([0, 1, 2, 50, 1_000, 6_000]), last)
 
 
-def written(folder, count, seed):
-    """Writes traces of so many shapes that have a write, and returns their paths."""
-    paths = []
-    for text in shapes(2 * count, seed):
-        if text[12:16] != bytes(4) and len(paths) < count:
-            paths.append(os.path.join(folder, f"shape-{len(paths)}.pcwt"))
-            with open(paths[-1], "wb") as file:
-                file.write(text)
-    return paths
+def fit_shape(draw, is_fit):
+    """A random trace of a shape that is fit."""
+    return next(filter(is_fit, (random_shape(draw) for _ in itertools.count())))
+
+
+def has_write(text):
+    return text[12:16] != bytes(4)

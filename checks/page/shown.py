@@ -5,7 +5,7 @@ import json
 import time
 
 from checks.lib.view_texts import Failure
-from checks.page.browser import BrowserError, NoAnswer
+from checks.page.browser import NoAnswer
 
 SECONDS_TO_BECOME = 10
 
@@ -85,8 +85,8 @@ window.isFitted = () => [...document.querySelectorAll(".plot")].every((plot) => 
   return !picture || !plot.offsetParent || Math.abs(Number(picture.getAttribute("width")) - plot.clientWidth) < 1;
 });
 window.atRest = async () => {
-  for (let count = 0, since = null; since !== begun || !isFitted() || !isTold("comparison", "limits-answer", "links");
-    count += 1) {
+  const isAtRest = () => isFitted() && isTold("comparison", "limits-answer", "links", "map");
+  for (let count = 0, since = null; since !== begun || !isAtRest(); count += 1) {
     if (count > 200) { throw new Error("the page does not come to rest"); }
     since = begun;
     await new Promise((resume) => setTimeout(resume, 150));
@@ -196,15 +196,14 @@ def require_silent(words):
 
 
 def tried(tally, told_of, act, *words):
-    """Counts a trial that fails by an exception, or by a line of the console. If the browser does not answer, the
-    trial is begun once more."""
-    try:
+    """A case that fails by an exception, or by a line of the console. If the browser does not answer, it is begun once
+    more, and that is told."""
+    with tally.case(told_of) as case:
         try:
             act(*words)
         except NoAnswer as error:
-            print(f"  {told_of}: {error}, and the trial is begun once more", flush=True)
             act(*words)
+            tally.flaky.append(told_of)
+            print(f"  FLAKY {told_of}: {error}; it was begun once more, and passed", flush=True)
         require_silent(words)
-        return tally.add(True, told_of)
-    except (Failure, BrowserError, OSError, KeyError, ValueError, IndexError) as error:
-        return tally.add(False, f"{told_of}: {str(error)[:900]}")
+        case.add(True, told_of)

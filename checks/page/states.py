@@ -19,9 +19,8 @@ FULL_WIDTHS = [360, *WIDTHS, 480, 600, 800, 1024, 1920]
 LEAST_MARK_CONTRAST = 3
 # The pixels of the name of a kept plan.
 ROOM_OF_NAME = 80
-# What can be saved with three kept plans and starts: PNG, SVG and CSV of seven pictures, PNG and SVG of the map, and
-# the prediction's CSV.
-SAVED = 7 * 3 + 2 + 1
+# What can be saved with three kept plans and starts: PNG, SVG and CSV of eight pictures, and the prediction's CSV.
+SAVED = 8 * 3 + 1
 
 
 def open_with(page, fragment):

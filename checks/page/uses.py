@@ -5,10 +5,11 @@ import base64
 import json
 import math
 import os
-import random
 import re
+import tempfile
 from fractions import Fraction
 
+from checks.lib.harness import drawn, draws
 from checks.page import kept, limits, looking, map, records, saves, shapes, told, worker
 from checks.page.acts import asked, read, require, spelled, typed
 from checks.page.cases import example
@@ -73,7 +74,7 @@ def check_names(page):
     require(named == ["\u05d0-1.pcwt", "\u05d0-1.json", "\u05d0-3.txt", "\u05d0-1.pcwt"], f"names apart: {named}")
 
 
-def check_files(page, folder):
+def check_files(page):
     """Of two traces the second is named; a bad file leaves the good one, and its plan."""
     good = read(example("guests/mid.light.pcwt"))
     page.open()
@@ -106,10 +107,11 @@ def check_files(page, folder):
     said = page.browser.value("textOf('trace-notes') + ' | ' + textOf('trace-state')")
     require("three.pcwt is still open." in said and "three.pcwt: 25 pages" in said, said)
     require(page.shown()["rounds"][0][4] == "25", f"rounds of another trace: {page.shown()['rounds'][0]}")
-    path = os.path.join(folder, "chosen.pcwt")
-    with open(path, "wb") as file:
-        file.write(good)
-    said = page.load(path, example("guests/sqlite.light.json"))
+    with tempfile.TemporaryDirectory() as folder:
+        path = os.path.join(folder, "chosen.pcwt")
+        with open(path, "wb") as file:
+            file.write(good)
+        said = page.load(path, example("guests/sqlite.light.json"))
     require("chosen.pcwt: " in said and "sqlite.light.json is not used: " in said, said)
 
 
@@ -259,7 +261,7 @@ def without_units(found):
 
 def check_units(page):
     """Another unit of a control is the same amount; a decimal is the amount that it says."""
-    draw = random.Random(300)
+    draw = draws("units")
     for name, units, some in (
         ("link", RATES, "64MiB"),
         ("downtime", TIMES, "300ms"),
@@ -352,11 +354,12 @@ def check_warm(page):
     )
 
 
-def check_uses(tally, page, folder):
-    for number, text in enumerate(shapes.shapes(DROPPED, 50)):
-        tried(tally, f"a trace of shape {number} on a fresh page", check_shape, page, number, text)
+def check_uses(tally, page):
+    corners = shapes.corners()
+    for draw in drawn("shapes on a fresh page", range(DROPPED)):
+        text = corners[draw.number] if draw.number < len(corners) else shapes.random_shape(draw)
+        tried(tally, str(draw), check_shape, page, draw.number, text)
     records.check_all(tally, page)
-    tried(tally, "files", check_files, page, folder)
     page.open("#trace=sqlite")
     page.wait_for_plan()
     for case in REFUSED:
@@ -366,6 +369,7 @@ def check_uses(tally, page, folder):
 
 
 USES = {
+    "files": check_files,
     "what is no number": check_unread,
     "what is typed": check_typed,
     "units": check_units,
@@ -386,6 +390,8 @@ USES = {
     "looking": looking.check_looking,
     "looking together": looking.check_together,
     "the map": map.check_map,
+    "the rounds on the map": map.check_map_rounds,
+    "pages of the map": map.check_map_pages,
     "what is announced": told.check_told,
     "the worker": worker.check_worker,
     "an ended worker": worker.check_ended,

@@ -35,13 +35,13 @@ def tried(programs: Programs, some: list[Asked]) -> tuple[list[str], list[str]]:
     return [answer.kept if answer else "refused" for answer in answers], found
 
 
-def path_of(asked: Asked) -> str:
-    return asked.trace.path
+def draw_and_trace(asked: Asked) -> str:
+    return f"{asked.draw} {asked.trace.path}"
 
 
 def by_trace(asked: list[Asked]) -> list[list[Asked]]:
-    """The questions about each trace, in lists of a few."""
-    groups = itertools.groupby(sorted(asked, key=path_of), key=path_of)
+    """The questions of a draw about a trace, in lists of a few."""
+    groups = itertools.groupby(sorted(asked, key=draw_and_trace), key=draw_and_trace)
     some = [list(group) for _, group in groups]
     return [group[at : at + FEW] for group in some for at in range(0, len(group), FEW)]
 
@@ -70,10 +70,10 @@ def check(tally, given):
         asked = questions.all_asked(folder)
         programs = programs_of(folder, given.precopy_view, given.module)
         groups = by_trace(asked)
-        for told, found in pool.map(tried, [programs] * len(groups), groups):
+        for group, (told, found) in zip(groups, pool.map(tried, [programs] * len(groups), groups)):
             verdicts.update(told)
             for fault in found:
-                tally.add(not fault, fault)
+                tally.add(not fault, fault, group[0].draw)
     tally.tries("verdicts", expect_each, verdicts)
 
 

@@ -38,14 +38,34 @@ static int read_question(struct precopy_question *asked) {
 
 static void print_answer(const struct precopy_prediction *it, const struct precopy_errors *errors,
                          const struct precopy_amounts *enough) {
-    const uint64_t numbers[] = {it->rounds,         it->reason,       it->stop,
-                                it->down,           it->total,        it->left,
-                                it->time,           it->bytes,        it->downtime,
-                                it->recorded,       it->converges,    it->kept,
-                                errors->bytes,      errors->time,     errors->downtime,
-                                errors->has_errors, enough->link,     enough->downtime,
-                                enough->speed,      enough->has_link, enough->has_downtime,
-                                enough->has_speed,  enough->is_kept};
+    const uint64_t numbers[] = {it->rounds,
+                                it->reason,
+                                it->stop,
+                                it->down,
+                                it->total,
+                                it->left,
+                                it->time,
+                                it->bytes,
+                                it->downtime,
+                                it->recorded,
+                                it->converges,
+                                it->kept,
+                                errors->bytes,
+                                errors->time,
+                                errors->downtime,
+                                errors->has_errors,
+                                enough->link,
+                                enough->downtime,
+                                enough->speed,
+                                enough->ending_link,
+                                enough->ending_start,
+                                enough->has_link,
+                                enough->has_downtime,
+                                enough->has_speed,
+                                enough->has_ending_link,
+                                enough->has_ending_start,
+                                enough->is_kept,
+                                enough->ends};
     for (size_t i = 0; i < sizeof numbers / sizeof *numbers; i++) {
         printf("%s%" PRIu64, i ? " " : "", numbers[i]);
     }

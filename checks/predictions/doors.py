@@ -4,15 +4,14 @@ import contextlib
 import io
 import json
 import os
-import shutil
 import subprocess
 import traceback
 from typing import NamedTuple, Optional
 
 from checks.lib.host_words import host_lines
 from checks.lib.migration_model import STATUSES, Answer, Refusal, Starts, all_lines, document_of, lines_of
-from checks.lib.remedy_model import Remedies, enough_lines, found_of
-from checks.lib.tally import Failure
+from checks.lib.remedy_model import Remedies, enough_lines
+from checks.lib.tally import Failure, LeftOut, module, why_not
 from checks.lib.view_texts import parsed, ran
 from checks.predictions.questions import Asked
 from precopy_dev.tree import TOP
@@ -29,8 +28,6 @@ OF_TOOL = (
     "at twice the link: ",
     "a plan takes no longer limit",
 )
-# Members of answers of the library that say once more what others say.
-TWICE = ("size", "stop", "down", "total", "has_errors")
 
 
 class Programs(NamedTuple):
@@ -100,6 +97,14 @@ class Document(Lines):
     """The program's JSON, which keeps its schema."""
 
     name = "precopy-view json predict"
+
+    @staticmethod
+    def lacking(programs: Programs) -> str:
+        try:
+            module("jsonschema")
+        except LeftOut as why:
+            return str(why)
+        return ""
 
     def told(self, asked: Asked) -> object:
         status, text, faults = ran(self.programs.view, ["json", "predict", *asked.question.words()], asked.trace.path)
@@ -187,16 +192,15 @@ class Page(Door):
         return {**plain, **large, "errors": errors, "remedies": self.remedies(answer)}
 
     @staticmethod
-    def remedies(answer: Answer) -> Optional[dict]:
+    def remedies(answer: Answer) -> dict:
         """What is enough for the limit."""
-        if answer.enough is None:
-            return None
         words = {name: None if amount is None else str(amount) for name, amount in amounts_of(answer.enough).items()}
-        return {"isKept": answer.enough.is_kept, **words}
+        ending = {"endingLink": words.pop("ending_link"), "endingStart": words.pop("ending_start")}
+        return {"isKept": answer.enough.is_kept, "ends": answer.enough.ending.ends, **words, **ending}
 
 
 class Library(Door):
-    """The library. It gives numbers, and tells standard errors and what is enough of what is unknown too."""
+    """The library. It gives numbers, and tells standard errors of what is unknown too."""
 
     LACKING = f"there is no {LIBRARY}; make lib builds it"
 
@@ -206,9 +210,9 @@ class Library(Door):
 
     def wanted(self, asked: Asked, answer: Answer) -> object:
         numbers = {name: getattr(answer, name) for name in ("rounds", "time", "downtime", "left", "recorded")}
+        numbers |= {name: getattr(answer.plan, name) for name in ("stop", "down", "total")}
         verdicts = {"reason": answer.why, "converges": answer.converges, "kept": answer.kept}
-        found = answer.enough or found_of(asked.trace.guest, asked.question.trial(), is_late=False)
-        enough = {**amounts_of(found), "is_kept": found.is_kept}
+        enough = {**amounts_of(answer.enough), "is_kept": answer.enough.is_kept, "ends": answer.enough.ending.ends}
         return {**numbers, **verdicts, "bytes": answer.sent, "errors": answer.errors, "enough": enough}
 
 
@@ -230,7 +234,7 @@ class Python(Library):
         errors = it.errors and (it.errors.bytes, it.errors.time, it.errors.downtime)
         words = {name: getattr(it, name).name.lower() for name in ("reason", "converges", "kept")}
         known = {"errors": errors if words["kept"] != "unknown" else None}
-        return without({**vars(it), **words, **known, "enough": vars(precopy.enough(trace, question))})
+        return {**vars(it), **words, **known, "enough": vars(precopy.enough(trace, question))}
 
 
 class C(Library):
@@ -239,7 +243,7 @@ class C(Library):
     name = "precopy_predict, precopy_enough"
     NUMBERS = "link first downtime reserve tick page sampled guest increment rounds start base"
     ANSWER = "rounds reason stop down total left time bytes downtime recorded converges kept"
-    AMOUNTS = ("link", "downtime", "speed")
+    AMOUNTS = ("link", "downtime", "speed", "ending_link", "ending_start")
 
     @staticmethod
     def lacking(programs: Programs) -> str:
@@ -263,7 +267,7 @@ class C(Library):
         return [given[name] or 0 for name in self.NUMBERS.split()] + has + [int(given["skip"])]
 
     def answer(self, numbers: list[int]) -> object:
-        """What a line of the program tells: twelve numbers, four of standard errors and seven of what is enough, or a
+        """What a line of the program tells: twelve numbers, four of standard errors and twelve of what is enough, or a
         status."""
         if len(numbers) == 1:
             return numbers[0]
@@ -271,10 +275,11 @@ class C(Library):
         verdicts = {name: ("yes", "no", "unknown")[found[name]] for name in ("converges", "kept")}
         has_errors = numbers[15] and verdicts["kept"] != "unknown"
         errors = tuple(numbers[12:15]) if has_errors else None
-        given = zip(self.AMOUNTS, numbers[16:19], numbers[19:22])
-        enough = {name: amount if has else None for name, amount, has in given} | {"is_kept": numbers[22] != 0}
+        given = zip(self.AMOUNTS, numbers[16:21], numbers[21:26])
+        enough = {name: amount if has else None for name, amount, has in given}
+        enough |= {"is_kept": numbers[26] != 0, "ends": numbers[27] != 0}
         reason = ("few", "fast", "rounds")[found["reason"]]
-        return without({**found, **verdicts, "reason": reason, "errors": errors, "enough": enough})
+        return {**found, **verdicts, "reason": reason, "errors": errors, "enough": enough}
 
 
 DOORS = [Lines, Document, Tool, Page, C, Python]
@@ -283,7 +288,7 @@ DOORS = [Lines, Document, Tool, Page, C, Python]
 def asker(folder: str) -> str:
     """Compiles the program that asks the library for C, or returns nothing if there is no compiler or no library."""
     archive, path = os.path.join(LIBRARY, "libprecopy.a"), os.path.join(folder, "prediction_answers")
-    if not shutil.which("cc") or not os.path.exists(LIBRARY):
+    if not os.path.exists(LIBRARY) or why_not("cc"):
         return ""
     words = ["-std=c99", "-O1", f"-I{TOP}/include", "-o", path, f"{TOP}/checks/predictions/answers.c", archive]
     done = subprocess.run(["cc", *words], capture_output=True, text=True, check=False)
@@ -293,12 +298,9 @@ def asker(folder: str) -> str:
 
 
 def amounts_of(found: Remedies) -> dict[str, Optional[int]]:
-    """The amounts that are enough, with the link in bytes a second."""
-    return {"link": found.link and 125 * found.link, "downtime": found.downtime, "speed": found.speed}
-
-
-def without(members: dict) -> dict:
-    return {name: it for name, it in members.items() if name not in TWICE}
+    """The amounts that are enough, with links in bytes a second."""
+    ending = {"ending_link": found.ending.link and 125 * found.ending.link, "ending_start": found.ending.start}
+    return {"link": found.link and 125 * found.link, "downtime": found.downtime, "speed": found.speed, **ending}
 
 
 def difference(door: Door, asked: Asked, found: object, answer: Optional[Answer]) -> str:

@@ -15,7 +15,7 @@ from fractions import Fraction
 from typing import NamedTuple, Optional
 
 from checks.lib import traces
-from checks.lib.harness import draws
+from checks.lib.harness import Draw, drawn
 from checks.lib.migration_model import Question
 from checks.lib.traces import Trace
 from checks.page import shapes as page_shapes
@@ -24,7 +24,7 @@ from precopy_dev.tree import TOP
 from precopy_tools.formats import samples
 
 EXAMPLES = os.path.join(TOP, "examples")
-SHAPES = 6
+SMALL, SHAPES, RECORDS = 2, 4, 2
 OF_TRACE, OF_RECORD = 17, 16
 # More pages than these take the model too long, and fewer writes decide nothing.
 MOST_PAGES, LEAST_WRITES = 5_000, 50
@@ -36,6 +36,7 @@ class Asked(NamedTuple):
     question: Question
     trace: Trace
     words: Optional[list[str]] = None
+    draw: Optional[Draw] = None
 
     def __str__(self) -> str:
         return f"{os.path.basename(self.trace.path)}, {' '.join(self.words or self.question.words())}"
@@ -56,18 +57,18 @@ def is_fit(text: bytes) -> bool:
     return writes >= LEAST_WRITES and pages <= MOST_PAGES
 
 
-def shapes(folder: str) -> list[str]:
-    """Traces of random shapes, without the corners, which are first."""
-    drawn_shapes = page_shapes.shapes(100, draws("shapes").getrandbits(32))[len(page_shapes.corners()) :]
-    found = filter(is_fit, drawn_shapes)
-    return [put(folder, f"shape-{number}.pcwt", text) for number, text in zip(range(SHAPES), found)]
+def small(draw: random.Random, folder: str) -> str:
+    """A small trace, in one of the versions of the format."""
+    found = filter(is_fit, (traces.generated(draw) for _ in range(100)))
+    return put(folder, f"{name_of(draw)}.pcwt", next(found))
 
 
-def small(folder: str) -> list[str]:
-    """Two small traces in both versions of the format."""
-    chosen = draws("small")
-    found = filter(is_fit, (traces.generated(chosen) for _ in range(100)))
-    return [put(folder, f"small-{number}.pcwt", text) for number, text in zip(range(2), found)]
+def shape(draw: random.Random, folder: str) -> str:
+    return put(folder, f"{name_of(draw)}.pcwt", page_shapes.fit_shape(draw, is_fit))
+
+
+def name_of(draw: random.Random) -> str:
+    return f"{draw}".replace(" ", "-")
 
 
 def thinned(folder: str) -> str:
@@ -116,7 +117,7 @@ def recorded(draw: random.Random, path: str) -> str:
 # ---- Questions.
 
 
-def drawn(draw: random.Random, trace: Trace) -> Question:
+def random_question(draw: random.Random, trace: Trace) -> Question:
     """A question about a trace, most of the time one that is not refused."""
     pages, sampled = trace.pages, trace.pages
     if draw.randrange(2):
@@ -170,14 +171,29 @@ def of_record(draw: random.Random, folder: str, trace: Trace, told: dict) -> Ask
     return Asked(longer, Trace.at(put(folder, name, text)), words)
 
 
+def asked_of_trace(draw: Draw, path: str) -> list[Asked]:
+    trace = Trace.at(path)
+    return [Asked(random_question(draw, trace), trace, draw=draw) for _ in range(OF_TRACE)]
+
+
+def asked_of_record(draw: Draw, folder: str, path: str) -> list[Asked]:
+    with open(samples.path_beside(path), encoding="utf-8") as file:
+        trace, told = Trace.at(path), json.load(file)
+    return [of_record(draw, folder, trace, told)._replace(draw=draw) for _ in range(OF_RECORD)]
+
+
 def all_asked(folder: str) -> list[Asked]:
-    """The questions about eight traces, and those about four records."""
-    draw, made = draws("questions"), shapes(folder)
-    paths = [os.path.join(EXAMPLES, name) for name in ("gzip.pcwt", "released.pcwt")] + small(folder) + made[:4]
-    found = [Asked(drawn(draw, trace), trace) for trace in map(Trace.at, paths) for _ in range(OF_TRACE)]
-    records = [os.path.join(EXAMPLES, "guests", "sqlite.light.pcwt"), thinned(folder)]
-    for path in records + [recorded(draw, path) for path in made[4:]]:
-        with open(samples.path_beside(path), encoding="utf-8") as file:
-            trace, told = Trace.at(path), json.load(file)
-        found += [of_record(draw, folder, trace, told) for _ in range(OF_RECORD)]
+    """The questions about eight traces, and those about four records. Each draw makes its trace and what is asked."""
+    found = []
+    for name in ("gzip.pcwt", "released.pcwt"):
+        for draw in drawn(f"questions about {name}", range(1)):
+            found += asked_of_trace(draw, os.path.join(EXAMPLES, name))
+    for make, count in ((small, SMALL), (shape, SHAPES)):
+        for draw in drawn(f"questions about a {make.__name__} trace", range(count)):
+            found += asked_of_trace(draw, make(draw, folder))
+    for path in (os.path.join(EXAMPLES, "guests", "sqlite.light.pcwt"), thinned(folder)):
+        for draw in drawn(f"questions about {os.path.basename(path)}", range(1)):
+            found += asked_of_record(draw, folder, path)
+    for draw in drawn("questions about a record", range(RECORDS)):
+        found += asked_of_record(draw, folder, recorded(draw, shape(draw, folder)))
     return found

@@ -20,7 +20,7 @@ from precopy_dev.tree import TOP
 COMPARE = os.path.join(TOP, "tools", "compare-qemu")
 SECONDS = 400
 # How far, in per cent, a plan may be from what QEMU does with a guest that nothing else disturbs.
-MOST_APART = 20
+MOST_APART, MOST_APART_AGAIN = 20, 30
 
 
 def migrated(program, folder):
@@ -34,17 +34,30 @@ def migrated(program, folder):
     expect(done.status == 0, f"{done.ended()}, {told[-1500:]} {done.faults[-1500:]!r}")
     memory = re.search(r"^memory: 0 of ([\d,]+) pages differ at the destination$", told, re.M)
     expect(memory, told)
-    for name in ("pages sent", "time, ms"):
-        numbers = re.search(rf"^{name} +([\d,]+) +([\d,]+)", told, re.M)
-        planned, real = (int(number.replace(",", "")) for number in numbers.groups())
-        expect_in_time(
-            real and abs(planned / real - 1) <= MOST_APART / 100, f"{name}: planned {planned}, QEMU {real}\n{told}"
-        )
     trace = Trace.at(path)
+    report = run([program, "report", *re.search(r"^plan: (--start .*)$", told, re.M)[1].split()], trace.text)
+    first = int(re.search(rb"^round 0 .* sent (\d+) ", report.output, re.M)[1])
+    (sent, sent_by_qemu), times = numbers(told, "pages sent"), numbers(told, "time, ms")
+    expect_near("pages sent", sent, sent_by_qemu, MOST_APART, told)
+    expect_near("time, ms", *times, MOST_APART, told)
+    # Most pages go in the first round, whatever the guest writes meanwhile.
+    expect_near("pages sent again", sent - first, sent_by_qemu - first, MOST_APART_AGAIN, told)
     expect(trace.records and trace.last > 5_000, f"{len(trace.records)} writes up to tick {trace.last}")
     image = run([program, "image"], trace.text)
     expect(image.status == 0 and image.output == trace.memory(), f"the image of the recorded trace: {image}")
     print("\n".join(f"  {line}" for line in told.splitlines()[-12:]), flush=True)
+
+
+def numbers(told, name):
+    """What a line tells: as it was planned, and of QEMU."""
+    found = re.search(rf"^{name} +([\d,]+) +([\d,]+)", told, re.M)
+    return tuple(int(number.replace(",", "")) for number in found.groups())
+
+
+def expect_near(name, planned, real, most, told):
+    apart = f"{name}: planned {planned:,}, QEMU {real:,}"
+    print(f"  {apart}", flush=True)
+    expect_in_time(real > 0 and abs(planned / real - 1) <= most / 100, f"{apart}\n{told}")
 
 
 def check(tally, given):

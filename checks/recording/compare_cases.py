@@ -15,8 +15,7 @@ PAGE = 4096
 
 def nodes_of_any_size(_, __):
     """Each node has whole pages, as many as asked but for a few, and a size at which QEMU 7.2 loses none."""
-    for seed in range(500):
-        draws = harness.draws(f"nodes {seed}")
+    for draws in harness.drawn("nodes", range(500)):
         memory, count = draws.randrange(1 << 27, 1 << 37), draws.randrange(1, 9)
         nodes = guest.nodes_of(memory, count)
         expect(len(nodes) == count and all(size % PAGE == 0 and size % guest.UNSAFE for size in nodes), f"{nodes}")

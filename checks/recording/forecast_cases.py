@@ -148,17 +148,19 @@ def damaged_beside_tools(_, folder):
 
 def refused_traces(_, folder):
     """A trace that is damaged at random is refused by file, name and cause, or it has another SHA-256."""
-    path, draws = os.path.join(folder, "guest.pcwt"), harness.draws("damages")
+    path = os.path.join(folder, "guest.pcwt")
     made_trace(os.path.join(folder, "whole.pcwt"), pages=64, ticks=200)
     run_thin(os.path.join(folder, "whole.pcwt"), path, "--one-in", "1", "--start", "1000")
     with open(path, "rb") as file:
         text = file.read()
     names = set()
-    for number in range(60):
+    for draws in harness.drawn("damaged records", range(60)):
         damaged = bytearray(text)
         for _ in range(draws.randrange(1, 3)):
             damaged[draws.choice((draws.randrange(16), draws.randrange(len(text))))] ^= draws.randrange(1, 256)
-        damaged = damaged[: draws.choice((len(text), draws.randrange(len(text)), len(text)))] + b"x" * (number % 5 == 4)
+        damaged = damaged[: draws.choice((len(text), draws.randrange(len(text)), len(text)))] + b"x" * (
+            draws.number % 5 == 4
+        )
         with open(path, "wb") as file:
             file.write(damaged)
         printed, refused = run_predict(path, *LINK, status=1)
@@ -407,8 +409,7 @@ def predicted_series(_, folder):
 def pictures_of_any_starts(_, folder):
     """Whatever the costs are, the picture is well formed, and no dot is outside of its panel."""
     path = os.path.join(folder, "any.svg")
-    for seed in range(200):
-        draws = harness.draws(f"pictures {seed}")
+    for draws in harness.drawn("pictures of starts", range(200)):
         begin = datetime.datetime.fromtimestamp(1_800_000_000 + draws.random() * 1e8, datetime.timezone.utc)
         span = draws.choice((0, 1, 50, 4000, 86_399, 86_400, 900_000))
         starts = [
@@ -422,13 +423,13 @@ def pictures_of_any_starts(_, folder):
             for _ in range(draws.randrange(1, 40))
         ]
         with open(path, "w", encoding="utf-8") as file:
-            file.write(day_chart.drawn(starts, f'<{seed}> & "others"'))
+            file.write(day_chart.drawn(starts, f'<{draws}> & "others"'))
         dots = pictured(path)
-        expect(len(dots) == 3 * len(starts), f"seed {seed}: {len(dots)} dots")
+        expect(len(dots) == 3 * len(starts), f"{len(dots)} dots")
         for number, (x, y, _, text) in enumerate(dots):
             top = day_chart.TOP + 20 + number // len(starts) * (day_chart.HEIGHT + day_chart.GAP)
             inside = day_chart.LEFT - 0.1 <= x <= day_chart.WIDTH - day_chart.RIGHT + 0.1
-            expect(inside and top - 0.1 <= y <= top + day_chart.HEIGHT + 0.1, f"seed {seed}: {text} at {x}, {y}")
+            expect(inside and top - 0.1 <= y <= top + day_chart.HEIGHT + 0.1, f"{text} at {x}, {y}")
 
 
 CASES = cases_of(__name__)

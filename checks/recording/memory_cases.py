@@ -117,8 +117,7 @@ def expect_recorded(folder, source, known, *said, **more):
 
 def asked_by_monitor(_, folder):
     """Layouts at random, also after memory was plugged in: exactly the nodes are recorded."""
-    for seed in range(LAYOUTS):
-        draws = harness.draws(f"layout {seed}")
+    for draws in harness.drawn("layouts", range(LAYOUTS)):
         with Known(folder, layout_of(draws)) as known:
             if draws.random() < 0.5:
                 known.ask("plug")
@@ -176,8 +175,8 @@ def plugged_in_meanwhile(_, folder):
 
 def never_the_guest(_, folder):
     """All nodes may be the guest's memory; code, stacks, and the data of libraries never are."""
-    for seed in range(LAYOUTS):
-        with Known(folder, layout_of(harness.draws(f"words {seed}"))) as known:
+    for draws in harness.drawn("layouts of mappings", range(LAYOUTS)):
+        with Known(folder, layout_of(draws)) as known:
             taken = []
 
             def overlap(begin, end):
@@ -309,18 +308,18 @@ def lying_monitors(_, __):
     guest.plug()
     true = sorted((node.address, node.address + node.size) for node in guest.all_nodes())
     refused = right = other = 0
-    for seed in range(MUTATIONS):
+    for draws in harness.drawn("lies", range(MUTATIONS)):
         try:
-            ranges = guest_memory.checked(os.getpid(), guest_memory.asked(Lying(guest, harness.draws(f"lies {seed}"))))
+            ranges = guest_memory.checked(os.getpid(), guest_memory.asked(Lying(guest, draws)))
         except (qmp.Fault, ValueError) as fault:
             refused += 1
-            expect(str(fault).strip(), f"seed {seed}: refused without a word")
+            expect(str(fault).strip(), "refused without a word")
             continue
         right += ranges == true
         other += ranges != true
         for begin, end in ranges:
-            mappings.within(os.getpid(), mappings.memory_of(os.getpid()), begin, end, f"seed {seed}")
-        expect(sum(end - begin for begin, end in ranges) % PAGE == 0, f"seed {seed}")
+            mappings.within(os.getpid(), mappings.memory_of(os.getpid()), begin, end, f"{draws}")
+        expect(sum(end - begin for begin, end in ranges) % PAGE == 0, f"{ranges}")
     print(f"  lying monitors: {refused} refused, {right} harmless, {other} of other memory of {MUTATIONS}", flush=True)
     expect(refused > MUTATIONS // 4 and right > 100 and not other, f"{refused}, {right}, {other}")
 
@@ -401,8 +400,8 @@ def hostile_sockets(_, folder):
 
 def guests_that_end(_, folder):
     """Killed at any moment while it is asked and recorded: a whole trace, or none and words."""
-    draws, statuses = harness.draws("ends"), set()
-    for number in range(KILLED):
+    statuses = set()
+    for draws in harness.drawn("guests that end", range(KILLED)):
         with Known(folder, layout_of(draws)) as known:
             timer = threading.Timer(draws.uniform(0, 0.9), known.process.kill)
             timer.start()
@@ -414,7 +413,7 @@ def guests_that_end(_, folder):
             drawn.expect_whole()
         whole = {"guest.light.pcwt", "guest.light.json", "map"}
         left = set(os.listdir(folder)) - (whole if drawn.status == 0 else set())
-        expect(not left and drawn.status in (0, 1), f"run {number}: status {drawn.status}, {left}, {drawn.faults!r}")
+        expect(not left and drawn.status in (0, 1), f"status {drawn.status}, {left}, {drawn.faults!r}")
         expect(drawn.faults.startswith("record: ") and "Traceback" not in drawn.faults, drawn.faults)
         for name in os.listdir(folder):
             os.unlink(os.path.join(folder, name))

@@ -11,7 +11,7 @@ import sys
 import tempfile
 import time
 
-from checks.lib.tally import module
+from checks.lib.tally import LeftOut, module, need
 from checks.recording import forecast_cases
 from checks.recording.memory_cases import Known
 from checks.recording.recorder_runs import RECORD, SECONDS, TOP, Writing, expect, read_until_recording
@@ -147,9 +147,9 @@ def expanded(folder, instance):
 
 def services_with_dashes(_, folder):
     """The service of a guest with a dash, or with other letters, records this guest, into a file of its name."""
-    if not shutil.which("systemd-escape") or not os.access(SYSTEMD, os.X_OK):
-        print("  there is no systemd: the expansion of the unit is not tried", flush=True)
-        return
+    need("systemd-escape")
+    if not os.access(SYSTEMD, os.X_OK):
+        raise LeftOut("there is no systemd, which expands the unit")
     with tempfile.TemporaryDirectory() as units:
         unit_in(units)
         for name in ("db-a", "web", "a b", "x--y-", "db\\x2da", "ä.1"):

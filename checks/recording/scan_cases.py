@@ -79,8 +79,7 @@ def same_by_both(_, folder):
     before, scans.PATHS = scans.PATHS, (path,)
     call, scans.PATHS = scans.library(), before
     expect(call is not None, "the library cannot be loaded")
-    for seed in range(SEEDS):
-        draws = harness.draws(f"looks {seed}")
+    for draws in harness.drawn("looks", range(SEEDS)):
         with Pages(draws.choice(("private", "shared"))) as pages:
             drawn = sorted(draws.sample(range(PAGES), draws.randrange(2, 400)))
             places = [pages.address + page * PAGE for page in drawn]

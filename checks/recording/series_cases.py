@@ -115,9 +115,9 @@ def exact_series(folder, draws, *words, steps=STEPS, size=STEP, pauses=PAUSES, c
 
 def nothing_lost(_, folder):
     """Over several segments."""
-    for seed in range(2):
+    for draws in harness.drawn("series", range(2)):
         with tempfile.TemporaryDirectory(dir=folder) as each:
-            _, found = exact_series(each, harness.draws(f"series {seed}"))
+            _, found = exact_series(each, draws)
             expect_in_time(len(found) >= 3, f"{len(found)} segments")
     # Also in the milliseconds in which one segment ends and the next one begins.
     with tempfile.TemporaryDirectory(dir=folder) as each:

@@ -4,7 +4,7 @@ import itertools
 
 from checks.lib import migration_model
 from checks.lib.amount_texts import size_text, time_text
-from checks.lib.harness import draws
+from checks.lib.harness import drawn
 from checks.lib.tally import expect
 from checks.lib.view_texts import facts, parsed, ran
 from checks.view.limit_cases import in_range, is_refused, some
@@ -141,15 +141,13 @@ REFUSED = [
 
 def advice_tries(examples, traces):
     """The tries of advice, and of sweeps in times and bytes."""
-    draw = draws("advice")
     yield from ((check_advice, words, trace) for trace in examples for words in BUDGETS)
-    for trace, asked in some(draw, traces, ADVICE, rounds=30, skip=False, increment=None):
+    for draw, trace, asked in some("advice", traces, ADVICE, rounds=30, skip=False, increment=None):
         yield check_measured_advice, asked, draw.choice([None, None, draw.randrange(200)]), trace
-    for _ in range(SWEEPS):
+    for draw in drawn("sweeps", range(SWEEPS)):
         trace = draw.choice(traces)
-        yield check_measured_sweep, in_range(draw, trace), [
-            random_case(draw) for _ in range(draw.randrange(1, 6))
-        ], trace
+        cases = [random_case(draw) for _ in range(draw.randrange(1, 6))]
+        yield check_measured_sweep, in_range(draw, trace), cases, trace
     for words, line in REFUSED:
         words = [
             more for word in words for more in (["--link=10Gbit", "--downtime=300ms"] if word == "--link" else [word])

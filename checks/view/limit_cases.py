@@ -2,16 +2,17 @@
 
 import itertools
 import random
+from collections.abc import Iterator
 from dataclasses import replace
 from fractions import Fraction
 
 from checks.lib import migration_model
-from checks.lib.harness import draws
+from checks.lib.harness import Draw, drawn
 from checks.lib.migration_model import STATUSES, Cost, Question
 from checks.lib.tally import expect
 from checks.lib.traces import Trace
 from checks.lib.view_texts import parsed, ran
-from checks.predictions.questions import drawn
+from checks.predictions.questions import random_question
 from precopy_dev.models import redrawn  # noqa: F401, checks/page takes it from here
 
 TIMES = {"us": 1, "ms": 1_000, "s": 1_000_000}
@@ -33,15 +34,15 @@ Known = Trace.at
 
 def in_range(draw: random.Random, trace: Trace, is_refused: bool = False, **changed) -> Question:
     """A question about a trace that is not refused, or one that is, with some of its numbers changed."""
-    asked = (replace(drawn(draw, trace), **changed) for _ in itertools.count())
+    asked = (replace(random_question(draw, trace), **changed) for _ in itertools.count())
     return next(it for it in asked if (it.refusal(trace) is not None) == is_refused)
 
 
-def some(draw: random.Random, traces: list[Trace], count: int, **changed):
-    """So many traces, each with a question about it, of which one in SELDOM is refused."""
-    for number in range(count):
+def some(kind: str, traces: list[Trace], count: int, **changed) -> Iterator[tuple[Draw, Trace, Question]]:
+    """So many draws of a kind, each with a trace and a question about it, of which one in SELDOM is refused."""
+    for draw in drawn(kind, range(count)):
         trace = draw.choice(traces)
-        yield trace, in_range(draw, trace, number % SELDOM == 0, **changed)
+        yield draw, trace, in_range(draw, trace, draw.number % SELDOM == 0, **changed)
 
 
 def is_refused(view, command: list[str], asked: Question, words: list[str], trace: Trace) -> bool:
@@ -97,8 +98,7 @@ def check_measured(view, _, asked, length, hot, trace):
 
 def report_tries(traces):
     """The tries of random limits over some traces."""
-    draw = draws("reports")
-    for trace, asked in some(draw, traces, REPORTS):
+    for draw, trace, asked in some("reports", traces, REPORTS):
         length = max(1, (trace.last + 1) // draw.choice([1, 7, 60, 400]))
         yield check_measured, asked, length, draw.randrange(1, 4), trace
 
@@ -120,9 +120,9 @@ def start_ticks(draw, last):
     return words, list(range(first, end + 1, step))
 
 
-def told_of(asked: Question, costs: list[Cost]) -> tuple[int, str, dict]:
+def told_of(asked: Question, costs: list[Cost], trace) -> tuple[int, str, dict]:
     """The status, the table and the document of `precopy-view when`."""
-    best, worst = migration_model.chosen(costs)
+    best, worst = migration_model.chosen(costs, asked, trace)
     heading = "".join(name.rjust(14) for name in ("tick", "start", "time", "sent", "downtime"))
     lines = [heading, *(cost.row(asked.tick) for cost in costs)]
     document = {
@@ -131,7 +131,7 @@ def told_of(asked: Question, costs: list[Cost]) -> tuple[int, str, dict]:
     }
     for name, title, cost in (("best", "best: ", best), ("worst", "worst:", worst)):
         if cost:
-            lines.append(cost.choice(title, asked.tick))
+            lines.append(cost.choice(title, asked))
             document[name] = cost.member(asked.tick)
         else:
             lines.append(f"{title} none, since no migration ends within the trace; record longer")
@@ -145,7 +145,7 @@ def check_starts(view, _, asked, starts, workers, trace):
     words += [] if asked.increment is None else [f"--inc={asked.increment}"]
     if is_refused(view, ["when"], asked, words, trace):
         return
-    status, table, document = told_of(asked, [Cost.of(asked, trace, tick) for tick in ticks])
+    status, table, document = told_of(asked, [Cost.of(asked, trace, tick) for tick in ticks], trace)
     found = ran(view, ["when", *words], trace.path)
     expect(found == (status, table, ""), f"{words}: {found} in place of {status}, {table}")
     found, text, faults = ran(view, ["json", "when", *words], trace.path)
@@ -155,8 +155,7 @@ def check_starts(view, _, asked, starts, workers, trace):
 
 def start_tries(traces):
     """The tries of random starts over some traces. The first start is the one of the words, and there is no copy."""
-    draw = draws("starts")
-    for trace, asked in some(draw, traces, STARTS, start=0, base=None):
+    for draw, trace, asked in some("starts", traces, STARTS, start=0, base=None):
         yield check_starts, asked, start_ticks(draw, trace.last), draw.choice([1, 4]), trace
 
 

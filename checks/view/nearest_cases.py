@@ -2,7 +2,7 @@
 
 from dataclasses import replace
 
-from checks.lib.harness import draws
+from checks.lib.harness import drawn
 from checks.lib.migration_model import Question
 from checks.lib.tally import expect
 from checks.lib.view_texts import ran
@@ -63,5 +63,5 @@ def nearest_drawn(draw):
 
 def nearest_tries(trace):
     """The tries of refused amounts over a trace of 25 pages of 4,096 bytes."""
-    draw = draws("nearest")
-    yield from ((check_nearest, *nearest_drawn(draw), trace) for _ in range(DRAWN))
+    for draw in drawn("refused amounts", range(DRAWN)):
+        yield check_nearest, *nearest_drawn(draw), trace

@@ -1,13 +1,14 @@
 """Cases of checks/view about pictures: each mark of random ones is read back to the numbers that it may stand for."""
 
+import bisect
 import collections
 import os
 import xml.etree.ElementTree
 from dataclasses import replace
 
 from checks.lib.amount_texts import moment_text, size_text, time_text
-from checks.lib.harness import draws
-from checks.lib.migration_model import Cost, options_of, report_of, windows_of
+from checks.lib.harness import drawn
+from checks.lib.migration_model import Cost, chosen, options_of, report_of, windows_of
 from checks.lib.tally import expect
 from checks.lib.traces import Trace, made
 from checks.lib.view_texts import ran, told
@@ -49,11 +50,7 @@ class Axis(Scale):
 
     def place(self, tick):
         """Where a tick belongs: the only unit that may stand for it."""
-        low, high = 0, SPAN
-        while low < high:
-            middle = (low + high + 1) // 2
-            low, high = (middle, high) if self.numbers_at(middle)[0] <= tick else (low, middle - 1)
-        return LEFT + low
+        return LEFT + bisect.bisect_right(range(1, SPAN + 1), tick, key=lambda unit: self.numbers_at(unit)[0])
 
 
 def axis_over(ticks, length, windows):
@@ -248,7 +245,7 @@ def read_curve(panel, axis, points, starts, number_of):
 
 
 def start_line(name, cost, tick):
-    down, time = time_text(cost.down), time_text(cost.time)
+    down, time = cost.downtime(), time_text(cost.time)
     return (
         f"{name} start at {moment_text(cost.start * tick)}: downtime {down}, time {time}, {size_text(cost.sent)} sent"
     )
@@ -277,7 +274,7 @@ def check_start_marks(view, _, limits, ticks, length, trace):
     plan = [f"--rounds={limits.rounds}", *["--skip"] * limits.skip]
     plan += [] if limits.increment is None else [f"--inc={limits.increment}"]
     costs = [Cost.of(limits, trace, tick) for tick in ticks]
-    status, _, document = told_of(limits, costs)
+    status, _, document = told_of(limits, costs, trace)
     found, text, _ = ran(view, ["when", "--chart", *limits.limits(), *plan, *starts, f"--window={length}"], trace.path)
     expect(found == status, f"status {found} in place of {status}")
     picture, (windows, _) = Picture(text), windows_of(trace, length, 2)
@@ -285,9 +282,8 @@ def check_start_marks(view, _, limits, ticks, length, trace):
     read_windows(picture.panels[0], axis, length, windows)
     read_starts(picture, axis, costs, document, limits.downtime // 1_000)
     read_axis(picture, axis, picture.panels[-1].bottom, limits.tick)
-    by_start = {cost.start: cost for cost in costs}
-    chosen = [(name, by_start[document[name]["start"]]) for name in ("best", "worst") if name in document]
-    feet = [start_line(name.capitalize(), cost, limits.tick) for name, cost in chosen]
+    pairs = zip(("Best", "Worst"), chosen(costs, limits, trace))
+    feet = [start_line(name, cost, limits.tick) for name, cost in pairs if cost]
     texts = picture.texts("head"), picture.texts("foot")
     expect(texts == (["When to migrate"], feet), f"the lines {texts} in place of {feet}")
 
@@ -295,9 +291,9 @@ def check_start_marks(view, _, limits, ticks, length, trace):
 # ---- Random traces and words.
 
 
-def random_trace(draw, folder, number):
+def random_trace(draw, folder):
     """Writes a trace of random writes: few or many, in bursts, some at its first and some at its last tick."""
-    path = os.path.join(folder, f"random-{number}.pcwt")
+    path = os.path.join(folder, f"random-{draw.number}.pcwt")
     pages = draw.choice([1, 3, 64, 700])
     last = draw.choice([0, 5, 900, 10**5, 10**9])
     hot = draw.randrange(pages)
@@ -323,13 +319,11 @@ def random_settings(draw, last):
 
 
 def picture_tries(folder):
-    """The tries of 200 random pictures over random traces."""
-    draw = draws("pictures")
-    traces = [random_trace(draw, folder, number) for number in range(40)]
-    for number in range(REPORTS + STARTS):
-        trace = draw.choice(traces)
+    """The tries of 200 random pictures, each over a random trace."""
+    for draw in drawn("pictures", range(REPORTS + STARTS)):
+        trace = random_trace(draw, folder)
         limits, length = in_range(draw, trace), random_window(draw, trace.last)
-        if number < REPORTS:
+        if draw.number < REPORTS:
             limits = draw.choice([None, limits])
             settings = limits.settings() if limits else random_settings(draw, trace.last)
             yield check_report_marks, limits, settings, length, trace

@@ -1,13 +1,15 @@
 """Plants faults into the product, and looks whether its checks see them.
 
-    checks/run wrongs [--all] [--check CHECK ..] [--list]
+    checks/run wrongs [--all] [--check CHECK ..] [--only WORD ..] [--list]
 
-checks/wrongs/faults.tsv has them. Some are wrong programs round the built ones (checks/wrongs/wrong.c), others are
-edits of the sources, in a copy of them that uses what is built. The check runs until its first failure, which must tell
-of what is wrong. Without words some faults are tried, in turn by the day. With right programs the checks of the wrongs
-of refusals pass, by the wrongs NOTHING and CALL_NOTHING, which --all tries too. A fault is a case.
+checks/wrongs/faults.tsv has them. Some are wrong programs round the built ones (checks/wrongs/wrong.c), or the library
+with a wrong call (checks/wrongs/wrong_library.c), others are edits of the sources. The last two are tried in a copy of
+the tree that uses what is built. The check runs until its first failure, which must tell of what is wrong. Without
+words some faults are tried, in turn by the day. With right programs the checks of the wrongs of refusals pass, by the
+wrongs NOTHING and CALL_NOTHING, which --all tries too. A fault is a case.
 """
 
+import collections
 import contextlib
 import datetime
 import json
@@ -16,6 +18,7 @@ import re
 import shutil
 import signal
 import subprocess
+import sys
 import tempfile
 import time
 
@@ -25,13 +28,15 @@ from checks.wrongs.faults import Fault, read
 from precopy_dev import tree
 
 HERE = os.path.join(tree.TOP, "checks", "wrongs")
-SECONDS, OF_A_DAY = 900, 8
+SECONDS, OF_A_DAY, LEAST = 900, 8, 3
 # The wrongs with which nothing is wrong, so that the checks pass.
 RIGHT = [
     Fault(check, "", "", program, name, "", "", "")
     for check, program, name in (("refusals", "precopy", "NOTHING"), ("refused_calls", "refused_calls", "CALL_NOTHING"))
 ]
 FAULTS = read()
+# The checks that take words where others have names of cases.
+WITH_WORDS = ("edits", "bodies")
 # What of the tree a copy has as links: nothing of it is edited.
 LINKED = ("crates", "out", "target", ".git")
 
@@ -57,6 +62,7 @@ def compiled(fault, folder):
     """A wrong program round a built one."""
     need("cc")
     to, program = os.path.join(folder, "wrong"), tree.program(fault.where)
+    expect(os.access(program, os.X_OK), f"there is no program {program}; dev/build {fault.where} builds it")
     texts = {"PROGRAM": program, "WHEN": fault.when, "OLD": fault.old, "NEW": fault.new}
     defined = [f"-D{name}={json.dumps(text)}" for name, text in texts.items()]
     words = ["cc", "-O2", "-Wno-unused-result", *defined, f"-DWRONG={fault.name}", "-o", to, f"{HERE}/wrong.c"]
@@ -65,25 +71,84 @@ def compiled(fault, folder):
     return to
 
 
-def edited(fault, folder):
-    """A copy of the tree with one text changed."""
+def copied(folder, path=""):
+    """A copy of the tree, that uses what is built, and in which a file with this path can be edited."""
     top = os.path.join(folder, "tree")
-    os.makedirs(top)
-    for name in os.listdir(tree.TOP):
-        source, to = os.path.join(tree.TOP, name), os.path.join(top, name)
-        if name in LINKED:
-            os.symlink(source, to)
+    copy_files(tree.TOP, top, LINKED)
+    if path.startswith("crates/"):
+        crate = os.path.dirname(path).split("/")[1]
+        os.unlink(os.path.join(top, "crates"))
+        crates = os.path.join(tree.TOP, "crates")
+        copy_files(crates, os.path.join(top, "crates"), os.listdir(crates))
+        os.unlink(os.path.join(top, "crates", crate))
+        copy_files(os.path.join(crates, crate), os.path.join(top, "crates", crate), ("out",))
+    return top
+
+
+def copy_files(folder, to, linked):
+    """Copies what is in a folder, but for some names, for which there are links."""
+    os.makedirs(to)
+    for name in os.listdir(folder):
+        source, copy = os.path.join(folder, name), os.path.join(to, name)
+        if name in linked:
+            os.symlink(source, copy)
         elif os.path.isdir(source):
-            shutil.copytree(source, to, symlinks=True, ignore=shutil.ignore_patterns("__pycache__", "target"))
+            shutil.copytree(source, copy, symlinks=True, ignore=shutil.ignore_patterns("__pycache__", "target"))
         else:
-            shutil.copy2(source, to)
-    path = os.path.join(top, fault.where)
-    with open(path, encoding="utf-8") as file:
+            shutil.copy2(source, copy)
+
+
+def text_of(fault):
+    """The text of the file that a fault edits."""
+    with open(os.path.join(tree.TOP, fault.where), encoding="utf-8") as file:
         text = file.read()
     expect(text.count(fault.old) == 1, f"{fault.old!r} stands {text.count(fault.old)} times in {fault.where}")
+    return text
+
+
+def edited(fault, folder):
+    """A copy of the tree with one text changed."""
+    top = copied(folder, fault.where)
+    path = os.path.join(top, fault.where)
+    text = text_of(fault)
     with open(path, "w", encoding="utf-8") as file:
         file.write(text.replace(fault.old, fault.new))
     return top
+
+
+# Makes both forms of the library in the tree of the folder where it runs.
+PACK = (
+    "import sys; from precopy_dev.packaging import library; "
+    "library.pack(sys.argv[1], sys.argv[2], 'packaging/library.map')"
+)
+
+
+def with_wrong_library(fault, folder):
+    """A copy of the tree whose library has a wrong call."""
+    need("cc", "nm")
+    top, room = copied(folder), os.path.join(folder, "objects")
+    os.unlink(os.path.join(top, "out"))
+    os.makedirs(os.path.join(top, "out", "library"))
+    os.makedirs(room)
+    for name in set(os.listdir(os.path.join(tree.TOP, "out"))) - {"library"}:
+        os.symlink(os.path.join(tree.TOP, "out", name), os.path.join(top, "out", name))
+    right, wrong = f"precopy_{fault.when}", ["-O1", "-fPIC", f"-I{tree.TOP}/include", f"-DWRONG={fault.name}"]
+    for words in (
+        ["ar", "x", os.path.join(tree.TOP, "out", "library", "libprecopy.a")],
+        ["objcopy", "--redefine-sym", f"{right}=right_{fault.when}", "precopy.o"],
+        ["cc", *wrong, "-c", f"{HERE}/wrong_library.c", "-o", "wrong.o"],
+        ["ld", "-r", "-o", "whole.o", "precopy.o", "wrong.o"],
+        ["objcopy", "--wildcard", "--keep-global-symbol=precopy_*", "whole.o"],
+    ):
+        expect_done(words, room)
+    expect_done([sys.executable, "-B", "-c", PACK, room, os.path.join(room, "whole.o")], top)
+    return top
+
+
+def expect_done(words, folder):
+    environment = {**os.environ, "PYTHONPATH": os.path.join(folder, "python")}
+    done = subprocess.run(words, cwd=folder, env=environment, capture_output=True, text=True)
+    expect(done.returncode == 0, f"{words}: {done.stderr[-600:]}")
 
 
 def programs_of(fault, wrong):
@@ -92,6 +157,7 @@ def programs_of(fault, wrong):
         "evacuation": ("precopy_schedule", "precopy_view"),
         "view": ("precopy_view", "precopy"),
         "predictions": ("precopy_view",),
+        "documents": ("precopy", "precopy_view"),
         "refused_calls": ("refused_calls",),
     }.get(fault.check, ("precopy",))
     return [wrong if name == fault.where else tree.program(name) for name in programs]
@@ -100,8 +166,12 @@ def programs_of(fault, wrong):
 def run_check(fault, folder):
     """The status and the output of a check of a wrong product."""
     top, words = tree.TOP, [word for name in fault.cases.split() for word in ("--only", name)]
+    if fault.check in WITH_WORDS:
+        words = fault.cases.split()
     if not fault.name:
         top = edited(fault, folder)
+    elif fault.where == "library":
+        top = with_wrong_library(fault, folder)
     else:
         words += programs_of(fault, compiled(fault, folder))
     room = os.path.join(folder, "room")
@@ -146,9 +216,18 @@ def check(tally, given):
     chosen = [*FAULTS, *RIGHT] if given.all else of_today()
     if given.check:
         chosen = [fault for fault in FAULTS if fault.check in given.check]
+    if given.only:
+        chosen = [fault for fault in FAULTS if any(word in str(fault) for word in given.only)]
     if given.list:
         print("\n".join(map(str, chosen)))
         chosen = []
+    with tally.case("each edit has its place, and each check at least three faults") as case:
+        for fault in FAULTS:
+            case.add(fault.name or text_of(fault), str(fault))
+        counts = collections.Counter(fault.check for fault in FAULTS)
+        checks = {name for name in os.listdir(os.path.dirname(HERE)) if os.path.isdir(os.path.join(HERE, "..", name))}
+        few = [name for name in checks - {"lib", "wrongs", "__pycache__"} if counts[name] < LEAST]
+        case.add(not few, f"checks with few faults: {sorted(few)}")
     for fault in chosen:
         tally.tries(str(fault), try_fault, fault)
     print(f"{len(chosen)} of {len(FAULTS)} faults were tried")

@@ -6,7 +6,8 @@ from typing import NamedTuple
 
 class Fault(NamedTuple):
     """A text that is wrong in a source, or in what a program does by a wrong of wrong.c, with what stands there
-    otherwise. `sign` is what the failure of a check, or of some of its cases, must tell of."""
+    otherwise; or a wrong call of the library, by a wrong of wrong_library.c. `sign` is what the failure of a check, or
+    of some of its cases, must tell of."""
 
     check: str
     cases: str

@@ -4,8 +4,8 @@
  *     cc -DPROGRAM='"/path/of/precopy"' -DWRONG=E16_ANSWERED -o wrong wrong.c
  *
  * It runs PROGRAM with its own words, input and environment, takes what PROGRAM writes, and does something wrong with
- * it. checks/refusals/refuse.c, which is preloaded here too, does not affect it: it reads and writes by system calls, and asks
- * for no memory, except in ASKING_AGAIN and CARELESS.
+ * it. checks/refusals/refuse.c, which is preloaded here too, does not affect it: it reads and writes by system calls,
+ * and asks for no memory, except in ASKING_AGAIN and CARELESS.
  */
 #define _GNU_SOURCE
 #include <signal.h>
@@ -50,6 +50,7 @@ enum wrong {
     REFUSED,         /* the refusal NEW, whatever comes, for the word WHEN */
     REFUSED_FOR,     /* the refusal NEW in place of each refusal, for the word WHEN */
     DROPPED,         /* the word OLD taken away from the command */
+    STATUS_CHANGED,  /* another status, for the word WHEN */
 };
 
 /* The word of a command at which something is wrong, and the texts that are exchanged. */
@@ -63,7 +64,7 @@ enum wrong {
 #define NEW ""
 #endif
 
-static char output[1 << 25], faults[1 << 18];
+static char output[1 << 26], faults[1 << 18];
 static size_t output_size, fault_size;
 static int status; /* as `wait` gives it */
 
@@ -227,6 +228,7 @@ static void do_wrong_to_text(int is_refused) {
         }
     }
     if (WRONG == BYTE_CHANGED && output_size) output[output_size - 1] ^= 1;
+    if (WRONG == STATUS_CHANGED && WIFEXITED(status)) status = (WEXITSTATUS(status) ^ 8) << 8;
     if (WRONG == REFUSED || (WRONG == REFUSED_FOR && is_refused)) refuse(NEW);
 }
 

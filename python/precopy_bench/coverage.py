@@ -11,21 +11,20 @@ cells and which means are outside; the status is 0 only if none is. It plans by 
 by `workloads`.
 """
 
-import argparse
 import multiprocessing
 import os
 import random
-import struct
 import subprocess
 import sys
-import tempfile
 from typing import NamedTuple
 
+from precopy_bench.programs import TRACES
 from precopy_dev.models import redrawn
 from precopy_dev.tree import TOP
+from precopy_dev.words import parser_of
+from precopy_tools.formats.traces import read_file
 
 NAMES = ("uniform", "zipf", "seq", "phase", "full", "released")
-RECORD = struct.Struct("<QIHH")
 PAGE, TICK = 4096, 1000
 LOW, HIGH = 0.60, 0.76
 # Rates of a sample are whole numbers, so ticks are made longer until the first round's is no less than this.
@@ -60,20 +59,6 @@ class Shares(NamedTuple):
     alike: float
 
 
-def read(path: str) -> list[list[int]]:
-    """The ticks at which each page of a trace is written."""
-    with open(path, "rb") as file:
-        data = file.read()
-    pages, writes = struct.unpack_from("<II", data, 8)
-    guest: list[list[int]] = [[] for _ in range(pages)]
-    place = 16
-    for _ in range(writes):
-        tick, page, _, length = RECORD.unpack_from(data, place)
-        guest[page].append(tick)
-        place += RECORD.size + length
-    return guest
-
-
 def settings(kind: str, writes: float, pages: int, sampled: int) -> redrawn.Settings:
     """The settings for some of the guest's pages, by how many writes there are a tick."""
     first, last, downtime, rounds = KINDS[kind]
@@ -89,7 +74,8 @@ def costs(outcome: redrawn.Outcome, scale: redrawn.Scale) -> tuple[int, int, int
 
 def measured(case: Case) -> tuple[Case, Shares]:
     """In which share of the samples each of the three is within its error."""
-    guest = read(case.path)
+    trace, records = read_file(case.path)
+    guest = redrawn.by_page(trace.pages, [record[:2] for record in records])
     pages, last = len(guest), max(ticks[-1] for ticks in guest if ticks)
     writes = sum(map(len, guest)) / last
     factor = max(1, int(LEAST_RATE / (1000 * KINDS[case.kind][0] * writes * case.sampled / pages)) + 1)
@@ -134,12 +120,9 @@ def outside(some: dict[str, Shares]) -> list[str]:
 
 
 def main() -> int:
-    parser = argparse.ArgumentParser(
-        prog="bench/coverage", description=__doc__, formatter_class=argparse.RawDescriptionHelpFormatter
-    )
-    folder = os.path.join(tempfile.gettempdir(), "precopy-bench")
+    parser = parser_of("bench/coverage", __doc__)
     parser.add_argument("names", nargs="*", metavar="NAME", default=NAMES, help="traces of bench/workloads")
-    parser.add_argument("--traces", default=folder, metavar="DIR", help=f"where they go, {folder} by default")
+    parser.add_argument("--traces", default=TRACES, metavar="DIR", help=f"where they go, {TRACES} by default")
     parser.add_argument("--seeds", type=int, default=200, metavar="N", help="samples of each case (200)")
     parser.add_argument("--sampled", type=int, default=1024, metavar="M", help="pages of a sample (1024)")
     parser.add_argument("--plans", type=int, default=redrawn.PLANS, metavar="N", help="of redrawn pages (20)")

@@ -15,7 +15,6 @@ It needs what tools/compare-qemu needs, and 5 GiB of memory for six guests of 51
 busy that is. The status is 0 if all guests have arrived whole.
 """
 
-import argparse
 import concurrent.futures
 import json
 import os
@@ -28,6 +27,7 @@ from typing import NamedTuple
 
 from precopy_bench.measuring import memory_folder
 from precopy_dev.tree import TOP
+from precopy_dev.words import parser_of
 from precopy_tools import words
 from precopy_tools.formats import traces
 from precopy_tools.qemu import guest, migration, qmp
@@ -221,9 +221,7 @@ def one_run(number, host, options, folder):
 
 
 def options_of(given):
-    parser = argparse.ArgumentParser(
-        prog="bench/evacuation", description=__doc__, formatter_class=argparse.RawDescriptionHelpFormatter
-    )
+    parser = parser_of("bench/evacuation", __doc__)
     add = parser.add_argument
     add("--guests", type=int, choices=range(2, len(WORKLOADS) + 1), default=len(WORKLOADS), help="2 to 6 (6)")
     add("--memory", type=words.memory, default=SIZE, metavar="SIZE", help="of each guest (512M)")

@@ -7,7 +7,6 @@ but of memory the most. Output goes nowhere, and programs run in turn. An instal
 is made in a temporary folder. It needs cargo and a C compiler; build the program first with `./precopy --help`.
 """
 
-import argparse
 import os
 import re
 import shutil
@@ -17,7 +16,7 @@ import tempfile
 
 from precopy_bench import jobs as work
 from precopy_bench.measuring import Fault, Nowhere, Others, run
-from precopy_bench.programs import built, made
+from precopy_bench.programs import built, made, timing_parser
 from precopy_dev.packaging import compilers, launcher
 from precopy_dev.tree import TOP
 
@@ -41,22 +40,6 @@ ROWS = [
 ]
 
 
-def asked_for():
-    parser = argparse.ArgumentParser(
-        prog="bench/installed", description=__doc__, formatter_class=argparse.RawDescriptionHelpFormatter
-    )
-    folder = os.path.join(tempfile.gettempdir(), "precopy-bench")
-    program = os.path.join(TOP, "crates", "precopy", "out", "precopy")
-    parser.add_argument("-n", type=int, default=4, metavar="RUNS", help="runs of each program, 4 by default")
-    parser.add_argument("--only", default="", metavar="REGEX", help="matched against a row's name, as '^uniform'")
-    parser.add_argument("--program", default=program, metavar="PATH", help="precopy, as it is built by default")
-    parser.add_argument("--traces", default=folder, metavar="DIR", help=f"where traces are, {folder} by default")
-    asked = parser.parse_args()
-    if asked.n < 1:
-        parser.error("-n has to be at least 1")
-    return asked
-
-
 def install(program, folder):
     """Puts a launcher and the program into a folder, as an installation has them. Returns the launcher's path."""
     proper, called = (os.path.join(folder, name, "precopy") for name in ("lib", "bin"))
@@ -75,7 +58,7 @@ def cell(runs):
 
 
 def main():
-    asked = asked_for()
+    asked = timing_parser("installed", __doc__, 4, "uniform").parse_args()
     if not os.access(asked.program, os.X_OK):
         raise Fault(f"{asked.program} is not built: ./precopy --help builds it")
     rows = [row for row in ROWS if re.search(asked.only, f"{row[0]} {row[1]}")]

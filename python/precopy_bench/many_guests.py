@@ -12,7 +12,6 @@ and rsync. Memory is the greatest sum over all processes of the tool; shared pag
 it is so.
 """
 
-import argparse
 import concurrent.futures
 import json
 import os
@@ -28,6 +27,7 @@ import time
 from typing import NamedTuple
 
 from precopy_dev.tree import TOP
+from precopy_dev.words import parser_of
 from precopy_tools.formats.samples import path_beside
 
 TOOLS = {name: os.path.join(TOP, "tools", name) for name in ("thin", "evacuate")}
@@ -224,9 +224,7 @@ def measure(folder, options):
 
 
 def main():
-    parser = argparse.ArgumentParser(
-        prog="bench/many-guests", description=__doc__, formatter_class=argparse.RawDescriptionHelpFormatter
-    )
+    parser = parser_of("bench/many-guests", __doc__)
     parser.add_argument("--records", type=int, default=10_000, metavar="N", help="at least 250 (10000)")
     parser.add_argument("--at-once", default="1,2,4,8", metavar="K,K..", help="numbers at once (1,2,4,8)")
     parser.add_argument("--link", default="400Gbit", metavar="RATE", help="of all (400Gbit)")

@@ -10,15 +10,13 @@ least of RUNS, 6 by default, but of memory the most. It needs cargo, and `live_c
 builds.
 """
 
-import argparse
 import os
 import re
 import sys
-import tempfile
 
 from precopy_bench import jobs as work
 from precopy_bench.measuring import Fault, Nowhere, Others, run
-from precopy_bench.programs import TOP, built, large_pages, made
+from precopy_bench.programs import built, large_pages, made, timing_parser
 
 TRACES = ("uniform", "zipf", "seq", "phase", "big", "full", "tiny")
 COUNTS = (1, 4)
@@ -26,20 +24,9 @@ LIMIT = 300
 
 
 def asked_for():
-    parser = argparse.ArgumentParser(
-        prog="bench/pages", description=__doc__, formatter_class=argparse.RawDescriptionHelpFormatter
-    )
-    folder = os.path.join(tempfile.gettempdir(), "precopy-bench")
-    program = os.path.join(TOP, "crates", "live_counts", "out", "live_counts")
-    parser.add_argument("-n", type=int, default=6, metavar="RUNS", help="runs of each program, 6 by default")
-    parser.add_argument("--only", default="", metavar="REGEX", help="matched against 'TRACE COUNT', as '^uniform 4$'")
+    parser = timing_parser("pages", __doc__, 6, "uniform 4$", "live_counts")
     parser.add_argument("--lane", type=int, default=65_536, metavar="N", help="frames of a lane, 65536 by default")
-    parser.add_argument("--program", default=program, metavar="PATH", help="live_counts, as it is built by default")
-    parser.add_argument("--traces", default=folder, metavar="DIR", help=f"where traces are, {folder} by default")
-    asked = parser.parse_args()
-    if asked.n < 1:
-        parser.error("-n has to be at least 1")
-    return asked
+    return parser.parse_args()
 
 
 class Programs:

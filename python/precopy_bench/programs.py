@@ -1,25 +1,51 @@
-"""What must be there before anything is measured: the other programs, the traces, and a setting of the C library."""
+"""What must be there before anything is measured: the other programs, the traces, and a setting of the C library; and
+the options that say where they are."""
 
+import argparse
 import json
 import os
 import re
 import subprocess
 import sys
+import tempfile
 
 from precopy_bench import jobs as work
 from precopy_bench.measuring import Fault
+from precopy_dev.packaging import launcher
 from precopy_dev.tree import TOP
+from precopy_dev.words import parser_of
+
+# Where traces are, if nothing else is said.
+TRACES = os.path.join(tempfile.gettempdir(), "precopy-bench")
+
+
+def at_least_1(word):
+    if not word.isdecimal() or int(word) < 1:
+        raise argparse.ArgumentTypeError("it has to be at least 1")
+    return int(word)
+
+
+def pattern(word):
+    try:
+        return re.compile(word)
+    except re.error as fault:
+        raise argparse.ArgumentTypeError(f"it is no regular expression: {fault}") from fault
+
+
+def timing_parser(name, doc, runs, row, crate="precopy"):
+    """The options of a command that times the program of a crate over traces, in runs of rows such as `row`."""
+    parser, program = parser_of(f"bench/{name}", doc), os.path.join(TOP, "crates", crate, "out", crate)
+    add = parser.add_argument
+    add("-n", type=at_least_1, default=runs, metavar="RUNS", help=f"measured runs of each program, {runs} by default")
+    add("--only", type=pattern, default="", metavar="REGEX", help=f"matched against a row's name, as '^{row}'")
+    add("--program", default=program, metavar="PATH", help=f"{crate}, as it is built by default")
+    add("--traces", default=TRACES, metavar="DIR", help=f"where traces are, {TRACES} by default")
+    return parser
 
 
 def large_pages():
-    """The setting of the C library by which ./precopy runs the program, from dev/start."""
-    if "GLIBC_TUNABLES" in os.environ:
-        return os.environ["GLIBC_TUNABLES"]
-    with open(os.path.join(TOP, "dev", "start"), encoding="utf-8") as file:
-        found = re.search(r"^large_pages='([^']*)'$", file.read(), re.MULTILINE)
-    if not found:
-        raise Fault("dev/start does not set large_pages as this program expects")
-    return found[1].replace(" ", ":")
+    """The setting of the C library by which ./precopy runs the program."""
+    return os.environ.get("GLIBC_TUNABLES", launcher.large_pages())
 
 
 def built():

@@ -8,7 +8,6 @@ both ends. It needs qemu-system-x86_64, and three times the guest's memory. docs
 common with `precopy live`, and what not.
 """
 
-import argparse
 import os
 import shutil
 import subprocess
@@ -17,6 +16,7 @@ import tempfile
 import time
 
 from precopy_bench.measuring import memory_folder
+from precopy_dev.words import parser_of
 from precopy_tools.qemu.qmp import Client, Fault
 
 QEMU = "qemu-system-x86_64"
@@ -27,9 +27,7 @@ UNLIMITED = 1 << 40
 
 
 def asked_for():
-    parser = argparse.ArgumentParser(
-        prog="bench/qemu", description=__doc__, formatter_class=argparse.RawDescriptionHelpFormatter
-    )
+    parser = parser_of("bench/qemu", __doc__)
     parser.add_argument("--size", type=int, default=2048, metavar="MIB", help="the guest's memory, 2048 by default")
     parser.add_argument("--channels", default="0,4", metavar="N,N..", help="0 is one plain stream; 0,4 by default")
     parser.add_argument("-n", type=int, default=5, metavar="RUNS", help="runs of each, 5 by default")

@@ -8,20 +8,19 @@ times. --quick runs all jobs once over small traces and prints no times. bench/R
 status is 1 if an output differs or a program fails.
 """
 
-import argparse
 import glob
 import os
 import platform
 import re
 import sys
-import tempfile
 import time
 
 from precopy_bench import jobs as work
 from precopy_bench.measuring import Fault, Others, Output, Taken, least_memory, memory_folder, run
-from precopy_bench.programs import built, large_pages, made
+from precopy_bench.programs import built, large_pages, made, timing_parser
 from precopy_bench.tables import Tables
 from precopy_dev.tree import TOP
+from precopy_tools.formats.traces import read_file
 
 MAIN = ("uniform", "zipf", "seq", "phase", "big", "full", "tiny")
 RECORDED = ("gzip", "sort")
@@ -42,39 +41,20 @@ BUSY = 0.3
 
 
 def asked_for():
-    parser = argparse.ArgumentParser(
-        prog="bench/run", description=__doc__, formatter_class=argparse.RawDescriptionHelpFormatter
-    )
-    program = os.path.join(TOP, "crates", "precopy", "out", "precopy")
-    folder = os.path.join(tempfile.gettempdir(), "precopy-bench")
-    parser.add_argument("-n", type=int, default=5, metavar="RUNS", help="measured runs of each program, 5 by default")
-    parser.add_argument("--only", default="", metavar="REGEX", help="matched against 'TRACE JOB', as '^uniform image$'")
-    parser.add_argument("--quick", action="store_true", help="only compare outputs, over small traces")
-    parser.add_argument("--recorded", action="store_true", help="make gzip and sort too, which needs valgrind")
-    parser.add_argument("--program", default=program, metavar="PATH", help="precopy, as it is built by default")
-    parser.add_argument("--traces", default=folder, metavar="DIR", help=f"where traces are, {folder} by default")
-    parser.add_argument("--limit", type=float, default=300, metavar="SECONDS", help="for one run, 300 by default")
-    asked = parser.parse_args()
-    if asked.n < 1:
-        parser.error("-n has to be at least 1")
-    try:
-        re.compile(asked.only)
-    except re.error as fault:
-        parser.error(f"--only is no regular expression: {fault}")
-    return asked
+    parser = timing_parser("run", __doc__, 5, "uniform image$")
+    add = parser.add_argument
+    add("--quick", action="store_true", help="only compare outputs, over small traces")
+    add("--recorded", action="store_true", help="make gzip and sort too, which needs valgrind")
+    add("--limit", type=float, default=300, metavar="SECONDS", help="for one run, 300 by default")
+    return parser.parse_args()
 
 
 def example(path):
     """A trace of examples/, for which no manifest has the sizes."""
-    with open(path, "rb") as file:
-        text = file.read()
-    pages, writes = (int.from_bytes(text[at : at + 4], "little") for at in (8, 12))
-    at = last = 16
-    while at < len(text):
-        last, at = at, at + 16 + int.from_bytes(text[at + 14 : at + 16], "little")
-    tick = int.from_bytes(text[last : last + 8], "little") if writes else 0
+    trace, records = read_file(path)
     name = "example-" + os.path.basename(path).removesuffix(".pcwt")
-    return work.Trace(name, path, 1 << text[5], pages, writes, tick, len(text))
+    last = records[-1][0] if records else 0
+    return work.Trace(name, path, trace.size, trace.pages, trace.writes, last, len(trace.text))
 
 
 # ---- Runs
@@ -243,7 +223,7 @@ def main():
         print(f"run: {fault}", file=sys.stderr)
         return 1
     if not bench.compared and not bench.faults:
-        print(f"run: no trace and job match {asked.only}", file=sys.stderr)
+        print(f"run: no trace and job match {asked.only.pattern}", file=sys.stderr)
         return 1
     print(f"{bench.compared} outputs compared and equal, {len(bench.faults)} faults", flush=True)
     for fault in bench.faults:

@@ -1,6 +1,7 @@
 """The tables of what was measured, in Markdown."""
 
 import math
+import statistics
 
 TITLES = {"precopy": "Precopy", "fast": "Fast", "plain": "Plain"}
 
@@ -156,6 +157,4 @@ class Tables:
 
 def exponent(counts, times):
     """The k of the line `time = c * count ** k` with the least squares of logarithms."""
-    xs, ys = [math.log(it) for it in counts], [math.log(it) for it in times]
-    x, y = sum(xs) / len(xs), sum(ys) / len(ys)
-    return sum((a - x) * (b - y) for a, b in zip(xs, ys)) / sum((a - x) ** 2 for a in xs)
+    return statistics.linear_regression([math.log(it) for it in counts], [math.log(it) for it in times]).slope

@@ -7,7 +7,6 @@ the stores of these programs under valgrind, which must be installed. The names 
 existing trace with this seed stays. DIR/manifest.json has the sizes of each trace and its SHA-256.
 """
 
-import argparse
 import bisect
 import hashlib
 import itertools
@@ -20,6 +19,9 @@ import subprocess
 import sys
 import tempfile
 from dataclasses import dataclass
+
+from precopy_bench.programs import TRACES
+from precopy_dev.words import parser_of
 
 LONGEST = 1 << 28
 MOST_WRITES = 1 << 20
@@ -315,12 +317,9 @@ def make_all(names, seed, folder):
 
 
 def main():
-    parser = argparse.ArgumentParser(
-        prog="bench/workloads", description=__doc__, formatter_class=argparse.RawDescriptionHelpFormatter
-    )
-    folder = os.path.join(tempfile.gettempdir(), "precopy-bench")
+    parser = parser_of("bench/workloads", __doc__)
     parser.add_argument("names", nargs="*", metavar="NAME", help="traces to make")
-    parser.add_argument("--traces", default=folder, metavar="DIR", help=f"where they go, {folder} by default")
+    parser.add_argument("--traces", default=TRACES, metavar="DIR", help=f"where they go, {TRACES} by default")
     parser.add_argument("--seed", type=int, default=SEED, help=f"{SEED} by default")
     parser.add_argument("--recorded", action="store_true", help="record gzip and sort too, with valgrind")
     parser.add_argument("--list", action="store_true", help="print only the names")

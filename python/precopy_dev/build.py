@@ -19,7 +19,6 @@ The toolchain locks a crate and all below it during a run. So each lane works in
 libraries linked into it. The copies are outside the tree, in the user's cache, where no search of the tree finds them.
 If the cache is on another file system, they are in the program's out/.
 """
-import argparse
 import contextlib
 import fcntl
 import glob
@@ -32,7 +31,8 @@ import sys
 import tempfile
 import time
 
-from precopy_dev.tree import TOP
+from precopy_dev.tree import TOP, crates
+from precopy_dev.words import parser_of
 
 MEMORY_OF_A_CRATE = 2 << 30  # bytes; the largest proof takes less
 DISK_OF_A_BUILD = 3 << 30  # bytes
@@ -107,8 +107,7 @@ def programs():
 
 
 def libraries_for_c():
-    with open(f"{TOP}/crates.txt", encoding="utf-8") as lines:
-        return sorted(line.split()[0] for line in lines if line.partition(":")[0].split()[1:] == ["staticlib"])
+    return sorted(name for name, crate in crates().items() if crate.words == ["staticlib"])
 
 
 def file_of(name):
@@ -131,12 +130,7 @@ def lanes_folder(program):
 
 def libraries_below(program):
     """Returns each library of the repository that a program needs, with those that the library itself needs."""
-    uses, needed = {}, {}
-    with open(f"{TOP}/crates.txt", encoding="utf-8") as lines:
-        for line in lines:
-            name, colon, libraries = line.split("#")[0].partition(":")
-            if colon:
-                uses[name.split()[0]] = libraries.split()
+    uses, needed = {name: crate.uses for name, crate in crates().items()}, {}
 
     def visit(name):
         if name not in needed:
@@ -424,9 +418,7 @@ def lacks():
 
 
 def main():
-    parser = argparse.ArgumentParser(
-        prog="build", description=__doc__, formatter_class=argparse.RawDescriptionHelpFormatter, allow_abbrev=False
-    )
+    parser = parser_of("build", __doc__)
     parser.add_argument("--if-needed", action="store_true", help="do nothing if no source is newer")
     parser.add_argument("--proved", action="store_true", help="take the libraries that rt ci left")
     parser.add_argument("--below", action="store_true", help="build only the libraries below it")

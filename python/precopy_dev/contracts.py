@@ -6,6 +6,7 @@ import os
 import re
 from dataclasses import dataclass, field
 
+from precopy_dev import tree
 from precopy_dev.tree import TOP
 
 # Crates that only tests use, and programs of tests: nobody builds on their calls.
@@ -39,9 +40,7 @@ def read(path):
 
 def crates():
     """The names of all crates, in the order of crates.txt."""
-    lines = read(os.path.join(TOP, "crates.txt")).split("\n")
-    heads = [line.split("#")[0].partition(":")[0].split() for line in lines]
-    return [head[0] for head in heads if head]
+    return list(tree.crates())
 
 
 def sources(crate, part, kind):

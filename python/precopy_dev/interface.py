@@ -8,7 +8,7 @@ text as a comment, which may end with a note in parentheses that is not of the t
 is left to write by hand after a new one is told when the files are written.
 """
 
-import argparse
+import itertools
 import os
 import re
 import sys
@@ -17,6 +17,7 @@ from collections.abc import Callable
 from typing import NamedTuple
 
 from precopy_dev.tree import TOP
+from precopy_dev.words import parser_of
 
 HEADER = "include/precopy.h"
 # What stands before the text of a status in a line about it, by the first letter of its name in `precopy`.
@@ -24,7 +25,7 @@ SUBJECTS = {"E": "trace", "S": "settings", "F": "frame"}
 QUESTIONS = range(81, 88)
 LINE = 120
 RUST = {"uint8_t": "u8", "uint32_t": "u32", "uint64_t": "u64", "size_t": "usize", "bool": "bool"}
-PYTHON = {"uint32_t": "ctypes.c_uint32", "uint64_t": "ctypes.c_uint64", "size_t": "ctypes.c_size_t"}
+PYTHON = {"uint32_t": "c_uint32", "uint64_t": "c_uint64", "size_t": "c_size_t"}
 # Structs that the planner's module has too, with the planner's names for them.
 OF_PLANNER = {
     "Settings": "SETTINGS",
@@ -138,23 +139,41 @@ def call_in_rust(name: str, result: str, words: list[Variable]) -> str:
 
 def type_in_python(it: Variable) -> str:
     if it.kind == "uint8_t":
-        return "ctypes.c_void_p"
+        return "c_void_p"
     kind = camel(it.kind) if it.kind.startswith("struct") else PYTHON[it.kind]
-    return f"ctypes.POINTER({kind})" if it.is_pointer else kind
+    return f"POINTER({kind})" if it.is_pointer else kind
+
+
+def listed_in_python(head: str, rows: list[str], tail: str) -> str:
+    """A list, laid out as black does."""
+    line = f"    {head}[{', '.join(rows)}]{tail}\n"
+    return (
+        line
+        if len(line) <= LINE
+        else "".join((f"    {head}[\n", *(f"        {it},\n" for it in rows), f"    ]{tail}\n"))
+    )
+
+
+def struct_in_python(name: str, fields: list[Variable]) -> str:
+    """A struct, with a row for at most six fields of one type that follow each other."""
+    rows = []
+    for kind, group in itertools.groupby(fields, type_in_python):
+        names = [f'"{it.name}"' for it in group]
+        rows += [f"*_of({kind}, {', '.join(names[at : at + 6])})" for at in range(0, len(names), 6)]
+    body = listed_in_python("_fields_ = ", rows, "") if rows[1:] else f"    _fields_ = {rows[0][1:]}\n"
+    return f"\n\nclass {name}(Structure):\n{body}"
 
 
 def calls_in_python(interface: Interface) -> str:
     head = f"The structs, statuses and functions of {HEADER}, for ctypes. Made by dev/interface."
-    parts = [f'"""{head}"""\n\nimport ctypes\n\n']
+    parts = [f'"""{head}"""\n\nfrom ctypes import POINTER, Structure, c_size_t, c_uint32, c_uint64, c_void_p\n\n']
     parts += [f"{it.constant} = {it.number}\n" for it in interface.statuses]
-    for name, fields in interface.structs.items():
-        lines = "".join(f'        ("{it.name}", {type_in_python(it)}),\n' for it in fields)
-        parts.append(f"\n\nclass {name}(ctypes.Structure):\n    _fields_ = [\n{lines}    ]\n")
+    parts.append("\n\ndef _of(kind, *names):\n    return [(name, kind) for name in names]\n")
+    parts += (struct_in_python(name, fields) for name, fields in interface.structs.items())
     parts.append("\n\n# The arguments of each function.\nCALLS = {\n")
     for name, (_, words) in interface.functions.items():
-        lines = "".join(f"        {type_in_python(it)},\n" for it in words)
-        parts.append(f'    "{name}": [\n{lines}    ],\n')
-    return "".join(parts).replace("[\n    ]", "[]") + "}\n"
+        parts.append(listed_in_python(f'"{name}": ', [type_in_python(it) for it in words], ","))
+    return "".join(parts) + "}\n"
 
 
 def causes_for_tools(interface: Interface) -> str:
@@ -213,9 +232,7 @@ def read(path: str) -> str:
 
 
 def main(words: list[str]) -> int:
-    parser = argparse.ArgumentParser(
-        prog="interface", description=__doc__, formatter_class=argparse.RawDescriptionHelpFormatter
-    )
+    parser = parser_of("interface", __doc__)
     parser.add_argument("--compare", action="store_true", help="write nothing, and say what differs")
     asked = parser.parse_args(words)
     interface = read_header(read(HEADER))

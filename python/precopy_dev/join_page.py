@@ -19,7 +19,7 @@ import re
 import sys
 
 from precopy_dev.packaging import notices
-from precopy_dev.tree import TOP
+from precopy_dev.tree import TOP, read
 from precopy_tools.formats import traces
 from precopy_tools.refusals import Refused
 
@@ -35,16 +35,11 @@ CALLS = r"\b(fetch|XMLHttpRequest|WebSocket|EventSource|sendBeacon|importScripts
 FORBIDDEN = re.compile(CALLS + r"|https?://(?!www\.w3\.org/)")
 
 
-def read(*path):
-    with open(os.path.join(TOP, *path), encoding="utf-8") as file:
-        return file.read()
-
-
 def scripts_below(name, order):
     """Adds a script to `order` after those that it imports, and returns what each exports."""
     if name in order:
         return
-    text = read("web", name)
+    text = read(f"web/{name}")
     for names, path in IMPORT.findall(text):
         other = posixpath.normpath(posixpath.join(posixpath.dirname(name), path))
         scripts_below(other, order)
@@ -95,7 +90,7 @@ def replaced(text, old, new):
 
 def page_of(module):
     script = joined_script("page.js")
-    style = "\n" + COMMENT.sub("", "".join(read("web", name) for name in STYLES))
+    style = "\n" + COMMENT.sub("", "".join(read(f"web/{name}") for name in STYLES))
     policy = (
         f"default-src 'none'; script-src {hash_of(script)} 'wasm-unsafe-eval'; style-src {hash_of(style)}; "
         "worker-src blob:; img-src data:; connect-src 'none'; form-action 'none'; base-uri 'none'"
@@ -104,7 +99,7 @@ def page_of(module):
     embedded |= {name: light(path) for name, path in EXAMPLES.items()}
     embedded |= {name: read(path).encode() for name, path in RECORDS.items()}
     holders = [f'<script type="text/plain" id="{name}">{packed(some)}</script>\n' for name, some in embedded.items()]
-    page = replaced(read("web", "index.html"), "content=\"default-src 'none'\"", f'content="{policy}"')
+    page = replaced(read("web/index.html"), "content=\"default-src 'none'\"", f'content="{policy}"')
     links = "\n".join(f'<link rel="stylesheet" href="{name}">' for name in STYLES)
     page = replaced(page, links, f"<style>{style}</style>")
     program = f'<script type="module" id="program">{script}</script>'

@@ -10,7 +10,6 @@ if they are not yet; --proved is for a tree that `rt ci` has just passed, as in 
 module is written, 1 if not, and 2 if the words are refused or the toolchain is not the one that this script was written
 for.
 """
-import argparse
 import contextlib
 import glob
 import os
@@ -20,6 +19,7 @@ import tempfile
 
 from precopy_dev import library
 from precopy_dev.tree import TOP
+from precopy_dev.words import parser_of
 
 CRATE = os.path.join(TOP, "crates", "browser_planner")
 TARGET = "wasm64-unknown-unknown"
@@ -63,12 +63,7 @@ def build_module(rtlib, crate, file):
 
 
 def main():
-    parser = argparse.ArgumentParser(
-        prog="page-module",
-        description=__doc__,
-        formatter_class=argparse.RawDescriptionHelpFormatter,
-        allow_abbrev=False,
-    )
+    parser = parser_of("page-module", __doc__)
     parser.add_argument("--if-needed", action="store_true", help="do nothing if no source is newer")
     parser.add_argument("--proved", action="store_true", help="take the libraries that rt ci left")
     parser.add_argument("file", metavar="FILE", help="where to write the module")

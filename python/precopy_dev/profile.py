@@ -14,7 +14,6 @@ under its module's name.
 Sizes tell seconds only roughly: a search may take long and write little. Kept proofs are not measured: a crate that
 COMMAND takes from them, or checks over them, has no line. The libraries below a CRATE are built first if they changed.
 """
-import argparse
 import collections
 import glob
 import os
@@ -26,7 +25,8 @@ import tempfile
 import threading
 import time
 
-from precopy_dev.tree import TOP
+from precopy_dev.tree import TOP, crates
+from precopy_dev.words import parser_of
 
 TICKS = os.sysconf("SC_CLK_TCK")
 LOOKS = 0.1  # seconds from one look at a prover's processor time to the next
@@ -40,9 +40,7 @@ FOLLOWED = ("Lts", "Tie")
 
 
 def options_of(given):
-    parser = argparse.ArgumentParser(
-        prog="profile", description=__doc__, formatter_class=argparse.RawDescriptionHelpFormatter, allow_abbrev=False
-    )
+    parser = parser_of("profile", __doc__)
     parser.add_argument("--lines", metavar="N", type=int, default=40, help="how many functions are shown (40)")
     parser.add_argument("--test", action="store_true", help="proves the tests of each CRATE too")
     parser.add_argument("words", metavar="CRATE", nargs="+", help="crates, or -- and a command")
@@ -194,33 +192,23 @@ def kit():
     return os.path.dirname(os.path.dirname(os.path.realpath(shutil.which("rt"))))
 
 
-def libraries():
-    """Returns, by crate, whether it is a library for C, and the libraries that it names."""
-    found = {}
-    for line in text_of(f"{TOP}/crates.txt").splitlines():
-        name, _, uses = line.partition("#")[0].partition(":")
-        if name.strip():
-            found[name.split()[0]] = "staticlib" in name.split(), uses.split()
-    return found
-
-
 def below(crate, of):
-    return sorted({it for use in of[crate][1] if use in of for it in (use, *below(use, of))})
+    return sorted({it for use in of[crate].uses if use in of for it in (use, *below(use, of))})
 
 
 def prover_words(crate, has_tests):
     """Returns the prover's words for a crate, as `rt check` gives them."""
-    of, rlibs = libraries(), f"{kit()}/rlibs"
+    of, rlibs = crates(), f"{kit()}/rlibs"
     words = ["--crate-name", crate, "src/main.rt" if os.path.exists("src/main.rt") else "src/lib.rt"]
-    for use in of[crate][1]:
+    for use in of[crate].uses:
         folder = f"{TOP}/crates/{use}/out/rlib" if use in of else rlibs
         words += ["--extern", f"{use}={folder}/{use}.rlib"]
-    if "std" not in of[crate][1]:
+    if "std" not in of[crate].uses:
         words += ["--extern", f"std={rlibs}/std.rlib"]
     for folder in (rlibs, *(f"{TOP}/crates/{it}/out/rlib" for it in below(crate, of))):
         words += ["-L", f"dependency={folder}"]
     words += ["--antt-project", f"{kit()}/rattle/logic/antt-project.json", "--logic-built", f"{kit()}/logic_built"]
-    kind = ["--test"] if has_tests else ["--crate-type", "staticlib"] if of[crate][0] else []
+    kind = ["--test"] if has_tests else ["--crate-type", "staticlib"] if "staticlib" in of[crate].words else []
     return [*words, "--jobs", "1", "--links", f"{crate}=", *kind]
 
 
@@ -251,7 +239,7 @@ def prove(crate, has_tests):
 def prove_all(options, costs):
     """Adds what the proof of each crate costs, and returns the status."""
     for crate in options.words:
-        if crate not in libraries():
+        if crate not in crates():
             print(f"profile: crates.txt has no crate {crate}", file=sys.stderr)
             return 2
     for crate in options.words:

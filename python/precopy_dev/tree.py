@@ -1,9 +1,30 @@
 """The tree of the sources."""
 
 import os
+from typing import NamedTuple
 
 # Its top.
 TOP = os.path.dirname(os.path.dirname(os.path.dirname(os.path.abspath(__file__))))
+
+
+class Crate(NamedTuple):
+    """A line of crates.txt: the words behind the crate's name, and the libraries that it stands on."""
+
+    words: list[str]
+    uses: list[str]
+
+
+def read(path: str) -> str:
+    """A text by its path from the top."""
+    with open(os.path.join(TOP, path), encoding="utf-8") as file:
+        return file.read()
+
+
+def crates() -> dict[str, Crate]:
+    """The crates by their names, in the order of crates.txt."""
+    lines = [line.partition("#")[0].partition(":") for line in read("crates.txt").splitlines()]
+    heads = [(head.split(), uses.split()) for head, colon, uses in lines if colon]
+    return {name: Crate(words, uses) for (name, *words), uses in heads}
 
 
 def program(crate: str) -> str:

@@ -193,10 +193,7 @@ def loss(word: str) -> tuple[str, float]:
 
 
 def options_of(given: list[str]) -> argparse.Namespace:
-    parser = argparse.ArgumentParser(
-        prog="two-hosts", description=__doc__, formatter_class=argparse.RawDescriptionHelpFormatter, allow_abbrev=False
-    )
-    version.add_to(parser)
+    parser = version.parser("two-hosts", __doc__)
     parser.add_argument("--for", dest="seconds", type=words.seconds, default=600.0, metavar="TIME", help="most (600s)")
     parser.add_argument("--lose", type=loss, action="append", default=[], metavar="LOSS", help="lose a host: one=20s")
     parser.add_argument("command", metavar="COMMAND", nargs=argparse.REMAINDER)

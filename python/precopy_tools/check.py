@@ -20,10 +20,7 @@ WRONG = 3
 
 
 def options_of(given: list[str]) -> argparse.Namespace:
-    parser = argparse.ArgumentParser(
-        prog="check", description=__doc__, formatter_class=argparse.RawDescriptionHelpFormatter, allow_abbrev=False
-    )
-    version.add_to(parser)
+    parser = version.parser("check", __doc__)
     parser.add_argument("trace", metavar="TRACE")
     parser.add_argument("streams", metavar="STREAM", nargs="+")
     stops = parser.add_mutually_exclusive_group()

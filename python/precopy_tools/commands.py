@@ -15,6 +15,7 @@ MODULES = {
     "record": "precopy_tools.record.command",
     "release": "precopy_tools.convert.release",
     "thin": "precopy_tools.convert.thin",
+    "watch": "precopy_tools.watch.command",
 }
 
 

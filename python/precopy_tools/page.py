@@ -9,7 +9,6 @@ controls. It needs a browser with WebAssembly memory of 64-bit addresses, as Chr
 The status is 0, 1 if the page is not there, and 2 if the words are refused.
 """
 
-import argparse
 import os
 import sys
 
@@ -17,10 +16,7 @@ from precopy_tools import places, printed, version
 
 
 def main(given: list[str]) -> int:
-    parser = argparse.ArgumentParser(
-        prog="page", description=__doc__, formatter_class=argparse.RawDescriptionHelpFormatter, allow_abbrev=False
-    )
-    version.add_to(parser)
+    parser = version.parser("page", __doc__)
     parser.parse_args(given)
     page = places.page()
     if not os.path.isfile(page):

@@ -1,7 +1,8 @@
 """What a tool is given and refuses: one exception for all of it, and the tests that every file of JSON has."""
 
+import argparse
 import json
-from collections.abc import Collection
+from collections.abc import Callable, Collection
 
 
 class Refused(Exception):
@@ -33,6 +34,16 @@ def expect_object(where: str, value: object, names: Collection[str], kind: str) 
     for name in value.keys() - set(names):
         raise Refused(f"{where}: there is no {kind} {name}")
     return value
+
+
+def expect_word(where: str, value: object, parse: Callable):
+    """What a text says, by what reads such words on a command line."""
+    if not isinstance(value, str):
+        raise Refused(f"{where} is no text: {value!r}")
+    try:
+        return parse(value)
+    except argparse.ArgumentTypeError as fault:
+        raise Refused(f"{where}: {fault}") from fault
 
 
 def object_in(path: str, names: Collection[str], kind: str) -> dict:

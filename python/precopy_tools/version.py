@@ -1,5 +1,6 @@
 """The version of precopy, and the options that all of its tools have."""
 
+import argparse
 import os
 import re
 import sys
@@ -27,6 +28,14 @@ def called(tool):
 def whence(program):
     """What to do if a program is not there."""
     return f"the package precopy has {program}" if IS_INSTALLED else f"./{program} builds it"
+
+
+def parser(name, about):
+    """The parser of a tool: it shows what is told about the tool as it is written, and has --version."""
+    layout = argparse.RawDescriptionHelpFormatter
+    made = argparse.ArgumentParser(prog=name, description=about, formatter_class=layout, allow_abbrev=False)
+    add_to(made)
+    return made
 
 
 def add_to(parser):

@@ -31,8 +31,6 @@ export class LateAnswers {
     this.unread = null;
     this.wanted = [];
     this.isAsking = false;
-    /** The last prediction that ends after its trace, with the ways that may lead out of it. */
-    this.lost = null;
   }
 
   /**
@@ -42,9 +40,9 @@ export class LateAnswers {
   follow(trace, prediction, predictions, questions) {
     const ask = (kind, { question }) => ({ kind, trace, question, key: lateKey(kind, trace, question) });
     const errors = predictions.filter(mayHaveErrors).map((some) => ask("errors", some));
-    const remedies = prediction && !isUnknown(prediction) ? [ask("remedies", prediction)] : [];
+    const remedies = prediction ? [ask("remedies", prediction)] : [];
     const offers = prediction ? this.offersOf(trace, prediction).map((some) => ask("predict", some)) : [];
-    const ways = prediction && isUnknown(prediction) ? Object.values(this.waysOf(trace, prediction)) : [];
+    const ways = prediction ? Object.values(this.waysOf(trace, prediction)) : [];
     const asked = ways.filter((way) => way.ask).map((way) => ask("predict", way.ask));
     const curves = questions.map((question) => ({ ...ask("predict", { question }), of: "curve" }));
     this.wanted = [...errors.slice(0, 1), ...remedies, ...offers, ...asked, ...errors.slice(1), ...curves];
@@ -60,7 +58,7 @@ export class LateAnswers {
 
   /** What keeps the limit of a prediction: null if there is no answer, and undefined if it is still to come. */
   leastOf(trace, prediction) {
-    return isUnknown(prediction) ? null : this.known.get(lateKey("remedies", trace, prediction.question));
+    return this.known.get(lateKey("remedies", trace, prediction.question));
   }
 
   /** The answer to a question: null if there is none, and undefined if it is still to come. */
@@ -68,13 +66,15 @@ export class LateAnswers {
     return this.known.get(lateKey("predict", trace, question));
   }
 
-  /** The ways out of a prediction that ends after the trace: each is found, or one is to be asked for. */
+  /** The ways out of a prediction that ends after the trace: each is found, or to be asked for. */
   waysOf(trace, prediction) {
-    if (this.lost?.prediction !== prediction) {
-      this.lost = { prediction, ways: waysOf(prediction, trace.sizes, trace.record?.start ?? 0) };
+    const least = this.leastOf(trace, prediction);
+    if (!least || least.ends) {
+      return {};
     }
+    const { link, start } = waysOf(prediction, trace.sizes, trace.record?.start ?? 0, least);
     const first = (ways) => firstWay(ways, (question) => this.answerTo(trace, question));
-    return { link: first(this.lost.ways.link), start: first(this.lost.ways.start) };
+    return { link: first(link), start: first(start) };
   }
 
   /** The amounts of few digits that may keep the limit of a prediction. */
@@ -83,16 +83,21 @@ export class LateAnswers {
     return least ? fewDigitsOffers(prediction, trace.sizes, least) : [];
   }
 
-  /** The same as `leastOf`, with those amounts of few digits that keep the limit, by their names. */
+  /**
+   * The same as `leastOf`, with those amounts of few digits that keep the limit, by their names, and the ways out of a
+   * prediction that ends after the trace.
+   */
   remediesOf(trace, prediction) {
     const offers = this.offersOf(trace, prediction);
     const answers = offers.map(({ question }) => this.answerTo(trace, question));
-    if (answers.includes(undefined)) {
+    const ways = Object.values(this.waysOf(trace, prediction));
+    if (answers.includes(undefined) || ways.some(({ ask }) => ask)) {
       return undefined;
     }
     const kept = offers.filter((_, place) => answers[place] !== null && isGood(answers[place]));
     const least = this.leastOf(trace, prediction);
-    return least && { ...least, offers: Object.fromEntries(kept.map((some) => [some.name, some])) };
+    const byName = Object.fromEntries(kept.map((some) => [some.name, some]));
+    return least && { ...least, offers: byName, ways: ways.map(({ found }) => found).filter(Boolean) };
   }
 
   /** Asks until all that is wanted is known. */

@@ -53,6 +53,33 @@ async function openTrace({ number, blob }) {
   return { sizes, digest: digest.digest(), light: light && new Blob([light]) };
 }
 
+/** Leaves the thread to others if a slice of time is over, and says whether many answers are still asked for. */
+async function goesOn(number, slice, share) {
+  if (slice.isOver()) {
+    postMessage({ number, share });
+    await slice.next();
+  }
+  return held.many === number;
+}
+
+/**
+ * The best and the worst of many answers. Errors never make a start better, so only those of a start that is the best
+ * without them are counted: the one that stays the best with them is.
+ */
+async function chosenOf(number, questions, answers, slice) {
+  const errors = answers.map(() => null);
+  const choose = () => planner().chosen(answers, errors, questions[0].downtime);
+  let chosen = choose();
+  while (chosen.best !== null && errors[chosen.best] === null) {
+    errors[chosen.best] = planner().errorBytes(questions[chosen.best]);
+    if (!await goesOn(number, slice, 1)) {
+      return null;
+    }
+    chosen = choose();
+  }
+  return chosen;
+}
+
 /**
  * The answers to many questions, and which of them is the best and which the worst; a slice of time after another,
  * unless others are asked for meanwhile, or none.
@@ -63,16 +90,13 @@ async function manyAnswers({ number, questions }) {
   const slice = new Slice();
   for (const question of questions) {
     answers.push(planner().answerBytes(question));
-    if (slice.isOver()) {
-      postMessage({ number, share: answers.length / questions.length });
-      await slice.next();
-      if (held.many !== number) {
-        return null;
-      }
+    if (!await goesOn(number, slice, answers.length / questions.length)) {
+      return null;
     }
   }
+  const chosen = await chosenOf(number, questions, answers, slice);
   const told = answers.map((bytes) => readAnswer(new DataView(bytes.buffer), 0));
-  return { answers: told, chosen: planner().chosen(answers) };
+  return chosen && { answers: told, chosen };
 }
 
 /** Holds a lock for as long as this worker lives, if the browser has locks: who waits for it learns of its end. */
@@ -97,6 +121,7 @@ const ANSWERS = {
   remedies: ({ question }) => planner().remedies(question),
   windows: ({ settings }) => planner().windows(settings),
   map: (grid) => writesMap().count(grid),
+  rounds: (asked) => writesMap().rounds(asked),
   answers: manyAnswers,
   cancel: () => {
     held.many = null;

@@ -22,6 +22,9 @@ const PAGE_MARK_SIZE = 16;
 /** Bytes of a page of WebAssembly memory. */
 const MEMORY_PAGE = 65_536;
 
+/** The bytes of a start among which one is chosen: an answer, and its standard errors. */
+const START_SIZE = ANSWER.size + ERRORS.size;
+
 /** What the module answers if memory was not there to lend, if a trace is too long, and if it could not be read. */
 const NO_MEMORY = 16;
 const TOO_LONG = 15;
@@ -64,7 +67,7 @@ function grow(memory, pages) {
 function placesFrom(base) {
   const lengths = {
     record: 8, sizes: SIZES_SIZE, settings: SETTINGS.size, sums: SUMS.size, count: 8, rounds: MOST_ROUNDS * ROUND.size,
-    question: QUESTION.size, answers: MOST_ANSWERS * ANSWER.size, errors: ERRORS.size, choice: CHOICE_SIZE,
+    question: QUESTION.size, answers: MOST_ANSWERS * START_SIZE, errors: ERRORS.size, choice: CHOICE_SIZE,
     remedies: REMEDIES.size,
     marks: MOST_PAGES / 8, otherMarks: MOST_PAGES / 8, list: MOST_PAGES * 4, pageMarks: MOST_PAGES * PAGE_MARK_SIZE,
   };
@@ -233,18 +236,33 @@ export class Planner {
     return readErrors(this.view(), this.places.errors);
   }
 
-  /** Whether the limit of a question is kept, and what keeps it. It takes as long as 35 plans, and at most 98. */
+  /** Whether the limit of a question is kept, and what keeps it. It takes as long as 35 plans, and at most 187. */
   remedies(question) {
     writeQuestion(this.view(), this.places.question, question);
     this.ask("lent_remedies", "question", [...this.planRoom(), BigInt(this.places.remedies)]);
     return readRemedies(this.view(), this.places.remedies);
   }
 
-  /** The places of the best and the worst of some answers, given as their bytes; null if none tells anything. */
-  chosen(answers) {
+  /** The same as bytes. */
+  errorBytes(question) {
+    this.errors(question);
+    return new Uint8Array(this.calls.memory.buffer).slice(this.places.errors, this.places.errors + ERRORS.size);
+  }
+
+  /**
+   * The places of the best and the worst of some answers, given as their bytes, beside a limit; null if none tells
+   * anything. Their standard errors are given in the same way, or null if they are not counted.
+   */
+  chosen(answers, errors, limit) {
     const memory = new Uint8Array(this.calls.memory.buffer);
-    answers.forEach((bytes, place) => memory.set(bytes, this.places.answers + place * ANSWER.size));
-    const known = this.calls.lent_chosen_starts(...this.slice("answers", answers.length), BigInt(this.places.choice));
+    const nothing = new Uint8Array(ERRORS.size);
+    answers.forEach((bytes, place) => {
+      const at = this.places.answers + place * START_SIZE;
+      memory.set(bytes, at);
+      memory.set(errors[place] ?? nothing, at + ANSWER.size);
+    });
+    const starts = this.slice("answers", answers.length);
+    const known = this.calls.lent_chosen_starts(...starts, BigInt(limit), BigInt(this.places.choice));
     if (known === 0n) {
       return { best: null, worst: null };
     }

@@ -38,9 +38,9 @@ export const ERRORS = {
 };
 
 export const REMEDIES = {
-  size: 40,
-  wide: ["link", "downtime", "speed"],
-  narrow: ["hasLink", "hasDowntime", "hasSpeed", "isKept"],
+  size: 72,
+  wide: ["link", "downtime", "speed", "endingLink", "endingStart"],
+  narrow: ["hasLink", "hasDowntime", "hasSpeed", "hasEndingLink", "hasEndingStart", "isKept", "ends"],
 };
 
 /** What is wrong with a trace, by the number of the refusal. */

@@ -20,12 +20,17 @@ function offerOf({ name, units }, { state, question }, sizes, amount) {
   return { quantity, state: withQuantity(state, sizes, question, name, quantity) };
 }
 
+/** The question of a prediction with another amount. */
+function questionWith(name, { question }, quantity) {
+  return { ...question, [name]: amountOf(quantity) };
+}
+
 /**
  * The offer of few digits for an amount that is enough; null if there is none. It is the next above the last amount
  * that was tried and is not enough, and less than what is set if the amount is. If the amount can be taken, so can it.
  * Its question is still to be asked.
  */
-function fewDigitsOffer(some, prediction, sizes, amount) {
+export function fewDigitsOffer(some, prediction, sizes, amount) {
   const { name, units, grain } = some;
   const set = prediction.question[name];
   const least = Math.max(0, Number(amount) - grain + 1);
@@ -35,7 +40,13 @@ function fewDigitsOffer(some, prediction, sizes, amount) {
   const canTake = offerOf(some, prediction, sizes, Number(amount)).state !== null;
   const found = offers.find(({ state }) => state !== null) ?? (canTake ? null : offers[0]);
   const isOther = found && amountOf(found.quantity) !== amount;
-  return isOther ? { ...found, name, question: { ...prediction.question, [name]: amountOf(found.quantity) } } : null;
+  return isOther ? { ...found, name, question: questionWith(name, prediction, found.quantity) } : null;
+}
+
+/** The offer of all digits of an amount, with its question. */
+export function exactOffer(some, prediction, sizes, amount) {
+  const offer = offerOf(some, prediction, sizes, Number(amount));
+  return { ...offer, question: questionWith(some.name, prediction, offer.quantity) };
 }
 
 /** The offers of few digits for a prediction by what is enough for its limit. */

@@ -50,12 +50,15 @@ export function readErrors(view, at) {
 
 /**
  * Reads whether a limit is kept, and what keeps it: a link in bytes a second, a downtime in microseconds, and the speed
- * of the guest in per cent. What was not found is null.
+ * of the guest in per cent; whether the migration ends within the trace, and the link and the start that end it there.
+ * What was not found is null.
  */
 export function readRemedies(view, at) {
-  const { link, downtime, speed, hasLink, hasDowntime, hasSpeed, isKept } = read(view, at, REMEDIES);
+  const told = read(view, at, REMEDIES);
+  const given = (name, hasName) => (told[hasName] === 0 ? null : told[name]);
   return {
-    isKept: isKept !== 0, link: hasLink === 0 ? null : link, downtime: hasDowntime === 0 ? null : downtime,
-    speed: hasSpeed === 0 ? null : speed,
+    isKept: told.isKept !== 0, ends: told.ends !== 0, link: given("link", "hasLink"),
+    downtime: given("downtime", "hasDowntime"), speed: given("speed", "hasSpeed"),
+    endingLink: given("endingLink", "hasEndingLink"), endingStart: given("endingStart", "hasEndingStart"),
   };
 }

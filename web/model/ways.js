@@ -1,60 +1,43 @@
-// Ways out of a plan that ends after its trace: a faster link, or an earlier start, with which it ends within it. Which
-// are tried is chosen here; that one ends within the trace is the module's answer to it.
+// Ways out of a plan that ends after its trace: the least link and the latest start that end it within the trace, as
+// the module finds them. The link is told in few digits if the module says that these end it too.
 
-import { askedIfAny } from "./asking.js";
-import { quantityNear } from "./quantities.js";
-import { firstStartOf, startTicks } from "./starts.js";
-import { RATE_UNITS } from "./units.js";
+import { AMOUNTS, exactOffer, fewDigitsOffer } from "./offers.js";
 
-/** How many links are tried at most, and how many times faster the last is. */
-const MOST_LINKS = 64;
-const FASTEST = 1_024;
+const [LINK] = AMOUNTS;
 
-/**
- * Links that are faster than that of a prediction, from the slowest up, in round numbers, and make a plan. Shares of
- * the link stay shares.
- */
-function fasterLinks({ state }, sizes) {
-  const { amount, unit } = state.link;
-  const near = (place) => quantityNear(amount * FASTEST ** (place / MOST_LINKS), unit, RATE_UNITS);
-  const links = Array.from({ length: MOST_LINKS }, (_, place) => near(place + 1));
-  return links.filter((link, place) => link.amount > (links[place - 1]?.amount ?? amount))
-    .map((link) => ({ name: "link", value: link, state: { ...state, link } }))
-    .map((way) => ({ ...way, question: askedIfAny(way.state, sizes)?.question })).filter((way) => way.question);
+/** The links that may be told, that of few digits first. */
+function linksOut(prediction, sizes, link) {
+  const few = fewDigitsOffer(LINK, prediction, sizes, link);
+  return [few, exactOffer(LINK, prediction, sizes, link)].filter(Boolean)
+    .map((offer) => ({ ...offer, name: "link", value: offer.quantity }));
 }
 
-/** Starts before that of a prediction, from the latest down, of those that are planned all over the trace. */
-function earlierStarts({ state, settings, question }, sizes, begin) {
-  const ticks = startTicks(sizes.last, firstStartOf(sizes, settings.base, begin));
-  return ticks.filter((tick) => tick < settings.start).reverse()
-    .map((start) => ({ name: "start", value: start, state: { ...state, start }, question: { ...question, start } }));
+/** The start, which comes no earlier than the recording begins. */
+function startsOut({ state, question }, start) {
+  return [{ name: "start", value: start, state: { ...state, start }, question: { ...question, start } }];
 }
 
-/** The links and the starts that may lead out of a prediction that ends after its trace, the least change first. */
-export function waysOf(prediction, sizes, begin) {
+/** The ways that may be told of a prediction that ends after its trace, by what the module finds to end it within. */
+export function waysOf(prediction, sizes, begin, { endingLink, endingStart }) {
   return {
-    link: fasterLinks(prediction, sizes),
-    start: earlierStarts(prediction, sizes, begin),
+    link: endingLink === null ? [] : linksOut(prediction, sizes, endingLink),
+    start: endingStart === null || endingStart < begin ? [] : startsOut(prediction, Number(endingStart)),
   };
 }
 
 /**
- * The first of some ways with which the migration ends within the trace, where all after it do too: the way `found`,
- * the one to `ask` for next, or neither. `answerTo` has the answer to a question, or undefined if it is still to come.
+ * The first of some ways with which the migration ends within the trace: the way `found`, the one to `ask` for next, or
+ * neither. `answerTo` has the answer to a question, or undefined if it is still to come.
  */
 export function firstWay(ways, answerTo) {
-  let [low, high, found] = [-1, ways.length, null];
-  while (high - low > 1) {
-    const middle = (low + high) >> 1;
-    const answer = answerTo(ways[middle].question);
+  for (const way of ways) {
+    const answer = answerTo(way.question);
     if (answer === undefined) {
-      return { ask: ways[middle] };
+      return { ask: way };
     }
     if (answer && answer.kept !== "unknown") {
-      [high, found] = [middle, { ...ways[middle], answer }];
-    } else {
-      low = middle;
+      return { found: { ...way, answer } };
     }
   }
-  return { found };
+  return { found: null };
 }

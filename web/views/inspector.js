@@ -9,7 +9,7 @@ const TIP_GAP = 14;
  * Lets the user look at the items of a picture. `look` has `count` items, `find`s an item by its place in pixels, has
  * `words` of an item and its `span` in pixels, the `panels` in which it is marked, and says if there is `none`. It may
  * have `choose`, which Enter, Space and a click call; a click gives its place too. A finger only looks: then the
- * `offer` button takes what was looked at.
+ * `offer` button takes what was looked at. It may have marks `beside` that of the item.
  */
 export class Inspector {
   constructor(plot, readout, name, offer = null) {
@@ -142,7 +142,7 @@ export class Inspector {
     if (at !== null) {
       const picture = this.plot.querySelector("svg");
       picture.prepend(...this.look.panels.map(({ top, height }) =>
-        area("looked", left, top, Math.max(2, right - left), height)));
+        area("looked", left, top, Math.max(2, right - left), height)), ...(this.look.beside?.() ?? []));
       this.plot.setAttribute("aria-valuenow", String(at));
       this.plot.setAttribute("aria-valuetext", words);
       if (event?.pointerType === "mouse") {

@@ -11,13 +11,24 @@ import { amountOf, microsOf, RATE_UNITS } from "../model/units.js";
 /** How many digits a share of the amount that is set has. */
 const SHARE_DIGITS = 3;
 
+/** What the answer says of a migration that ends after the trace. */
+const UNKNOWN = "unknown, since the trace ends before the migration does.";
+
 /** What the answer says first. */
-function headOf({ isKept, link, downtime, speed }) {
+function headOf({ isKept, ends, link, downtime, speed }) {
   const isAlone = [link, downtime, speed].every((amount) => amount === null);
+  if (!ends) {
+    return `${UNKNOWN}${isAlone ? "" : " One of these, changed alone, is enough:"}`;
+  }
   if (isKept) {
     return isAlone ? "these settings." : "these settings. So is each of these, changed alone:";
   }
   return isAlone ? "nothing that was tried." : "one of these, changed alone:";
+}
+
+/** The ways out of a prediction that ends after the trace, without a link that only says again what keeps the limit. */
+function newWays({ link, ways }) {
+  return ways.filter(({ name, answer }) => name !== "link" || link === null || answer.kept !== "yes");
 }
 
 /** How much an amount is beside the one that is set. */
@@ -40,7 +51,7 @@ export class LimitsView {
     this.part = byId("limits-answer");
     this.isAwaited = false;
     this.isMissed = false;
-    /** The settings that each button takes, by the name of its control. */
+    /** The settings that each button takes, and the control that differs in them, by the name of the button. */
     this.taken = new Map();
     this.part.addEventListener("click", ({ target }) => this.press(target));
   }
@@ -50,12 +61,6 @@ export class LimitsView {
     this.isAwaited = prediction !== null && remedies === undefined;
     this.renew(() => (prediction ? this.answerParts(trace, prediction, remedies) : []),
       prediction && !remedies?.isKept);
-  }
-
-  /** Shows ways out of a prediction that ends after the trace. */
-  showWays(prediction, ways) {
-    this.isAwaited = Object.values(ways).some(({ ask }) => ask);
-    this.renew(() => this.wayParts(prediction, ways), true);
   }
 
   /** Shows an answer. While it is still to come, the last one stays, grey. */
@@ -85,7 +90,8 @@ export class LimitsView {
 
   press({ dataset: { takes } }) {
     if (takes && !this.isAwaited && this.taken.has(takes)) {
-      this.choose(this.taken.get(takes), takes);
+      const { settings, control } = this.taken.get(takes);
+      this.choose(settings, control);
     }
   }
 
@@ -104,21 +110,21 @@ export class LimitsView {
       lines.push(html("li", {}, "the guest slowed to ", html("b", {}, `${remedies.speed} %`),
         ` of its speed, by a throttle of ${100n - remedies.speed} %`));
     }
-    return [this.sentence(headOf(remedies)), ...(lines.length > 0 ? [html("ul", {}, ...lines)] : [])];
+    const ways = newWays(remedies).map((way) => this.wayLine(prediction, way));
+    return [this.sentence(headOf(remedies)), ...[lines, ways].filter((some) => some.length > 0)
+      .map((some) => html("ul", {}, ...some))];
   }
 
-  wayParts({ scale }, ways) {
+  /** A line on a way out of a prediction that ends after the trace. */
+  wayLine({ scale }, { name, value, state, answer }) {
     const words = {
       link: (link) => ["with a link of ", quantityWords(link, RATE_UNITS)],
       start: (start) => ["from a start at ", momentText(microsOf(scale, start))],
     };
-    const lines = Object.values(ways).filter(({ found }) => found).map(({ found: { name, value, state, answer } }) => {
-      const [before, said] = words[name](value);
-      const after = ` it ends within the trace, and the limit is ${keptWords(answer)} `;
-      return html("li", {}, before, html("b", {}, said), after, this.takeButton(name, said, state));
-    });
-    const head = this.sentence("unknown, since the trace ends before the migration does.");
-    return [head, ...(lines.length > 0 ? [html("ul", {}, ...lines)] : [])];
+    const [before, said] = words[name](value);
+    const after = ` it ends within the trace, and the limit is ${keptWords(answer)}`;
+    const button = state ? [" ", this.takeButton(`ending-${name}`, name, said, state)] : [];
+    return html("li", {}, before, html("b", {}, said), after, ...button);
   }
 
   /**
@@ -130,13 +136,14 @@ export class LimitsView {
     const isExact = quantity.amount === exact.amount;
     const title = isExact ? null : `The search found ${quantityWords(exact, units)}`;
     const spoken = [`${words} ${said}`, title].filter(Boolean).join(". ");
-    const button = state ? [" ", this.takeButton(name, spoken, state)] : [];
+    const button = state ? [" ", this.takeButton(name, name, spoken, state)] : [];
     return html("li", {}, `${words} `, html("b", { title }, said), shareWords(amountOf(quantity), set), ...button);
   }
 
-  takeButton(name, words, taken) {
-    this.taken.set(name, taken);
-    const attributes = { type: "button", class: "small", "data-takes": name, "aria-label": `Take ${words}` };
+  /** A button, by a name of its own, that takes other settings, in which the control of another name differs. */
+  takeButton(own, control, words, settings) {
+    this.taken.set(own, { settings, control });
+    const attributes = { type: "button", class: "small", "data-takes": own, "aria-label": `Take ${words}` };
     return html("button", attributes, "Take it");
   }
 }

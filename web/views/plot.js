@@ -5,7 +5,7 @@ import { area, label, svg } from "./elements.js";
 import { counted } from "../model/numbers.js";
 
 /** Room for numbers at the left of a plot, and at its right, in pixels. */
-const LEFT = 64;
+const LEFT = 68;
 const RIGHT = 12;
 
 /** The least pixels between two labels of an axis, and the width of one of their letters. */

@@ -11,13 +11,14 @@ import { WorkerEnded } from "../engine/planner-client.js";
 import { Refusal } from "../engine/planner.js";
 
 /** Which of two starts is the better one. */
-const BETTER = "A start that keeps the limit is better than one that misses it. Of two that keep it, that which sends "
-  + "less is better; of two that miss it, that with the shorter downtime.";
+const BETTER = "A start that is likely to keep the limit, with two standard errors of its downtime, is better than any "
+  + "other. Of two such starts that which sends less is better; of two others that whose downtime is likely to be "
+  + "shorter. The worst start is told without errors.";
 
 /** So many standard errors below its limit a downtime is likely to keep it. */
 const ERRORS_BELOW = 2n;
-const DOUBTFUL = "The best start has its downtime less than two standard errors below the limit: it may well miss it. "
-  + "Which start is the best is told without errors.";
+const DOUBTFUL = "The best start has its downtime less than two standard errors below the limit: it may well miss it, "
+  + "and so may every other start.";
 
 /** What a question about starts is about, as a word. */
 function keyOf({ settings, limits, scale }, ticks) {

@@ -4,6 +4,7 @@
 import { html } from "./elements.js";
 import { counted, decimalText, timeText } from "../model/numbers.js";
 import { columnTexts, digitsBehind } from "../model/quantities.js";
+import { pagesWords, sumsOf } from "../model/round-words.js";
 import { microsOf, rateIn } from "../model/units.js";
 
 /** A cell's text, and what stands beside it in small print if there is something. */
@@ -118,4 +119,56 @@ function* windowRows(windows, width) {
 /** The windows of a trace as columns and rows of numbers, for a file. */
 export function windowsFile(windows, length, scale) {
   return [WINDOW_HEADS, windowRows(windows, microsOf(scale, length))];
+}
+
+// ---- The map of pages.
+
+/** The range of pages of the row in which a round dirties most, as text. */
+function mostDirtied({ dirtied }, rows, round, rowPages) {
+  const counts = dirtied.subarray(round * rows, (round + 1) * rows);
+  const most = Math.max(...counts);
+  const row = counts.indexOf(most);
+  const [from, to] = [rowPages[row], rowPages[row + 1] - 1];
+  return most === 0 ? "none" : from === to ? counted(from) : `${counted(from)}\u2013${counted(to)}`;
+}
+
+/** What rounds do with pages, as a table. `rowPages` are the first pages of the map's rows, and the end of all. */
+export function mapTable({ found, prediction: { plan, scale }, held: { trace: { sizes } } }, rowPages) {
+  const rows = rowPages.length - 1;
+  const [first, end] = [rowPages[0], rowPages[rows]];
+  const pages = end - first === sizes.pages ? "Pages" : `Of ${pagesWords(first, end)} those`;
+  const numbers = [...plan.rounds.keys(), plan.rounds.length];
+  const sums = numbers.map((round) => sumsOf(found, rows, [round, round + 1], [0, rows]));
+  const allOf = (name) => sums.map((some) => counted(some[name]));
+  return tableOf(`${pages}${scale.isSample ? " of the sample" : ""} by round; after the stop the rest is sent`, [
+    { name: "round", texts: numbers.map((round) => (round === plan.rounds.length ? "stop" : counted(round))) },
+    { name: "sent", texts: allOf("sent") },
+    { name: "and dirtied", texts: allOf("again") },
+    { name: "skipped", texts: allOf("skipped") },
+    { name: "dirtied", texts: allOf("dirtied") },
+    { name: "most of them in pages", texts: numbers.map((round) => mostDirtied(found, rows, round, rowPages)) },
+  ]);
+}
+
+const MAP_HEADS = ["round", "first_page", "last_page", "pages", "sent_pages", "sent_and_dirtied_pages", "skipped_pages",
+  "dirtied_pages", "first_turn_us", "last_turn_us"];
+
+/** The rows of the file of a map: those rows of pages of which a round has one, or dirties one. */
+function* mapRows({ found, prediction: { plan, settings, scale } }, rowPages) {
+  const rows = rowPages.length - 1;
+  const since = (tick) => microsOf(scale, tick - settings.start);
+  for (let at = 0; at < found.pages.length; at += 1) {
+    const [round, row] = [Math.floor(at / rows), at % rows];
+    const [pages, sent, again, dirtied] = ["pages", "sent", "again", "dirtied"].map((name) => found[name][at]);
+    if (pages + dirtied > 0) {
+      const turns = pages === 0 ? ["", ""] : [since(found.firstTurn[at]), since(found.lastTurn[at])];
+      yield [round === plan.rounds.length ? "stop" : round, rowPages[row], rowPages[row + 1] - 1, pages, sent, again,
+        pages - sent, dirtied, ...turns];
+    }
+  }
+}
+
+/** What rounds do with the pages of each row of the map, as columns and rows, for a file. Times are since the start. */
+export function mapFile(rounds, rowPages) {
+  return [MAP_HEADS, mapRows(rounds, rowPages)];
 }

@@ -1,13 +1,13 @@
 // Plots over the time of a trace, which are looked at together: a stretch that is taken nearer in one is in all, and a
 // moment that is pointed at in one is marked in the others.
 
-import { area, isCommand } from "./elements.js";
+import { Brush } from "./brush.js";
+import { isCommand } from "./elements.js";
 
 /** How long a stretch is that a key shows, beside that which is shown. */
 const ZOOMS = new Map([["+", 1 / 2], ["=", 1 / 2], ["-", 2]]);
 
-/** The least pixels of a stretch that is drawn over, and its least ticks. */
-const LEAST_STRETCH = 8;
+/** The least ticks of a stretch. */
 const LEAST_TICKS = 4;
 
 export class TimePlots {
@@ -29,14 +29,23 @@ export class TimePlots {
 
   /**
    * Adds a plot with its inspector. `axisOf` returns what is drawn: its axis, and how many ticks of the trace a unit of
-   * the axis has, from which tick on; null if nothing is.
+   * the axis has, from which tick on; null if nothing is. A plot with rows is told by `takeRows` between which places
+   * rows are taken nearer.
    */
-  add(plot, inspector, axisOf) {
+  add(plot, inspector, axisOf, takeRows = null) {
     const entry = { plot, inspector, axisOf };
     this.plots.push(entry);
     inspector.share((place) => this.tell(entry, place));
     plot.addEventListener("keydown", (event) => this.press(entry, event));
-    this.listenToBrush(entry);
+    const brush = { isReady: () => Boolean(axisOf()), hasRows: takeRows !== null };
+    entry.brush = new Brush(plot, brush, ({ across, down }) => {
+      if (down) {
+        takeRows(down);
+      }
+      if (across) {
+        this.takeStretch(entry, across);
+      }
+    });
   }
 
   /** The tick of the trace at a place of a plot. */
@@ -87,42 +96,11 @@ export class TimePlots {
     }
   }
 
-  /** A mouse that is drawn over a plot takes that stretch nearer. The click that ends it takes no start. */
-  listenToBrush(entry) {
-    const { plot } = entry;
-    let from = null;
-    const placeIn = (event) => event.clientX - plot.getBoundingClientRect().left;
-    const isWide = (to) => Math.abs(to - from) >= LEAST_STRETCH;
-    plot.addEventListener("pointerdown", (event) => {
-      from = event.pointerType === "mouse" && event.button === 0 && entry.axisOf() ? placeIn(event) : null;
-    });
-    addEventListener("pointermove", (event) => {
-      if (from !== null) {
-        showBrush(plot, from, isWide(placeIn(event)) ? placeIn(event) : from);
-      }
-    });
-    addEventListener("pointerup", (event) => {
-      if (from === null) {
-        return;
-      }
-      const places = [from, placeIn(event)].sort((one, other) => one - other);
-      const isStretch = isWide(placeIn(event));
-      from = null;
-      showBrush(plot, 0, 0);
-      if (isStretch) {
-        this.isBrushed = true;
-        setTimeout(() => { this.isBrushed = false; });
-        const [first, last] = places.map((place) => this.tickAt(entry, place));
-        this.zoom({ first, last });
-      }
-    });
-  }
-}
-
-function showBrush(plot, from, to) {
-  const picture = plot.querySelector("svg");
-  picture?.querySelector(".brush")?.remove();
-  if (picture && from !== to) {
-    picture.append(area("brush", Math.min(from, to), 0, Math.abs(to - from), Number(picture.getAttribute("height"))));
+  /** Takes a stretch between two places of a plot nearer. The click that ends it takes no start. */
+  takeStretch(entry, places) {
+    this.isBrushed = true;
+    setTimeout(() => { this.isBrushed = false; });
+    const [first, last] = places.map((place) => this.tickAt(entry, place));
+    this.zoom({ first, last });
   }
 }

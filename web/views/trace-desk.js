@@ -53,6 +53,11 @@ class OpenTrace {
     return this.client.ask("map", grid);
   }
 
+  /** What the rounds of a plan do with which pages, counted into a grid. */
+  rounds(grid, plan) {
+    return this.client.ask("rounds", { grid, plan });
+  }
+
   windows(settings) {
     return this.client.ask("windows", { settings });
   }

@@ -10,7 +10,7 @@ from typing import Any, Iterator, Tuple
 
 from ._interface import CALLS, FRAME_SHORT, FRAME_ZEROS, NO_VERSION, PAGE_BEHIND, PAGE_MISSING
 
-ABI_NUMBER = 2
+ABI_NUMBER = 3
 ABI = f"libprecopy.so.{ABI_NUMBER}"
 # The statuses of what is wrong in streams.
 NO_FRAME = range(FRAME_SHORT, FRAME_ZEROS + 1)

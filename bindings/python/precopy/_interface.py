@@ -1,6 +1,6 @@
 """The structs, statuses and functions of include/precopy.h, for ctypes. Made by dev/interface."""
 
-import ctypes
+from ctypes import POINTER, Structure, c_size_t, c_uint32, c_uint64, c_void_p
 
 SHORT_HEADER = 1
 BAD_MAGIC = 2
@@ -57,352 +57,148 @@ OTHER_PAGES = 88
 MORE_PAGES = 89
 
 
-class Sizes(ctypes.Structure):
+def _of(kind, *names):
+    return [(name, kind) for name in names]
+
+
+class Sizes(Structure):
+    _fields_ = _of(c_uint32, "shift", "pages", "writes")
+
+
+class Settings(Structure):
     _fields_ = [
-        ("shift", ctypes.c_uint32),
-        ("pages", ctypes.c_uint32),
-        ("writes", ctypes.c_uint32),
+        *_of(c_uint64, "size", "min", "max", "increment", "threshold", "rounds"),
+        *_of(c_uint64, "start", "window", "hot", "base"),
+        *_of(c_uint32, "has_base", "skip"),
     ]
 
 
-class Settings(ctypes.Structure):
+class Sums(Structure):
+    _fields_ = _of(c_uint64, "rounds", "reason", "stop", "down", "total")
+
+
+class Round(Structure):
+    _fields_ = _of(c_uint64, "from", "to", "rate", "pages", "sent", "dirtied")
+
+
+class Question(Structure):
     _fields_ = [
-        ("size", ctypes.c_uint64),
-        ("min", ctypes.c_uint64),
-        ("max", ctypes.c_uint64),
-        ("increment", ctypes.c_uint64),
-        ("threshold", ctypes.c_uint64),
-        ("rounds", ctypes.c_uint64),
-        ("start", ctypes.c_uint64),
-        ("window", ctypes.c_uint64),
-        ("hot", ctypes.c_uint64),
-        ("base", ctypes.c_uint64),
-        ("has_base", ctypes.c_uint32),
-        ("skip", ctypes.c_uint32),
+        *_of(c_uint64, "size", "link", "first", "downtime", "reserve", "tick"),
+        *_of(c_uint64, "page", "sampled", "guest", "increment", "rounds", "start"),
+        *_of(c_uint64, "base"),
+        *_of(c_uint32, "has_first", "has_increment", "has_base", "skip"),
     ]
 
 
-class Sums(ctypes.Structure):
+class Prediction(Structure):
     _fields_ = [
-        ("rounds", ctypes.c_uint64),
-        ("reason", ctypes.c_uint64),
-        ("stop", ctypes.c_uint64),
-        ("down", ctypes.c_uint64),
-        ("total", ctypes.c_uint64),
+        *_of(c_uint64, "rounds", "reason", "stop", "down", "total", "left"),
+        *_of(c_uint64, "time", "bytes", "downtime", "recorded"),
+        *_of(c_uint32, "converges", "kept"),
     ]
 
 
-class Round(ctypes.Structure):
+class Errors(Structure):
+    _fields_ = [*_of(c_uint64, "bytes", "time", "downtime"), *_of(c_uint32, "has_errors")]
+
+
+class Amounts(Structure):
     _fields_ = [
-        ("from", ctypes.c_uint64),
-        ("to", ctypes.c_uint64),
-        ("rate", ctypes.c_uint64),
-        ("pages", ctypes.c_uint64),
-        ("sent", ctypes.c_uint64),
-        ("dirtied", ctypes.c_uint64),
+        *_of(c_uint64, "link", "downtime", "speed", "ending_link", "ending_start"),
+        *_of(c_uint32, "has_link", "has_downtime", "has_speed", "has_ending_link", "has_ending_start", "is_kept"),
+        *_of(c_uint32, "ends"),
     ]
 
 
-class Question(ctypes.Structure):
+class Write(Structure):
+    _fields_ = [*_of(c_uint64, "tick"), *_of(c_size_t, "size"), *_of(c_uint32, "place", "offset")]
+
+
+class Frame(Structure):
+    _fields_ = [*_of(c_uint32, "page", "stamp"), *_of(c_size_t, "size")]
+
+
+class Page(Structure):
+    _fields_ = _of(c_uint32, "came", "stamp")
+
+
+class Taken(Structure):
+    _fields_ = _of(c_size_t, "frames", "bytes")
+
+
+class Finding(Structure):
     _fields_ = [
-        ("size", ctypes.c_uint64),
-        ("link", ctypes.c_uint64),
-        ("first", ctypes.c_uint64),
-        ("downtime", ctypes.c_uint64),
-        ("reserve", ctypes.c_uint64),
-        ("tick", ctypes.c_uint64),
-        ("page", ctypes.c_uint64),
-        ("sampled", ctypes.c_uint64),
-        ("guest", ctypes.c_uint64),
-        ("increment", ctypes.c_uint64),
-        ("rounds", ctypes.c_uint64),
-        ("start", ctypes.c_uint64),
-        ("base", ctypes.c_uint64),
-        ("has_first", ctypes.c_uint32),
-        ("has_increment", ctypes.c_uint32),
-        ("has_base", ctypes.c_uint32),
-        ("skip", ctypes.c_uint32),
+        *_of(c_size_t, "stream", "frame", "offset"),
+        *_of(c_uint64, "tick"),
+        *_of(c_uint32, "page", "stamp", "wanted", "missing"),
     ]
 
 
-class Prediction(ctypes.Structure):
-    _fields_ = [
-        ("rounds", ctypes.c_uint64),
-        ("reason", ctypes.c_uint64),
-        ("stop", ctypes.c_uint64),
-        ("down", ctypes.c_uint64),
-        ("total", ctypes.c_uint64),
-        ("left", ctypes.c_uint64),
-        ("time", ctypes.c_uint64),
-        ("bytes", ctypes.c_uint64),
-        ("downtime", ctypes.c_uint64),
-        ("recorded", ctypes.c_uint64),
-        ("converges", ctypes.c_uint32),
-        ("kept", ctypes.c_uint32),
-    ]
-
-
-class Errors(ctypes.Structure):
-    _fields_ = [
-        ("bytes", ctypes.c_uint64),
-        ("time", ctypes.c_uint64),
-        ("downtime", ctypes.c_uint64),
-        ("has_errors", ctypes.c_uint32),
-    ]
-
-
-class Amounts(ctypes.Structure):
-    _fields_ = [
-        ("link", ctypes.c_uint64),
-        ("downtime", ctypes.c_uint64),
-        ("speed", ctypes.c_uint64),
-        ("has_link", ctypes.c_uint32),
-        ("has_downtime", ctypes.c_uint32),
-        ("has_speed", ctypes.c_uint32),
-        ("is_kept", ctypes.c_uint32),
-    ]
-
-
-class Write(ctypes.Structure):
-    _fields_ = [
-        ("tick", ctypes.c_uint64),
-        ("size", ctypes.c_size_t),
-        ("place", ctypes.c_uint32),
-        ("offset", ctypes.c_uint32),
-    ]
-
-
-class Frame(ctypes.Structure):
-    _fields_ = [
-        ("page", ctypes.c_uint32),
-        ("stamp", ctypes.c_uint32),
-        ("size", ctypes.c_size_t),
-    ]
-
-
-class Page(ctypes.Structure):
-    _fields_ = [
-        ("came", ctypes.c_uint32),
-        ("stamp", ctypes.c_uint32),
-    ]
-
-
-class Taken(ctypes.Structure):
-    _fields_ = [
-        ("frames", ctypes.c_size_t),
-        ("bytes", ctypes.c_size_t),
-    ]
-
-
-class Finding(ctypes.Structure):
-    _fields_ = [
-        ("stream", ctypes.c_size_t),
-        ("frame", ctypes.c_size_t),
-        ("offset", ctypes.c_size_t),
-        ("tick", ctypes.c_uint64),
-        ("page", ctypes.c_uint32),
-        ("stamp", ctypes.c_uint32),
-        ("wanted", ctypes.c_uint32),
-        ("missing", ctypes.c_uint32),
-    ]
-
-
-class Progress(ctypes.Structure):
-    _fields_ = [
-        ("stream", ctypes.c_size_t),
-        ("frames", ctypes.c_size_t),
-        ("bytes", ctypes.c_size_t),
-        ("stop", ctypes.c_uint32),
-    ]
+class Progress(Structure):
+    _fields_ = [*_of(c_size_t, "stream", "frames", "bytes"), *_of(c_uint32, "stop")]
 
 
 # The arguments of each function.
 CALLS = {
     "abi": [],
-    "check_trace": [
-        ctypes.c_void_p,
-        ctypes.c_size_t,
-        ctypes.POINTER(Sizes),
-        ctypes.POINTER(ctypes.c_uint32),
-    ],
-    "writes_before": [
-        ctypes.c_void_p,
-        ctypes.c_size_t,
-        ctypes.c_uint64,
-        ctypes.POINTER(ctypes.c_uint32),
-        ctypes.POINTER(ctypes.c_uint32),
-    ],
-    "check_settings": [
-        ctypes.POINTER(Settings),
-    ],
-    "plan": [
-        ctypes.c_void_p,
-        ctypes.c_size_t,
-        ctypes.POINTER(Settings),
-        ctypes.POINTER(Sums),
-        ctypes.POINTER(ctypes.c_uint32),
-    ],
-    "rounds": [
-        ctypes.c_void_p,
-        ctypes.c_size_t,
-        ctypes.POINTER(Settings),
-        ctypes.POINTER(Round),
-        ctypes.c_size_t,
-        ctypes.POINTER(ctypes.c_size_t),
-        ctypes.POINTER(ctypes.c_uint32),
-    ],
-    "report": [
-        ctypes.c_void_p,
-        ctypes.c_size_t,
-        ctypes.POINTER(Settings),
-        ctypes.c_void_p,
-        ctypes.c_size_t,
-        ctypes.POINTER(ctypes.c_size_t),
-        ctypes.POINTER(ctypes.c_uint32),
-    ],
+    "check_trace": [c_void_p, c_size_t, POINTER(Sizes), POINTER(c_uint32)],
+    "writes_before": [c_void_p, c_size_t, c_uint64, POINTER(c_uint32), POINTER(c_uint32)],
+    "check_settings": [POINTER(Settings)],
+    "plan": [c_void_p, c_size_t, POINTER(Settings), POINTER(Sums), POINTER(c_uint32)],
+    "rounds": [c_void_p, c_size_t, POINTER(Settings), POINTER(Round), c_size_t, POINTER(c_size_t), POINTER(c_uint32)],
+    "report": [c_void_p, c_size_t, POINTER(Settings), c_void_p, c_size_t, POINTER(c_size_t), POINTER(c_uint32)],
     "sweep": [
-        ctypes.c_void_p,
-        ctypes.c_size_t,
-        ctypes.POINTER(Settings),
-        ctypes.c_size_t,
-        ctypes.POINTER(Sums),
-        ctypes.c_size_t,
-        ctypes.POINTER(ctypes.c_size_t),
-        ctypes.POINTER(ctypes.c_uint32),
+        c_void_p,
+        c_size_t,
+        POINTER(Settings),
+        c_size_t,
+        POINTER(Sums),
+        c_size_t,
+        POINTER(c_size_t),
+        POINTER(c_uint32),
     ],
-    "predict": [
-        ctypes.c_void_p,
-        ctypes.c_size_t,
-        ctypes.POINTER(Question),
-        ctypes.POINTER(Prediction),
-        ctypes.POINTER(Errors),
-        ctypes.POINTER(ctypes.c_uint32),
-    ],
-    "enough": [
-        ctypes.c_void_p,
-        ctypes.c_size_t,
-        ctypes.POINTER(Question),
-        ctypes.POINTER(Amounts),
-        ctypes.POINTER(ctypes.c_uint32),
-    ],
-    "memory": [
-        ctypes.c_void_p,
-        ctypes.c_size_t,
-        ctypes.c_void_p,
-        ctypes.c_size_t,
-        ctypes.POINTER(ctypes.c_size_t),
-        ctypes.POINTER(ctypes.c_uint32),
-    ],
-    "memory_before": [
-        ctypes.c_void_p,
-        ctypes.c_size_t,
-        ctypes.c_uint64,
-        ctypes.c_void_p,
-        ctypes.c_size_t,
-        ctypes.POINTER(ctypes.c_size_t),
-        ctypes.POINTER(ctypes.c_uint32),
-    ],
-    "memory_step": [
-        ctypes.c_void_p,
-        ctypes.c_size_t,
-        ctypes.c_uint32,
-        ctypes.c_uint32,
-        ctypes.c_void_p,
-        ctypes.c_size_t,
-        ctypes.POINTER(ctypes.c_uint32),
-    ],
-    "version_after": [
-        ctypes.c_void_p,
-        ctypes.c_size_t,
-        ctypes.c_uint32,
-        ctypes.c_uint32,
-        ctypes.POINTER(ctypes.c_uint32),
-        ctypes.POINTER(ctypes.c_uint32),
-    ],
-    "page_at": [
-        ctypes.c_void_p,
-        ctypes.c_size_t,
-        ctypes.c_uint32,
-        ctypes.c_uint32,
-        ctypes.c_void_p,
-        ctypes.c_size_t,
-        ctypes.POINTER(ctypes.c_uint32),
-    ],
-    "page_writes": [
-        ctypes.c_void_p,
-        ctypes.c_size_t,
-        ctypes.c_uint32,
-        ctypes.POINTER(Write),
-        ctypes.c_size_t,
-        ctypes.POINTER(ctypes.c_size_t),
-        ctypes.POINTER(ctypes.c_uint32),
-    ],
-    "encode_frame": [
-        ctypes.POINTER(Sizes),
-        ctypes.c_uint32,
-        ctypes.c_uint32,
-        ctypes.c_void_p,
-        ctypes.c_size_t,
-        ctypes.c_void_p,
-        ctypes.c_size_t,
-        ctypes.POINTER(ctypes.c_size_t),
-    ],
-    "decode_frame": [
-        ctypes.POINTER(Sizes),
-        ctypes.c_void_p,
-        ctypes.c_size_t,
-        ctypes.POINTER(Frame),
-        ctypes.c_void_p,
-        ctypes.c_size_t,
-    ],
-    "accept": [
-        ctypes.POINTER(Sizes),
-        ctypes.c_void_p,
-        ctypes.c_size_t,
-        ctypes.c_void_p,
-        ctypes.c_size_t,
-        ctypes.POINTER(Page),
-        ctypes.c_size_t,
-        ctypes.POINTER(Taken),
-    ],
-    "missing": [
-        ctypes.POINTER(Page),
-        ctypes.c_size_t,
-        ctypes.POINTER(ctypes.c_size_t),
-    ],
+    "predict": [c_void_p, c_size_t, POINTER(Question), POINTER(Prediction), POINTER(Errors), POINTER(c_uint32)],
+    "enough": [c_void_p, c_size_t, POINTER(Question), POINTER(Amounts), POINTER(c_uint32)],
+    "memory": [c_void_p, c_size_t, c_void_p, c_size_t, POINTER(c_size_t), POINTER(c_uint32)],
+    "memory_before": [c_void_p, c_size_t, c_uint64, c_void_p, c_size_t, POINTER(c_size_t), POINTER(c_uint32)],
+    "memory_step": [c_void_p, c_size_t, c_uint32, c_uint32, c_void_p, c_size_t, POINTER(c_uint32)],
+    "version_after": [c_void_p, c_size_t, c_uint32, c_uint32, POINTER(c_uint32), POINTER(c_uint32)],
+    "page_at": [c_void_p, c_size_t, c_uint32, c_uint32, c_void_p, c_size_t, POINTER(c_uint32)],
+    "page_writes": [c_void_p, c_size_t, c_uint32, POINTER(Write), c_size_t, POINTER(c_size_t), POINTER(c_uint32)],
+    "encode_frame": [POINTER(Sizes), c_uint32, c_uint32, c_void_p, c_size_t, c_void_p, c_size_t, POINTER(c_size_t)],
+    "decode_frame": [POINTER(Sizes), c_void_p, c_size_t, POINTER(Frame), c_void_p, c_size_t],
+    "accept": [POINTER(Sizes), c_void_p, c_size_t, c_void_p, c_size_t, POINTER(Page), c_size_t, POINTER(Taken)],
+    "missing": [POINTER(Page), c_size_t, POINTER(c_size_t)],
     "check_streams": [
-        ctypes.c_void_p,
-        ctypes.c_size_t,
-        ctypes.c_uint32,
-        ctypes.c_void_p,
-        ctypes.c_size_t,
-        ctypes.POINTER(ctypes.c_size_t),
-        ctypes.c_size_t,
-        ctypes.POINTER(Finding),
-        ctypes.POINTER(ctypes.c_uint32),
+        c_void_p,
+        c_size_t,
+        c_uint32,
+        c_void_p,
+        c_size_t,
+        POINTER(c_size_t),
+        c_size_t,
+        POINTER(Finding),
+        POINTER(c_uint32),
     ],
     "check_piece": [
-        ctypes.c_void_p,
-        ctypes.c_size_t,
-        ctypes.c_void_p,
-        ctypes.c_size_t,
-        ctypes.POINTER(Progress),
-        ctypes.POINTER(Page),
-        ctypes.c_size_t,
-        ctypes.POINTER(Finding),
-        ctypes.POINTER(ctypes.c_uint32),
+        c_void_p,
+        c_size_t,
+        c_void_p,
+        c_size_t,
+        POINTER(Progress),
+        POINTER(Page),
+        c_size_t,
+        POINTER(Finding),
+        POINTER(c_uint32),
     ],
     "check_pages": [
-        ctypes.c_void_p,
-        ctypes.c_size_t,
-        ctypes.POINTER(Progress),
-        ctypes.POINTER(Page),
-        ctypes.c_size_t,
-        ctypes.POINTER(Finding),
-        ctypes.POINTER(ctypes.c_uint32),
+        c_void_p,
+        c_size_t,
+        POINTER(Progress),
+        POINTER(Page),
+        c_size_t,
+        POINTER(Finding),
+        POINTER(c_uint32),
     ],
-    "is_zero": [
-        ctypes.c_void_p,
-        ctypes.c_size_t,
-    ],
+    "is_zero": [c_void_p, c_size_t],
 }

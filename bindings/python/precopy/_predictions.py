@@ -108,19 +108,23 @@ def predict(trace: Bytes, question: Question) -> Prediction:
 class Amounts:
     """What is enough for the downtime limit of a question, each amount by itself: a link in bytes a second, a downtime
     in microseconds, and to how many per cent of its speed the guest is slowed. What was not found is None; if the limit
-    is kept there is no speed."""
+    is kept there is no speed. If the trace ends before the migration does (`ends` is False), there are the least link
+    and the latest start that end it within the trace, whether the limit is then kept or not."""
 
     is_kept: bool
     link: Optional[int]
     downtime: Optional[int]
     speed: Optional[int]
+    ends: bool
+    ending_link: Optional[int]
+    ending_start: Optional[int]
 
 
 def enough(trace: Bytes, question: Question) -> Amounts:
     """Returns whether the migration of a trace keeps the limit of a question, and the least amounts that do: up from
-    what is asked if it does not, and else down from it."""
+    what is asked if it does not, and else down from it; and what ends it within the trace if it does not."""
     found = _interface.Amounts()
     check_over(_LIBRARY.precopy_enough, trace, question._as_c(), found)
-    amounts = {name: getattr(found, name) for name in ("link", "downtime", "speed")}
-    told = {name: amount if getattr(found, f"has_{name}") else None for name, amount in amounts.items()}
-    return Amounts(is_kept=found.is_kept != 0, **told)
+    names = ("link", "downtime", "speed", "ending_link", "ending_start")
+    told = {name: getattr(found, name) if getattr(found, f"has_{name}") else None for name in names}
+    return Amounts(is_kept=found.is_kept != 0, ends=found.ends != 0, **told)

@@ -33,7 +33,8 @@ fn hex(bytes: &[u8]) -> String {
     bytes.iter().map(|byte| format!("{byte:02x}")).collect()
 }
 
-/// A question about a guest of which every third page was recorded, whose limits make rates like those of some settings.
+/// A question about a guest of which every third page was recorded, whose limits make rates like those of some
+/// settings.
 fn question(sizes: &precopy::Sizes, settings: &Settings) -> Question {
     let (page, pages) = (sizes.page_length() as u64, u64::from(sizes.pages()));
     Question {
@@ -72,11 +73,14 @@ fn print_amounts(trace: &[u8], question: &Question) -> Result<(), Refused> {
     let it = precopy::enough(trace, question)?;
     let word = |amount: Option<u64>| amount.map_or("-".to_string(), |amount| amount.to_string());
     println!(
-        "enough {} {} {} {}",
+        "enough {} {} {} {} {} {} {}",
         it.is_kept,
         word(it.link),
         word(it.downtime),
-        word(it.speed)
+        word(it.speed),
+        it.ends,
+        word(it.ending_link),
+        word(it.ending_start)
     );
     Ok(())
 }

@@ -92,10 +92,15 @@ pub struct Amounts {
     pub link: u64,
     pub downtime: u64,
     pub speed: u64,
+    pub ending_link: u64,
+    pub ending_start: u64,
     pub has_link: u32,
     pub has_downtime: u32,
     pub has_speed: u32,
+    pub has_ending_link: u32,
+    pub has_ending_start: u32,
     pub is_kept: u32,
+    pub ends: u32,
 }
 
 #[repr(C)]

@@ -32,7 +32,7 @@ pub fn version() -> &'static str {
 }
 
 /// The number of the interface that this crate was written for.
-pub const ABI: u32 = 2;
+pub const ABI: u32 = 3;
 
 /// Returns the number of the library's interface. If it is not [`ABI`], call nothing else.
 pub fn abi() -> u32 {

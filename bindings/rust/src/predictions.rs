@@ -3,9 +3,9 @@
 use crate::refusals::{checked, with_record, Refused, NO_RECORD};
 use crate::{calls, Reason};
 
-/// What is asked of a migration: how much it may take, what ticks and pages of the trace stand for, and where it begins.
-/// Rates are in bytes a second, times in microseconds. The default is what `precopy-view predict` asks if no option is
-/// given, with pages of 4,096 bytes, of which all were recorded; its link and its downtime are 0.
+/// What is asked of a migration: how much it may take, what ticks and pages of the trace stand for, and where it
+/// begins. Rates are in bytes a second, times in microseconds. The default is what `precopy-view predict` asks if no
+/// option is given, with pages of 4,096 bytes, of which all were recorded; its link and its downtime are 0.
 #[derive(Clone, Copy, Debug, PartialEq, Eq)]
 pub struct Question {
     /// What the migration may use of the link.
@@ -186,7 +186,7 @@ pub fn predict(trace: &[u8], question: &Question) -> Result<Prediction, Refused>
     with_record(record, checked(status).map(|()| Prediction::of(&found, &errors)))
 }
 
-/// What is enough for the downtime limit of a question, each amount by itself.
+/// What is enough for the downtime limit of a question, each amount by itself, and to end within the trace.
 #[derive(Clone, Copy, Debug, PartialEq, Eq)]
 pub struct Amounts {
     /// Whether the limit is kept as it is.
@@ -197,6 +197,12 @@ pub struct Amounts {
     pub downtime: Option<u64>,
     /// To how many per cent of its speed the guest is slowed, if one was found. If the limit is kept there is none.
     pub speed: Option<u64>,
+    /// Whether the migration ends within the trace as it is. If it does, there are no others.
+    pub ends: bool,
+    /// The least link that ends it within the trace, in bytes a second, whether the limit is then kept or not.
+    pub ending_link: Option<u64>,
+    /// The latest start that does, back from that of the question.
+    pub ending_start: Option<u64>,
 }
 
 impl Amounts {
@@ -207,12 +213,15 @@ impl Amounts {
             link: given(found.has_link, found.link),
             downtime: given(found.has_downtime, found.downtime),
             speed: given(found.has_speed, found.speed),
+            ends: found.ends != 0,
+            ending_link: given(found.has_ending_link, found.ending_link),
+            ending_start: given(found.has_ending_start, found.ending_start),
         }
     }
 }
 
 /// Returns whether the migration of a trace keeps the limit of a question, and the least amounts that do: up from what
-/// is asked if it does not, and else down from it.
+/// is asked if it does not, and else down from it; and what ends it within the trace if it does not.
 pub fn enough(trace: &[u8], question: &Question) -> Result<Amounts, Refused> {
     let (mut found, mut record) = (calls::Amounts::default(), NO_RECORD);
     // SAFETY: the slice is there for its length; what is written is this function's.

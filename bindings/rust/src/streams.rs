@@ -99,8 +99,8 @@ pub fn check_streams(trace: &[u8], stop: u32, bytes: &[u8], sizes: &[usize]) -> 
     }
 }
 
-/// A check of the streams of a migration as they come, one after the other. It finds what [`check_streams`] finds in all
-/// of them at once.
+/// A check of the streams of a migration as they come, one after the other. It finds what [`check_streams`] finds in
+/// all of them at once.
 pub struct StreamCheck<'a> {
     trace: &'a [u8],
     progress: calls::Progress,

@@ -156,18 +156,23 @@ fn predictions() {
 
 #[test]
 fn amounts() {
-    let amounts = |is_kept, link, downtime, speed| {
+    let amounts = |is_kept, link, downtime, speed, (ends, ending_link, ending_start)| {
         Ok(Amounts {
             is_kept,
             link,
             downtime,
             speed,
+            ends,
+            ending_link,
+            ending_start,
         })
     };
-    let kept = amounts(true, Some(250), Some(600_000), None);
+    let soon = (true, None, None);
+    let kept = amounts(true, Some(250), Some(600_000), None, soon);
     assert_eq!(precopy::enough(&TRACE, &half()), kept);
     let soon_over = Question { start: 2400, ..half() };
-    assert_eq!(precopy::enough(&TRACE, &soon_over), amounts(false, None, None, Some(5)));
+    let earlier = amounts(false, None, None, Some(5), (false, None, Some(500)));
+    assert_eq!(precopy::enough(&TRACE, &soon_over), earlier);
     let late = Question {
         link: 64,
         first: Some(32),
@@ -176,7 +181,7 @@ fn amounts() {
         reserve: 50_000,
         ..half()
     };
-    let missed = amounts(false, Some(750), Some(550_000), Some(65));
+    let missed = amounts(false, Some(750), Some(550_000), Some(65), (false, Some(750), None));
     assert_eq!(precopy::enough(&TRACE, &late), missed);
     let one = Question {
         rounds: 1,
@@ -184,7 +189,7 @@ fn amounts() {
         reserve: 0,
         ..late
     };
-    assert_eq!(precopy::enough(&TRACE, &one), amounts(false, None, None, None));
+    assert_eq!(precopy::enough(&TRACE, &one), amounts(false, None, None, None, soon));
 }
 
 #[test]

@@ -4,18 +4,14 @@ import { KeptPlans } from "../../../web/model/kept-plans.js";
 import { firstPlace } from "../../../web/model/search.js";
 import { firstWay } from "../../../web/model/ways.js";
 
-test("the first way is found by few questions, one at a time", () => {
-  for (let first = 0; first <= 64; first += 1) {
-    const ways = Array.from({ length: 64 }, (_, place) => ({ place, question: place }));
-    const known = new Map();
-    let asked = firstWay(ways, (question) => known.get(question));
-    while (asked.ask) {
-      known.set(asked.ask.question, { kept: asked.ask.place >= first ? "no" : "unknown" });
-      asked = firstWay(ways, (question) => known.get(question));
-    }
-    assert.equal(asked.found?.place ?? 64, first);
-    assert.ok(known.size <= 7, `${known.size} questions`);
-  }
+test("the first way that ends within the trace is told, and each is asked for in turn", () => {
+  const ways = ["few digits", "all digits"].map((name) => ({ name, question: name }));
+  const told = (answers) => firstWay(ways, (question) => answers[question]);
+  assert.equal(told({}).ask.name, "few digits");
+  assert.equal(told({ "few digits": { kept: "no" } }).found.name, "few digits");
+  assert.equal(told({ "few digits": { kept: "unknown" } }).ask.name, "all digits");
+  assert.equal(told({ "few digits": null, "all digits": { kept: "yes" } }).found.answer.kept, "yes");
+  assert.equal(told({ "few digits": null, "all digits": null }).found, null);
 });
 
 test("a place is found where something begins to hold", () => {

@@ -1,11 +1,14 @@
 -- Which of several answers is the best, and which the worst: those of the same question from several starts.
-use Rattle.std.specs.Prelude.{ℕ, ◌==◌, not, Bool, List, length}
+use Rattle.std.specs.Prelude.{ℕ, ◌==◌, not, if◌then◌else◌, Bool, List, length, Option, None, Some}
 use Rattle.std.specs.List.{IsFirstBest, count_by}
+use Rattle.predictions.specs.Redrawn.Errors.{SampleErrors}
 use Rattle.predictions.specs.Starts.Choices.{is_better_known, is_worse_known}
 use Rattle.predictions.specs.Starts.Costs.{CostAtStart}
 use Rattle.predictions.specs.Predictions.{MigrationCost}
 use Rattle.predictions.specs.declared.answer.Answer.{Answer}
+use Rattle.predictions.specs.declared.answer.ErrorNumbers.{ErrorNumbers}
 use Rattle.browser_planner.specs.declared.starts.LentChoice.{LentChoice}
+use Rattle.browser_planner.specs.declared.starts.LentStart.{LentStart}
 
 -- what a migration costs by an answer: its limit is kept, or not, or nothing is known
 abbrev pub cost_in : Answer → MigrationCost
@@ -18,21 +21,27 @@ cost_in a = record {
   is_late = a.kept == 2;
 }
 
+-- the standard errors, if they are given
+abbrev pub errors_in : ErrorNumbers → Option SampleErrors
+errors_in e = if e.has_errors == 0 then None
+    else Some (record { bytes = e.bytes; time = e.time; downtime = e.downtime })
+
 -- The tick of the start does not count in a choice.
-abbrev pub start_in : Answer → CostAtStart
-start_in a = record { start = 0; cost = cost_in a }
+abbrev pub start_in : LentStart → CostAtStart
+start_in s = record { start = 0; cost = cost_in s.answer; errors = errors_in s.errors }
 
-abbrev pub is_better_answer : Answer → Answer → Bool
-is_better_answer a b = is_better_known (start_in a) (start_in b)
+abbrev pub is_better_lent : ℕ → LentStart → LentStart → Bool
+is_better_lent limit a b = is_better_known limit (start_in a) (start_in b)
 
-abbrev pub is_worse_answer : Answer → Answer → Bool
-is_worse_answer a b = is_worse_known (start_in a) (start_in b)
+abbrev pub is_worse_lent : ℕ → LentStart → LentStart → Bool
+is_worse_lent limit a b = is_worse_known limit (start_in a) (start_in b)
 
 -- how many answers tell something
-abbrev pub known_count : List Answer → ℕ
-known_count answers = count_by (λ a. not (a.kept == 2)) answers
+abbrev pub known_count : List LentStart → ℕ
+known_count starts = count_by (λ s. not (s.answer.kept == 2)) starts
 
--- these are the places of the best and of the worst answer, the first of equals; one that tells something comes first
-pub record AreChosen (answers : List Answer) (choice : LentChoice) : Type 0 where
-  pub best : IsFirstBest is_better_answer answers (length answers) choice.best
-  pub worst : IsFirstBest is_worse_answer answers (length answers) choice.worst
+-- These are the places of the best and of the worst start beside a limit, the first of equals; one that tells something
+-- comes first.
+pub record AreChosen (limit : ℕ) (starts : List LentStart) (choice : LentChoice) : Type 0 where
+  pub best : IsFirstBest (is_better_lent limit) starts (length starts) choice.best
+  pub worst : IsFirstBest (is_worse_lent limit) starts (length starts) choice.worst

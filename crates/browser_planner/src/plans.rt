@@ -3,7 +3,7 @@
 // `IsPlan` holds of one value alone: `one_plan`.
 // `Spells` holds of one value alone: `one_trace`.
 
-ghost use Rattle.std.specs.Prelude.{◌≡◌, ◌≢◌, IfErr, IfOk, IsOk, OnErr, length};
+ghost use Rattle.std.specs.Prelude.{◌≡◌, ◌≢◌, IfErr, IfOk, IsOk, OnErr, OnOk, length};
 ghost use Rattle.migration_model.specs.Rates.{AreSettings};
 ghost use Rattle.migration_model.specs.Trace.{GuestTrace, Spells};
 ghost use Rattle.c_layout.specs.Settings.{settings_in};
@@ -80,6 +80,7 @@ fn planned(
 ) -> Result<Outcome, Refusal>
     ensures made { IfOk result (λ outcome. IsPlannedOf bytes.now (settings_in settings.now) outcome
         rounds.old rounds.new) }
+    ensures given { OnOk result (AreSettings (settings_in settings.now)) }
     ensures refused { IfErr result (RefusesPlan bytes.now (settings_in settings.now) (room_of (length touches.old)
         (length marks.old) (length list.old) (length rounds.old))) }
     ensures only { (t : GuestTrace) → Spells bytes.now t → AreSettings (settings_in settings.now)
@@ -116,6 +117,7 @@ pub extern "C" fn lent_plan(
     sums: &mut PlanSums,
 ) -> u32
     ensures made { result ≡ 0 → IsSummedOf trace.now (settings_in settings.now) sums.new rounds.old rounds.new }
+    ensures given { result ≡ 0 → AreSettings (settings_in settings.now) }
     ensures refused { result ≢ 0 → IsNumberOf result (RefusesPlan trace.now (settings_in settings.now)
         (room_of (length touches.old) (length marks.old) (length list.old) (length rounds.old))) }
     ensures only { (t : GuestTrace) → Spells trace.now t → AreSettings (settings_in settings.now)

@@ -3,7 +3,7 @@
 
 use crate::answering::{lent_predict, lent_question};
 use crate::errors::lent_errors;
-use crate::starts::{LentChoice, lent_chosen_starts};
+use crate::starts::{LentChoice, LentStart, lent_chosen_starts};
 use crate::tests::{ROUND, TOUCH, TRACE, settings};
 use c_layout::PlanSettings;
 use predictions::{Answer, ErrorNumbers, Question};
@@ -252,26 +252,59 @@ fn errors_are_those_of_redrawn_pages(rt: HostRuntime) {
     assert!(rt; errors(&Question { tick: 0, ..ASKED }, 4) == (81, [7; 3], 7));
 }
 
-/// The places that are chosen of some answers, and how many of them tell something.
-fn chosen(answers: &[Answer]) -> (usize, u64, u64) {
-    let mut choice = LentChoice { best: 7, worst: 7 };
-    let known = lent_chosen_starts(answers, &mut choice);
-    (known, choice.best, choice.worst)
-}
+const NO_ERRORS: ErrorNumbers = ErrorNumbers {
+    bytes: 0,
+    time: 0,
+    downtime: 0,
+    has_errors: 0,
+};
 
-#[test]
-fn starts_that_tell_nothing_are_not_chosen(rt: HostRuntime) {
-    let mut answers = [UNANSWERED; 4];
+/// The answers from four starts, of which nothing is known of the first.
+fn answered() -> [LentStart; 4] {
+    let mut starts = [LentStart {
+        answer: UNANSWERED,
+        errors: NO_ERRORS,
+    }; 4];
     for (place, start) in [2400, 0, 800, 1600].iter().enumerate() {
         let asked = Question {
             start: *start,
             ..ASKED
         };
         let (_, answer) = predicted(&asked, 30);
-        answers[place.min(3)] = answer;
+        starts[place.min(3)].answer = answer;
     }
-    assert!(rt; chosen(&answers) == (3, 2, 1));
-    let (late, _) = answers.split_at(1);
+    starts
+}
+
+/// The places that are chosen of some starts, and how many of them tell something.
+fn chosen(starts: &[LentStart]) -> (usize, u64, u64) {
+    let mut choice = LentChoice { best: 7, worst: 7 };
+    let known = lent_chosen_starts(starts, ASKED.downtime, &mut choice);
+    (known, choice.best, choice.worst)
+}
+
+#[test]
+fn starts_that_tell_nothing_are_not_chosen(rt: HostRuntime) {
+    let starts = answered();
+    assert!(rt; chosen(&starts) == (3, 2, 1));
+    let (late, _) = starts.split_at(1);
     assert!(rt; chosen(late) == (0, 0, 0));
     assert!(rt; chosen(&[]) == (0, 7, 7));
+}
+
+/// Of the start that sends least, two standard errors reach the limit, or a microsecond more.
+#[test]
+fn a_start_that_may_miss_its_limit_is_not_the_best(rt: HostRuntime) {
+    let mut starts = answered();
+    let errors = ErrorNumbers {
+        downtime: 95_000,
+        has_errors: 1,
+        ..NO_ERRORS
+    };
+    starts[2].errors = errors;
+    assert!(rt; chosen(&starts) == (3, 2, 1));
+    starts[2].errors.downtime += 1;
+    assert!(rt; chosen(&starts) == (3, 3, 1));
+    starts[2].errors.has_errors = 0;
+    assert!(rt; chosen(&starts) == (3, 2, 1));
 }

@@ -94,9 +94,10 @@ fn asked_remedies(
 }
 
 /// Answers whether the migration of a trace keeps the limit of a question, and the least link and the least downtime
-/// that do, each by itself; and how much the guest has to be slowed if it is not kept. It costs as much as some 35
-/// plans, and at most 98. It is refused if anything lent is too short: a slot of `touches` for each write, a bit of
-/// `marks` and a slot of `list` for each page, and 64 slots of `rounds`.
+/// that do, each by itself; how much the guest has to be slowed if it is not kept; and the least link and the latest
+/// start that end it within the trace if it does not. It costs as much as some 35 plans, and at most 187. It is refused
+/// if anything lent is too short: a slot of `touches` for each write, a bit of `marks` and a slot of `list` for each
+/// page, and 64 slots of `rounds`.
 #[unsafe(no_mangle)]
 pub extern "C" fn lent_remedies(
     trace: &[u8],

@@ -1,5 +1,5 @@
-//! What keeps limits over the worked trace. The amounts come from `bench/remedies.py`, which shares no code with the
-//! crates.
+//! What keeps limits over the worked trace. The amounts come from `python/precopy_dev/models/remedies.py`, which shares
+//! no code with the crates.
 
 use crate::prediction_tests::ASKED;
 use crate::remedies::lent_remedies;
@@ -7,9 +7,10 @@ use crate::tests::{ROUND, TOUCH, TRACE};
 use predictions::Question;
 use predictions::remedies::RemedyNumbers;
 
-/// What is told: the status, whether the limit is kept, and the link in bytes a second, the downtime and the speed with
-/// whether each was found.
-type Told = (u32, u32, [u64; 3], [u32; 3]);
+/// What is told: the status, whether the limit is kept, and whether the migration ends within the trace; the link in
+/// bytes a second, the downtime and the speed that keep the limit, and the link and the start that end the migration
+/// within the trace, with whether each was found.
+type Told = (u32, [u32; 2], [u64; 5], [u32; 5]);
 
 /// What keeps the limit of a question, with this many slots for rounds.
 fn remedies(question: &Question, slots: usize) -> Told {
@@ -19,10 +20,15 @@ fn remedies(question: &Question, slots: usize) -> Told {
         link: 7,
         downtime: 7,
         speed: 7,
+        ending_link: 7,
+        ending_start: 7,
         has_link: 7,
         has_downtime: 7,
         has_speed: 7,
+        has_ending_link: 7,
+        has_ending_start: 7,
         is_kept: 7,
+        ends: 7,
     };
     let status = lent_remedies(
         &TRACE,
@@ -35,9 +41,21 @@ fn remedies(question: &Question, slots: usize) -> Told {
     );
     (
         status,
-        told.is_kept,
-        [told.link, told.downtime, told.speed],
-        [told.has_link, told.has_downtime, told.has_speed],
+        [told.is_kept, told.ends],
+        [
+            told.link,
+            told.downtime,
+            told.speed,
+            told.ending_link,
+            told.ending_start,
+        ],
+        [
+            told.has_link,
+            told.has_downtime,
+            told.has_speed,
+            told.has_ending_link,
+            told.has_ending_start,
+        ],
     )
 }
 
@@ -64,16 +82,18 @@ fn amounts_that_keep_a_limit(rt: HostRuntime) {
         has_increment: 0,
         ..given
     };
-    assert!(rt; remedies(&ASKED, 64) == (0, 1, [250, 10_009, 0], [1, 1, 0]));
-    assert!(rt; remedies(&few_rounds, 64) == (0, 0, [1500, 135_156, 0], [1, 1, 0]));
-    assert!(rt; remedies(&late, 64) == (0, 0, [2625, 0, 40], [1, 0, 1]));
-    assert!(rt; remedies(&given, 64) == (0, 0, [750, 250_000, 80], [1, 1, 1]));
-    assert!(rt; remedies(&not_given, 64) == (0, 1, [250, 1562, 0], [1, 1, 0]));
+    assert!(rt; remedies(&ASKED, 64) == (0, [1, 1], [250, 10_009, 0, 0, 0], [1, 1, 0, 0, 0]));
+    assert!(rt;
+        remedies(&few_rounds, 64) == (0, [0, 1], [1500, 135_156, 0, 0, 0], [1, 1, 0, 0, 0])
+    );
+    assert!(rt; remedies(&late, 64) == (0, [0, 0], [2625, 0, 40, 2625, 2250], [1, 0, 1, 1, 1]));
+    assert!(rt; remedies(&given, 64) == (0, [0, 1], [750, 250_000, 80, 0, 0], [1, 1, 1, 0, 0]));
+    assert!(rt; remedies(&not_given, 64) == (0, [1, 1], [250, 1562, 0, 0, 0], [1, 1, 0, 0, 0]));
 }
 
 /// Returns whether a question is refused with this number, before anything is written.
 fn is_refused(question: &Question, slots: usize, number: u32) -> bool {
-    remedies(question, slots) == (number, 7, [7; 3], [7; 3])
+    remedies(question, slots) == (number, [7; 2], [7; 5], [7; 5])
 }
 
 #[test]

@@ -2,16 +2,28 @@
 
 ghost use Rattle.std.specs.Prelude.{◌≡◌, ◌≤◌, ◌<◌, [], length, slice_index_or};
 ghost use Rattle.std.specs.List.{IsFirstBest};
-ghost use Rattle.predictions.specs.declared.answer.Answer.{Answer};
-ghost use Rattle.browser_planner.specs.Starts.{AreChosen, is_better_answer, is_worse_answer, known_count, start_in};
+ghost use Rattle.browser_planner.specs.declared.starts.LentStart.{LentStart};
+ghost use Rattle.browser_planner.specs.Starts.{AreChosen, cost_in, errors_in, is_better_lent, is_worse_lent};
+ghost use Rattle.browser_planner.specs.Starts.{known_count, start_in};
 
+use predictions::redrawn::Errors;
 use predictions::starts::{StartCost, is_better_known, is_worse_known};
-use predictions::{Answer, Cost};
+use predictions::{Answer, Cost, ErrorNumbers};
 
 /// The number of a verdict that tells nothing.
 const UNKNOWN: u32 = 2;
 
-/// The places of the best and of the worst of some answers.
+/// A start: the answer to the question from there, and the standard errors of that, if they are counted.
+#[derive(Clone, Copy)]
+#[repr(C)]
+pub struct LentStart {
+    /// The answer.
+    pub answer: Answer,
+    /// Its standard errors.
+    pub errors: ErrorNumbers,
+}
+
+/// The places of the best and of the worst of some starts.
 #[derive(Clone, Copy)]
 #[repr(C)]
 pub struct LentChoice {
@@ -22,78 +34,100 @@ pub struct LentChoice {
 }
 
 /// Returns what a migration costs by an answer.
-fn start_of(answer: &Answer) -> StartCost
-    ensures { result ≡ start_in answer.now }
+fn cost_of(answer: &Answer) -> Cost
+    ensures { result ≡ cost_in answer.now }
 {
-    StartCost {
-        start: 0,
-        cost: Cost {
-            rounds: answer.rounds,
-            time: answer.time as u128,
-            bytes: answer.bytes as u128,
-            downtime: answer.downtime as u128,
-            is_kept: answer.kept == 0,
-            is_late: answer.kept == UNKNOWN,
-        },
+    Cost {
+        rounds: answer.rounds,
+        time: answer.time as u128,
+        bytes: answer.bytes as u128,
+        downtime: answer.downtime as u128,
+        is_kept: answer.kept == 0,
+        is_late: answer.kept == UNKNOWN,
     }
 }
 
-/// Returns whether an answer is better than another.
-fn is_better(answer: &Answer, other: &Answer) -> bool
-    ensures { result ≡ is_better_answer answer.now other.now }
+/// Returns standard errors, if they are given.
+fn errors_of(numbers: &ErrorNumbers) -> Option<Errors>
+    ensures { result ≡ errors_in numbers.now }
 {
-    is_better_known(&start_of(answer), &start_of(other))
+    if numbers.has_errors == 0 {
+        return None;
+    }
+    Some(Errors {
+        bytes: numbers.bytes as u128,
+        time: numbers.time as u128,
+        downtime: numbers.downtime as u128,
+    })
 }
 
-/// Returns whether an answer is worse than another.
-fn is_worse(answer: &Answer, other: &Answer) -> bool
-    ensures { result ≡ is_worse_answer answer.now other.now }
+/// Returns what a migration costs from a start.
+fn start_of(start: &LentStart) -> StartCost
+    ensures { result ≡ start_in start.now }
 {
-    is_worse_known(&start_of(answer), &start_of(other))
+    StartCost {
+        start: 0,
+        cost: cost_of(&start.answer),
+        errors: errors_of(&start.errors),
+    }
 }
 
-/// Returns whether the answer at a place is better than that at another.
-fn is_better_at(answers: &[Answer], place: usize, other: usize) -> bool
-    requires place { place < length answers.now }
-    requires other { other < length answers.now }
-    ensures { (d : Answer) → result ≡ is_better_answer (slice_index_or answers.now place d)
-        (slice_index_or answers.now other d) }
+/// Returns whether a start is better than another.
+fn is_better(limit: u64, start: &LentStart, other: &LentStart) -> bool
+    ensures { result ≡ is_better_lent limit start.now other.now }
 {
-    is_better(&answers[place], &answers[other])
+    is_better_known(limit, &start_of(start), &start_of(other))
 }
 
-/// Returns whether the answer at a place is worse than that at another.
-fn is_worse_at(answers: &[Answer], place: usize, other: usize) -> bool
-    requires place { place < length answers.now }
-    requires other { other < length answers.now }
-    ensures { (d : Answer) → result ≡ is_worse_answer (slice_index_or answers.now place d)
-        (slice_index_or answers.now other d) }
+/// Returns whether a start is worse than another.
+fn is_worse(limit: u64, start: &LentStart, other: &LentStart) -> bool
+    ensures { result ≡ is_worse_lent limit start.now other.now }
 {
-    is_worse(&answers[place], &answers[other])
+    is_worse_known(limit, &start_of(start), &start_of(other))
 }
 
-/// Returns the place of the first answer that no other is better than.
-fn best_place(answers: &[Answer]) -> usize
-    requires { 1 ≤ length answers.now }
-    ensures { IsFirstBest is_better_answer answers.now (length answers.now) result }
+/// Returns whether the start at a place is better than that at another.
+fn is_better_at(limit: u64, starts: &[LentStart], place: usize, other: usize) -> bool
+    requires place { place < length starts.now }
+    requires other { other < length starts.now }
+    ensures { (d : LentStart) → result ≡ is_better_lent limit (slice_index_or starts.now place d)
+        (slice_index_or starts.now other d) }
+{
+    is_better(limit, &starts[place], &starts[other])
+}
+
+/// Returns whether the start at a place is worse than that at another.
+fn is_worse_at(limit: u64, starts: &[LentStart], place: usize, other: usize) -> bool
+    requires place { place < length starts.now }
+    requires other { other < length starts.now }
+    ensures { (d : LentStart) → result ≡ is_worse_lent limit (slice_index_or starts.now place d)
+        (slice_index_or starts.now other d) }
+{
+    is_worse(limit, &starts[place], &starts[other])
+}
+
+/// Returns the place of the first start that no other is better than.
+fn best_place(limit: u64, starts: &[LentStart]) -> usize
+    requires { 1 ≤ length starts.now }
+    ensures { IsFirstBest (is_better_lent limit) starts.now (length starts.now) result }
 {
     let mut best = 0;
-    for number in 1..answers.len() {
-        if is_better_at(answers, number, best) {
+    for number in 1..starts.len() {
+        if is_better_at(limit, starts, number, best) {
             best = number;
         }
     }
     best
 }
 
-/// Returns the place of the first answer that no other is worse than.
-fn worst_place(answers: &[Answer]) -> usize
-    requires { 1 ≤ length answers.now }
-    ensures { IsFirstBest is_worse_answer answers.now (length answers.now) result }
+/// Returns the place of the first start that no other is worse than.
+fn worst_place(limit: u64, starts: &[LentStart]) -> usize
+    requires { 1 ≤ length starts.now }
+    ensures { IsFirstBest (is_worse_lent limit) starts.now (length starts.now) result }
 {
     let mut worst = 0;
-    for number in 1..answers.len() {
-        if is_worse_at(answers, number, worst) {
+    for number in 1..starts.len() {
+        if is_worse_at(limit, starts, number, worst) {
             worst = number;
         }
     }
@@ -101,30 +135,35 @@ fn worst_place(answers: &[Answer]) -> usize
 }
 
 /// Returns how many answers tell something.
-fn count_known(answers: &[Answer]) -> usize
-    ensures { result ≡ known_count answers.now }
+fn count_known(starts: &[LentStart]) -> usize
+    ensures { result ≡ known_count starts.now }
 {
     let mut known = 0usize;
-    for answer in answers {
-        known += usize::from(answer.kept != UNKNOWN);
+    for start in starts {
+        known += usize::from(start.answer.kept != UNKNOWN);
     }
     known
 }
 
 /// Answers how many of some answers to the same question, each from another start, tell something: the others are of
-/// migrations that end after the trace. Finds the best and the worst of those that do, the first of equals. If none
-/// does, the two are of no use; without an answer they stay as they are.
+/// migrations that end after the trace. Finds the best of those that do beside the limit of the downtime, with the
+/// errors that are given, and the worst without errors; of each the first of equals. If none does, the two are of no
+/// use; without an answer they stay as they are.
 #[unsafe(no_mangle)]
-pub extern "C" fn lent_chosen_starts(answers: &[Answer], choice: &mut LentChoice) -> usize
-    ensures known { result ≡ known_count answers.now }
-    ensures chosen { 1 ≤ length answers.now → AreChosen answers.now choice.new }
-    ensures kept { answers.now ≡ [] → choice.new ≡ choice.old }
+pub extern "C" fn lent_chosen_starts(
+    starts: &[LentStart],
+    limit: u64,
+    choice: &mut LentChoice,
+) -> usize
+    ensures known { result ≡ known_count starts.now }
+    ensures chosen { 1 ≤ length starts.now → AreChosen limit starts.now choice.new }
+    ensures kept { starts.now ≡ [] → choice.new ≡ choice.old }
 {
-    if !answers.is_empty() {
+    if !starts.is_empty() {
         *choice = LentChoice {
-            best: best_place(answers) as u64,
-            worst: worst_place(answers) as u64,
+            best: best_place(limit, starts) as u64,
+            worst: worst_place(limit, starts) as u64,
         };
     }
-    count_known(answers)
+    count_known(starts)
 }

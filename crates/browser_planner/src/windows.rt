@@ -2,7 +2,7 @@
 
 // `Spells` holds of one value alone: `one_trace`.
 
-ghost use Rattle.std.specs.Prelude.{◌≡◌, ◌≢◌, IfErr, IfOk, IsOk, OnErr, length};
+ghost use Rattle.std.specs.Prelude.{◌≡◌, ◌≢◌, IfErr, IfOk, IsOk, OnErr, OnOk, length};
 ghost use Rattle.migration_model.specs.Rates.{AreSettings};
 ghost use Rattle.migration_model.specs.Trace.{GuestTrace, Spells};
 ghost use Rattle.c_layout.specs.Settings.{settings_in};
@@ -61,6 +61,7 @@ fn windows(
     rows: &mut [WindowNumbers],
 ) -> Result<usize, Refusal>
     ensures made { IfOk result (λ count. AreWindowsOf bytes.now (settings_in settings.now) count rows.old rows.new) }
+    ensures given { OnOk result (AreSettings (settings_in settings.now)) }
     ensures refused { IfErr result (RefusesWindows bytes.now (settings_in settings.now) (room_of (length touches.old)
         (length marks.old) (length rows.old))) }
     ensures only { (t : GuestTrace) → Spells bytes.now t → AreSettings (settings_in settings.now)
@@ -86,6 +87,7 @@ pub extern "C" fn lent_windows(
     count: &mut usize,
 ) -> u32
     ensures made { result ≡ 0 → AreWindowsOf trace.now (settings_in settings.now) count.new rows.old rows.new }
+    ensures given { result ≡ 0 → AreSettings (settings_in settings.now) }
     ensures refused { result ≢ 0 → IsNumberOf result (RefusesWindows trace.now (settings_in settings.now)
         (room_of (length touches.old) (length marks.old) (length rows.old))) }
     ensures only { (t : GuestTrace) → Spells trace.now t → AreSettings (settings_in settings.now)

@@ -37,6 +37,11 @@ pub trait Sink {
     /// Returns whether a write or a flush failed.
     fn failed(&self) -> bool
         ensures { result ≡ has_failed self.now };
+
+    /// Returns whether the process ends after what is written here, so that no memory needs to be freed.
+    fn is_last(&self) -> bool {
+        false
+    }
 }
 
 /// One of std's writers as a sink. It retries a write that a signal interrupts.
@@ -45,6 +50,7 @@ pub struct FromWrite<W: Write + Drop> {
     writer: W,
     has_failed: bool,
     is_flushed: bool,
+    is_last: bool,
 }
 
 impl<W: Write + Drop> Model for FromWrite<W> {
@@ -62,6 +68,17 @@ impl<W: Write + Drop> FromWrite<W> {
             writer,
             has_failed: false,
             is_flushed: false,
+            is_last: false,
+        }
+    }
+
+    /// Returns such a sink for the last output of a process: who writes to it may leave memory to the system.
+    pub fn last(writer: W) -> FromWrite<W>
+        ensures { result ≡ sink_state (W.contents writer) false false }
+    {
+        FromWrite {
+            is_last: true,
+            ..FromWrite::new(writer)
         }
     }
 }
@@ -94,5 +111,9 @@ impl<W: Write + Drop> Sink for FromWrite<W> {
 
     fn failed(&self) -> bool {
         self.has_failed
+    }
+
+    fn is_last(&self) -> bool {
+        self.is_last
     }
 }

@@ -10,7 +10,7 @@ use Rattle.migration_model.specs.Parts.{PageCopy, part_with, copy_in}
 use Rattle.migration_model.specs.Warm.{copy_from, part_of_memory}
 use Rattle.migration_model.proofs.Parts.{same_copy}
 use Rattle.migration_model.proofs.Warm.{copy_in_memory}
-use Rattle.page_message.specs.Framing.{IsFrameOf}
+use Rattle.migration_model.specs.Frames.{IsFrameOf}
 use Rattle.collector.specs.Tables.{copies_of, IsTable, IsTableOf}
 use Rattle.collector.proofs.Tabled.{copy_at-table, length-copies_of}
 

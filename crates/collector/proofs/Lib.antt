@@ -1,3 +1,4 @@
 pub mod Tabled
 pub mod Taken
 pub mod Imaged
+pub mod Fated

@@ -1,10 +1,20 @@
 -- A part that is kept as a table of frames by page.
-use Rattle.std.specs.Prelude.{◌≡◌, ℕ, ◌+◌, ◌-◌, ◌<◌, ◌≤◌, max, List, ◌++◌, length, map, replicate, slice_index_or}
+use Rattle.std.specs.Prelude.{◌≡◌, ◌==◌, ℕ, ◌+◌, ◌-◌, ◌<◌, ◌≤◌, if◌then◌else◌, max, List, ◌++◌, length, map, replicate, slice_index_or}
 use Rattle.std.specs.Prelude.{Option, Some, None, IfSome, option_map}
-use Rattle.migration_model.specs.Frames.{GuestShape, PageFrame, IsFrame}
+use Rattle.std.specs.List.{list_all}
+use Rattle.migration_model.specs.Frames.{GuestShape, frame_with, PageFrame, IsFrame}
 use Rattle.migration_model.specs.Memory.{memory_with, page_of}
-use Rattle.migration_model.specs.Parts.{PageCopy, GuestPart, copy_in, with_frame}
-use Rattle.page_message.specs.Framing.{IsFrameOf}
+use Rattle.migration_model.specs.Parts.{PageCopy, GuestPart, copy_at, copy_in, with_frame}
+use Rattle.migration_model.specs.Frames.{IsFrameOf}
+
+-- the frame that brings this copy of a page
+abbrev pub frame_in : ℕ → PageCopy → PageFrame
+frame_in page copy = frame_with page copy.stamp
+    (if list_all (λ byte. byte == 0) copy.content then None else Some copy.content)
+
+-- the frame that brings what a part has of a page
+abbrev pub frame_at : GuestPart → ℕ → Option PageFrame
+frame_at part page = option_map (frame_in page) (copy_at part page)
 
 -- the copies that the table has, and none of the pages past its end
 abbrev pub copies_of : GuestShape → List (Option PageFrame) → List (Option PageCopy)

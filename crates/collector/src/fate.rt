@@ -1,5 +1,6 @@
 //! What became of a frame.
 
+ghost use Rattle.std.specs.Prelude.{◌≡◌, ℕ, Option};
 ghost use Rattle.collector.specs.Fates.{IsFate};
 
 /// What a part did with a frame that came to it.
@@ -23,3 +24,8 @@ pub(crate) fn fate_of(kept: Option<u32>, stamp: u32) -> Fate
         Some(_) => Fate::Old,
     }
 }
+
+/// A frame that comes to a part has one fate.
+pub fn one_fate()
+    ensures { (kept : Option ℕ) (stamp : ℕ) (a b : Fate) → IsFate kept stamp a → IsFate kept stamp b → a ≡ b }
+{}

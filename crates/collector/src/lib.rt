@@ -8,5 +8,5 @@ mod part;
 mod table;
 
 pub use error::PartError;
-pub use fate::Fate;
+pub use fate::{Fate, one_fate};
 pub use part::{Part, merge};

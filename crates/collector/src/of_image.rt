@@ -5,14 +5,15 @@ ghost use Rattle.std.specs.List.{All};
 ghost use Rattle.migration_model.specs.Memory.{memory_with};
 ghost use Rattle.migration_model.specs.Warm.{part_of_memory};
 ghost use Rattle.collector.specs.Tables.{IsTableOf};
-ghost use Rattle.page_message.specs.Framing.{IsFrameOf};
+ghost use Rattle.migration_model.specs.Frames.{IsFrameOf};
 ghost use Rattle.page_message.specs.Shapes.{shape_of};
 
 use crate::error::PartError;
 use crate::part::Part;
 use guest_log::Shape;
-use page_message::{Body, Frame, is_zero};
+use page_message::{Body, Frame};
 use std::alloc::{AllocError, Global};
+use zero_pages::is_zero;
 
 /// Returns the frame with these page bytes. It copies them once, or not at all if each is 0.
 fn frame_at(

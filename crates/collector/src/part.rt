@@ -1,6 +1,6 @@
 //! A part of a guest's memory.
 
-// `SpellsStream` holds of one value alone: `one_frame`.
+// `SpellsStream` holds of one value alone: `one_frame`. `IsFate` does: `one_fate`.
 
 ghost use Rattle.std.specs.Prelude.{◌≡◌, ◌≤◌, List, [], IfErr, IfOk, IfSome, MatchResult, None, OnErr, OnOk, drop};
 ghost use Rattle.std.specs.Prelude.{length, option_map};
@@ -9,7 +9,7 @@ ghost use Rattle.migration_model.specs.Parts.{GuestPart, IsPart, copy_at, copy_i
 ghost use Rattle.migration_model.specs.Parts.{with_frame, with_frames};
 ghost use Rattle.collector.specs.Fates.{IsFate, goes, stamp_at};
 ghost use Rattle.collector.specs.Streams.{RefusesStream, TakesFrames};
-ghost use Rattle.collector.specs.Tables.{IsTable, copies_of, with_slot};
+ghost use Rattle.collector.specs.Tables.{IsTable, copies_of, frame_at, frame_in, with_slot};
 ghost use Rattle.page_message.specs.Refusals.{RefusesFrame};
 ghost use Rattle.page_message.specs.Shapes.{shape_of};
 
@@ -77,6 +77,7 @@ impl Part {
 
     /// Returns the frame of a page, or None if the part does not have it.
     pub fn frame(&self, page: u32) -> Option<&Frame>
+        ensures is { option_map (λ f. f.now) result ≡ frame_at self.now page }
         ensures copy { option_map (λ f. copy_in self.now.shape f.now) result ≡ copy_at self.now page }
         ensures own { IfSome result (λ f. f.now.page ≡ page) }
         ensures fits { IfSome result (λ f. IsFrame self.now.shape f.now) }
@@ -108,6 +109,8 @@ impl Part {
         ensures kept { OnOk result (self.new ≡ with_frame self.old frame) }
         ensures gone { IfOk result (λ gone. option_map (λ f. copy_in self.old.shape f) gone
             ≡ goes (copy_at self.old frame.page) (copy_in self.old.shape frame)) }
+        ensures gone_frame { IfOk result (λ gone. gone ≡ option_map (frame_in frame.page)
+            (goes (copy_at self.old frame.page) (copy_in self.old.shape frame))) }
         ensures unchanged { OnErr result (self.new ≡ self.old) }
         ensures refused { OnErr result (copy_at self.old frame.page ≡ None) }
     {

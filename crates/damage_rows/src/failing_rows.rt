@@ -5,7 +5,7 @@ ghost use Rattle.std.specs.Prelude.{◌≡◌, IfOk, false};
 use crate::input_rows::trace_of;
 use byte_sinks::TestSink;
 use live_engine::OpenGate;
-use migration_jobs::{Job, Remains, RunError, Show, run};
+use migration_jobs::{Job, RunError, Show, run};
 use rate_limit::{Asked, Settings};
 use std::alloc::{AllocError, Global};
 use std::sync::Wait;
@@ -63,8 +63,7 @@ fn ran<R: Threads + Wait + Sync>(
 {
     let job = job(alloc, number)?;
     let mut source = source(alloc, failing_read)?;
-    let remains = Remains::Freed;
-    let answer = run(rt, alloc, &job, &mut source, &mut sink, &OpenGate, remains);
+    let answer = run(rt, alloc, &job, &mut source, &mut sink, &OpenGate);
     Ok((answer, sink))
 }
 

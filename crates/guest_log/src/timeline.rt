@@ -1,8 +1,9 @@
 //! When pages are written, without the bytes.
 
-ghost use Rattle.std.specs.Prelude.{◌≡◌, ◌<◌, ◌≤◌, ◌^◌, ℕ, true, false, nat_lt, List, length, slice_index_or};
-ghost use Rattle.std.specs.List.Sorted.{IsPartitionPoint};
-ghost use Rattle.migration_model.specs.Touches.{AreTouches, GuestTouch, last_tick_of, no_touch};
+// `ArePlacedBefore` holds of one value alone: `one_count_before`.
+
+ghost use Rattle.std.specs.Prelude.{◌≡◌, ◌<◌, ◌≤◌, ◌^◌, ℕ, List, length, slice_index_or};
+ghost use Rattle.migration_model.specs.Touches.{ArePlacedBefore, AreTouches, GuestTouch, last_tick_of, no_touch};
 
 use std::marker::Model;
 
@@ -52,8 +53,7 @@ pub trait Timeline {
     /// Returns how many touches there are before a tick, by binary search.
     fn before(&self, tick: u64) -> usize
         ensures bound { result ≤ length (touches self.now) }
-        ensures point { IsPartitionPoint (λ touch. nat_lt touch.tick tick ≡ true)
-            (λ touch. nat_lt touch.tick tick ≡ false) (touches self.now) result };
+        ensures point { ArePlacedBefore (touches self.now) tick result };
 }
 
 /// Returns the tick of the last touch, or 0 if there is none.

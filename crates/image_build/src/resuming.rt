@@ -1,6 +1,8 @@
 //! Memory whose pages are each at their own version, brought to the end of a trace. No program runs it: it is for users
 //! of the library, and tests.
 
+// `IsResumed` holds of one value alone: `one_resumed`.
+
 ghost use Rattle.std.specs.Prelude.{◌≡◌, ◌*◌, ◌^◌, ◌≤◌, fold, length};
 ghost use Rattle.std.specs.List.{All};
 ghost use Rattle.migration_model.specs.Memory.{apply, image_of, memory_with};

@@ -15,7 +15,7 @@ use self::image::not_zero;
 use byte_sinks::TestSink;
 use image_build::{Image, replay, replay_before, replay_bytes, replay_view};
 use live_engine::OpenGate;
-use migration_jobs::{Job, Remains, RunError, run};
+use migration_jobs::{Job, RunError, run};
 use std::alloc::{AllocError, Global};
 use std::sync::Wait;
 use std::test::Fail;
@@ -45,8 +45,7 @@ fn ran<R: Threads + Wait + Sync>(
     requires unread { source.has_failed ≡ false }
     requires unwritten { sink.has_failed ≡ false }
 {
-    let remains = Remains::Freed;
-    let answer = run(rt, alloc, job, &mut source, &mut sink, &OpenGate, remains);
+    let answer = run(rt, alloc, job, &mut source, &mut sink, &OpenGate);
     (answer, sink)
 }
 

@@ -6,7 +6,7 @@ use anyhow::{Result, bail};
 use byte_sinks::FromWrite;
 use job_commands::{job_of, words};
 use live_engine::{Gate, Point};
-use migration_jobs::{Job, Remains, run};
+use migration_jobs::{Job, run};
 use std::sync::atomic::{AtomicU64, Ordering};
 use trace_codec::FromRead;
 
@@ -36,9 +36,8 @@ fn main(rt: HostRuntime) -> Result<()> {
     };
     let frames = TakenFrames(AtomicU64::new(0));
     let mut source = FromRead::new(rt.stdin());
-    let mut sink = FromWrite::new(rt.stdout());
-    let remains = Remains::Left;
-    run(&rt, alloc, &job, &mut source, &mut sink, &frames, remains)?;
+    let mut sink = FromWrite::last(rt.stdout());
+    run(&rt, alloc, &job, &mut source, &mut sink, &frames)?;
     let taken = frames.0.load(Ordering::SeqCst);
     eprintln!(rt; "sent {taken}")?;
     Ok(())

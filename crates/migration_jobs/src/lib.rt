@@ -5,12 +5,10 @@ mod error;
 mod imaging;
 mod live;
 mod output;
-mod remains;
 mod running;
 mod shown;
 mod written_memory;
 
 pub use error::RunError;
 pub use job_kinds::{Job, Show};
-pub use remains::Remains;
 pub use running::run;

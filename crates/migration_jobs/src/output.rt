@@ -9,6 +9,7 @@ use crate::shown::ShownMemory;
 use byte_sinks::{Sink, SinkError, write_memory, write_out};
 use dealt_memory::DealtMemory;
 use std::alloc::Global;
+use std::mem;
 use std::thread::Threads;
 
 /// The whole output of a job.
@@ -20,6 +21,15 @@ pub(crate) enum Output {
     Memory(ShownMemory),
     /// The memory after all writes of a trace, written piece by piece.
     Dealt(DealtMemory),
+}
+
+impl Output {
+    /// Ends an output that was written. Before the process ends its memory is left to the system.
+    pub(crate) fn end(self, is_last: bool) {
+        if is_last {
+            mem::forget(self);
+        }
+    }
 }
 
 /// Writes all of an output and flushes. At most so many workers make memory. If memory runs out, nothing is written.

@@ -18,7 +18,6 @@ use crate::error::RunError;
 use crate::imaging::image_output;
 use crate::live::live_output;
 use crate::output::{Output, write_output};
-use crate::remains::Remains;
 use byte_sinks::Sink;
 use job_kinds::Job;
 use live_engine::Gate;
@@ -186,8 +185,8 @@ fn workers_of(job: &Job) -> usize {
 /// Runs one job: reads a trace to the end of the source, makes its output, writes it and flushes. Texts are made whole
 /// before they are written; memory is written in pieces, which workers make in memory that was taken before. So
 /// nothing is written while anything but a write can still fail: each error but `Write` leaves nothing written, and
-/// `Write` leaves a prefix of the output. Only the threads of a live run call the gate. `remains` says whether the
-/// memory of the output is freed.
+/// `Write` leaves a prefix of the output. Only the threads of a live run call the gate. The memory of the output is
+/// freed, unless the process ends after this sink's output.
 pub fn run<R: Threads + Wait + Sync, S: Source, K: Sink, G: Gate>(
     rt: &R,
     alloc: Global,
@@ -195,7 +194,6 @@ pub fn run<R: Threads + Wait + Sync, S: Source, K: Sink, G: Gate>(
     source: &mut S,
     sink: &mut K,
     gate: &G,
-    remains: Remains,
 ) -> Result<(), RunError>
     requires unread { S.has_failed source.old ≡ false }
     requires unwritten { K.has_failed sink.old ≡ false }
@@ -219,6 +217,6 @@ pub fn run<R: Threads + Wait + Sync, S: Source, K: Sink, G: Gate>(
 {
     let output = read_output(rt, alloc, job, source, gate)?;
     let answer = write_output(rt, alloc, sink, &output, workers_of(job));
-    remains.end(output);
+    output.end(sink.is_last());
     Ok(answer?)
 }

@@ -14,7 +14,7 @@ use Rattle.migration_model.specs.Trace.{GuestTrace, IsTrace}
 use Rattle.migration_model.specs.Versions.{page_at, version_before}
 use Rattle.migration_model.specs.Parts.{PageCopy, GuestPart, copy_at, IsCopy, empty_part, later, join, join_all}
 use Rattle.migration_model.specs.Parts.{IsHonest}
-use Rattle.migration_model.specs.Images.{bytes_of, memory_in, bytes_of_first, HaveFirst, AreCurrent}
+use Rattle.migration_model.specs.Images.{bytes_of, memory_in, bytes_of_first, HaveFirst, LacksFirst, AreCurrent}
 use Rattle.migration_model.proofs.Pages.{memory_before}
 use Rattle.migration_model.proofs.Parts.{get_or-later_each, later_first, later_second}
 use Rattle.migration_model.proofs.Lists.{get_or-replicate_default}
@@ -259,3 +259,14 @@ current_before trace versions parts tick is are at =
     (ap (λ (s : GuestShape). s.pages) same)
     (current_sizes trace shape versions parts are)
     (λ page low. current_page trace shape versions parts page are low ∙ ap (page_at trace page) (at page low))
+
+-- of the pages that no part has, one is the first
+pub one_lacking_lem : (shape : GuestShape) (parts : List GuestPart) (m n : ℕ) → LacksFirst shape parts m
+    → LacksFirst shape parts n → m ≡ n
+one_lacking_lem shape parts m n first_m first_n = elim (cases_lt m n) [
+  | inl lt ↦ absurd (first_n.first m lt first_m.lacks)
+  | inr ge ↦ elim (cases_lt n m) [
+    | inl lt ↦ absurd (first_m.first n lt first_n.lacks)
+    | inr le ↦ omega (arith, ge, le)
+  ]
+]

@@ -7,10 +7,10 @@ use Rattle.std.specs.List.{list_all}
 use Rattle.std.proofs.lemmas.Bool.{cases_Bool}
 use Rattle.std.proofs.lemmas.Bool.Decides.{Decides-by_and, Decides-eqb}
 use Rattle.std.specs.List.{All, flat_map}
-use Rattle.std.proofs.lemmas.List.{append-nil, take_at, drop_at, length-append}
+use Rattle.std.proofs.lemmas.List.{append-nil, take_at, drop_at, length-append, length-drop, take-append-drop}
 use Rattle.std.proofs.lemmas.List.Elements.{All-head, All-tail, All-replicate, All-same}
 use Rattle.migration_model.specs.Numbers.{text_of, number_in}
-use Rattle.migration_model.specs.Frames.{GuestShape, IsGuestShape, IsZeros, PageFrame, frame_with, IsFrame, content_of}
+use Rattle.migration_model.specs.Frames.{GuestShape, IsGuestShape, IsZeros, PageFrame, frame_with, IsFrame, content_of, IsFrameOf}
 use Rattle.migration_model.specs.Frames.{body_text, frame_text, SpellsFrame}
 use Rattle.migration_model.proofs.Numbers.{wide32}
 
@@ -91,6 +91,28 @@ none_begins_another_lem shape a b rest f g is spells_f spells_g same =
     ∙ sym same ∙ spells_g.text ∙ sym (append-nil _) in
     (same_front shape f g rest [] is spells_f.is_frame spells_g.is_frame texts).1
 
+-- two frames at the front of the same bytes are one, and have one length
+pub one_front_lem : (shape : GuestShape) (bytes : List ℕ) (m n : ℕ) (f g : PageFrame) → IsGuestShape shape
+    → m ≤ length bytes → n ≤ length bytes → SpellsFrame shape (take m bytes) f → SpellsFrame shape (take n bytes) g
+    → (f ≡ g) × (m ≡ n)
+one_front_lem shape bytes m n f g is within_f within_g spells_f spells_g =
+    let text_f : frame_text f ++ drop m bytes ≡ bytes =
+    ap (λ (x : List ℕ). x ++ drop m bytes) (sym spells_f.text) ∙ take-append-drop m bytes in
+    let text_g : frame_text g ++ drop n bytes ≡ bytes =
+    ap (λ (x : List ℕ). x ++ drop n bytes) (sym spells_g.text) ∙ take-append-drop n bytes in
+    let same = same_front shape f g (drop m bytes) (drop n bytes) is spells_f.is_frame spells_g.is_frame
+    (text_f ∙ sym text_g) in (
+      same.0,
+      omega (
+        arith,
+        within_f,
+        within_g,
+        length-drop m bytes,
+        length-drop n bytes,
+        ap length same.1,
+      ),
+    )
+
 -- bodies of one size are equal if the bytes of the page are
 body_from_content : (size : ℕ) (a b : Option (List ℕ)) → IfSome a (λ bytes. (length bytes ≡ size) × ¬ IsZeros bytes)
     → IfSome b (λ bytes. (length bytes ≡ size) × ¬ IsZeros bytes)
@@ -111,6 +133,13 @@ one_frame_spelling_lem shape a b f g spells_f spells_g page stamp content =
     let body = body_from_content (2 ^ shape.shift) f.body g.body spells_f.is_frame.body spells_g.is_frame.body
     content in
     spells_f.text ∙ ap frame_text (same_frame f g page stamp body) ∙ sym spells_g.text
+
+pub one_frame_of_page_lem : (shape : GuestShape) (page stamp : ℕ) (bytes : List ℕ) (f g : PageFrame)
+    → IsFrameOf shape page stamp bytes f → IsFrameOf shape page stamp bytes g → f ≡ g
+one_frame_of_page_lem shape page stamp bytes f g is_f is_g =
+    same_frame f g (is_f.page_is ∙ sym is_g.page_is) (is_f.stamp_is ∙ sym is_g.stamp_is)
+    (body_from_content (2 ^ shape.shift) f.body g.body is_f.fits.body is_g.fits.body
+    (is_f.content ∙ sym is_g.content))
 
 length-body_text : (body : Option (List ℕ)) → 1 ≤ length (body_text body)
 length-body_text None = omega arith

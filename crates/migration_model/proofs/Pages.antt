@@ -17,7 +17,7 @@ use Rattle.migration_model.specs.Trace.{GuestWrite, GuestTrace, IsGuestWrite, Is
 use Rattle.migration_model.specs.Memory.{GuestMemory, memory_with, put, bytes_put, apply, zeros, page_of, replay}
 use Rattle.migration_model.specs.Memory.{image_of, image_before}
 use Rattle.migration_model.specs.Versions.{page_at, version_before}
-use Rattle.migration_model.specs.Resumed.{writes_after}
+use Rattle.migration_model.specs.Resumed.{IsResumed, writes_after}
 use Rattle.migration_model.proofs.Places.{from, from_is}
 
 pub length-put : (memory : List ℕ) (place : ℕ) (bytes : List ℕ) → place + length bytes ≤ length memory
@@ -362,3 +362,20 @@ page_left trace memory page other version low apart is len =
     (All-drop (IsGuestWrite trace.version trace.shift trace.pages) version trace.writes is.writes.each))
     ∙ others trace.shift page other apart (page_of (memory_with trace.shift trace.pages memory) page)
     (drop version trace.writes)
+
+-- what has each page after its own writes is one memory
+pub one_resumed_lem : (trace : GuestTrace) (versions : List ℕ) (before a b : GuestMemory)
+    → IsResumed trace versions before a → IsResumed trace versions before b → a ≡ b
+one_resumed_lem trace versions before a b is_a is_b =
+    let whole_a : a ≡ memory_with before.shift before.pages a.bytes =
+    λ i. record { shift = is_a.shift i; pages = is_a.pages i; bytes = a.bytes } in
+    let whole_b : b ≡ memory_with before.shift before.pages b.bytes =
+    λ i. record { shift = is_b.shift i; pages = is_b.pages i; bytes = b.bytes } in
+    let len_a : length a.bytes ≡ before.pages * 2 ^ before.shift =
+    is_a.is_memory.len ∙ (λ i. is_a.pages i * 2 ^ is_a.shift i) in
+    let len_b : length b.bytes ≡ before.pages * 2 ^ before.shift =
+    is_b.is_memory.len ∙ (λ i. is_b.pages i * 2 ^ is_b.shift i) in
+    whole_a ∙ ap (memory_with before.shift before.pages)
+    (same_memory before.shift before.pages a.bytes b.bytes len_a len_b (λ page low.
+    ap (λ (m : GuestMemory). page_of m page) (sym whole_a) ∙ is_a.each page low ∙ sym (is_b.each page low)
+    ∙ ap (λ (m : GuestMemory). page_of m page) whole_b)) ∙ sym whole_b

@@ -1,14 +1,15 @@
 -- The touches of a trace.
-use Rattle.std.proofs.Common.{◌≡◌, ℕ, ◌<◌, ◌≤◌, Bool, true, false, ltb, leb, eqb, ◌&&◌, ◌||◌, ◌↔◌, List, [], ◌∷◌}
-use Rattle.std.proofs.Common.{length, get_or, map, refl, sym, ap, ◌∙◌, arith}
+use Rattle.std.proofs.Common.{◌≡◌, ℕ, inl, inr, ◌<◌, ◌≤◌, Bool, true, false, ltb, leb, eqb, ◌&&◌, ◌||◌, ◌↔◌, List, [], ◌∷◌}
+use Rattle.std.proofs.Common.{length, get_or, map, refl, sym, ap, ◌∙◌, arith, true≢false}
 use Rattle.std.specs.Prelude.{IsTrue}
 use Rattle.std.specs.List.{list_any}
 use Rattle.std.specs.List.Sorted.{IsPartitionPoint}
-use Rattle.std.proofs.lemmas.Bool.{and_parts, and_from, eqb-true, leb-true, ltb-true, eq-eqb, le-leb, lt-ltb}
+use Rattle.std.proofs.lemmas.Bool.{and_parts, and_from, cases_lt, eqb-true, leb-true, ltb-true, eq-eqb, le-leb, lt-ltb}
 use Rattle.std.proofs.lemmas.List.Folds.{Any-from_list_any, list_any-from_Any}
 use Rattle.std.proofs.lemmas.List.{length-map, get_or-map}
 use Rattle.migration_model.specs.Trace.{GuestWrite, GuestTrace, IsTrace, write_with}
-use Rattle.migration_model.specs.Touches.{GuestTouch, touch_of, touches_of, AreTouches, is_written}
+use Rattle.migration_model.specs.Touches.{GuestTouch, touch_of, touches_of, AreTouches, ArePlacedBefore, is_written}
+use Rattle.migration_model.specs.Touches.{no_touch}
 use Rattle.migration_model.specs.Versions.{IsWritten}
 
 no_write : GuestWrite
@@ -82,3 +83,19 @@ written_is_lem trace from to page =
     let same : is_written (touches_of trace) from to page ≡ list_any (hits from to page) trace.writes =
     list_any_map (λ (t : GuestTouch). eqb t.page page && (leb from t.tick && ltb t.tick to)) touch_of trace.writes in
     ((λ hit. written_from trace from to page (sym same ∙ hit)), (λ is. same ∙ written_to trace from to page is))
+
+-- if fewer touches are before a tick, the next one is and is not before it
+no_fewer : (touches : List GuestTouch) (tick m n : ℕ) → m < n → n ≤ length touches → ArePlacedBefore touches tick m
+    → ArePlacedBefore touches tick n → ⊥
+no_fewer touches tick m n less within at_m at_n =
+    true≢false (sym (at_n.0 m no_touch (omega arith) less) ∙ at_m.1 m no_touch (omega arith) (omega arith))
+
+pub one_count_lem : (touches : List GuestTouch) (tick m n : ℕ) → m ≤ length touches → n ≤ length touches
+    → ArePlacedBefore touches tick m → ArePlacedBefore touches tick n → m ≡ n
+one_count_lem touches tick m n within_m within_n at_m at_n = elim (cases_lt m n) [
+  | inl lt ↦ absurd (no_fewer touches tick m n lt within_n at_m at_n)
+  | inr ge ↦ elim (cases_lt n m) [
+    | inl lt ↦ absurd (no_fewer touches tick n m lt within_m at_n at_m)
+    | inr le ↦ omega (arith, ge, le)
+  ]
+]

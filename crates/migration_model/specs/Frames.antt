@@ -44,6 +44,13 @@ pub record IsFrame (shape : GuestShape) (frame : PageFrame) : Type 0 where
 abbrev pub content_of : GuestShape → PageFrame → List ℕ
 content_of shape frame = unwrap_or frame.body (replicate (2 ^ shape.shift) 0)
 
+-- a frame with this page, this stamp and these bytes of the page
+pub record IsFrameOf (shape : GuestShape) (page stamp : ℕ) (bytes : List ℕ) (frame : PageFrame) : Type 0 where
+  pub fits : IsFrame shape frame
+  pub page_is : frame.page ≡ page
+  pub stamp_is : frame.stamp ≡ stamp
+  pub content : content_of shape frame ≡ bytes
+
 -- the byte that says the kind of a body, and then the bytes of the body
 abbrev pub body_text : Option (List ℕ) → List ℕ
 body_text None = 0 ∷ []

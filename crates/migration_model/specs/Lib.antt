@@ -13,5 +13,6 @@ pub mod Rates
 pub mod Touches
 pub mod Windows
 pub mod Rounds
+pub mod Looks
 pub mod Live
 pub mod Sweeps

@@ -1,7 +1,7 @@
 -- When pages are written, without the bytes: all that working sets and rounds need.
-use Rattle.std.specs.Prelude.{ℕ, ◌^◌, ◌<◌, ◌≤◌, ◌&&◌, ◌==◌, nat_lt, nat_le, Bool, List, length, map}
+use Rattle.std.specs.Prelude.{◌≡◌, ℕ, ◌^◌, ◌<◌, ◌≤◌, ◌&&◌, ◌==◌, nat_lt, nat_le, Bool, true, false, List, length, map}
 use Rattle.std.specs.List.{All, list_any, filter, range_with_len}
-use Rattle.std.specs.List.Sorted.{IsNonDecreasingBy}
+use Rattle.std.specs.List.Sorted.{IsNonDecreasingBy, IsPartitionPoint}
 use Rattle.migration_model.specs.Trace.{GuestWrite, GuestTrace, last_by}
 
 -- when a write was, and to which page
@@ -36,6 +36,11 @@ pub record AreTouches (pages : ℕ) (touches : List GuestTouch) : Type 0 where
   pub few : length touches ≤ 2 ^ 20
   pub each : All (IsTouch pages) touches
   pub in_order : IsNonDecreasingBy (λ touch. touch.tick) touches
+
+-- the first `count` touches are those before a tick
+abbrev pub ArePlacedBefore : List GuestTouch → ℕ → ℕ → Type 0
+ArePlacedBefore touches tick count = IsPartitionPoint (λ touch. nat_lt touch.tick tick ≡ true)
+    (λ touch. nat_lt touch.tick tick ≡ false) touches count
 
 -- whether the page is written at a tick from `from` on and before `to`: the pages modified during a round, of Clark
 -- and others (2005), section 4

@@ -4,17 +4,19 @@
 #![tactic(auto)]
 
 ghost use Rattle.std.specs.Prelude.{◌≡◌, ◌↔◌, ◌<◌, ◌≤◌, ◌*◌, ◌^◌, ℕ, ◌++◌, Bool, IsTrue, List, [], length};
-ghost use Rattle.std.specs.Prelude.{slice_index_or};
+ghost use Rattle.std.specs.Prelude.{slice_index_or, take};
 ghost use Rattle.std.specs.List.{All, Contains};
 ghost use Rattle.migration_model.specs.Frames.{GuestShape, IsGuestShape, IsFrame, PageFrame, SpellsFrame, SpellsStream};
-ghost use Rattle.migration_model.specs.Frames.{content_of, frame_text};
+ghost use Rattle.migration_model.specs.Frames.{IsFrameOf, content_of, frame_text};
 ghost use Rattle.migration_model.specs.Final.{IsFinalCopy, shape_of_trace};
-ghost use Rattle.migration_model.specs.Images.{AreCurrent, AreNotBeyond, HaveCurrent, HaveFirst, memory_in};
+ghost use Rattle.migration_model.specs.Images.{AreCurrent, AreNotBeyond, HaveCurrent, HaveFirst, LacksFirst};
+ghost use Rattle.migration_model.specs.Images.{memory_in};
 ghost use Rattle.migration_model.specs.Memory.{GuestMemory, image_before, page_of};
 ghost use Rattle.migration_model.specs.Parts.{Agree, FramesAgree, GuestPart, IsPart, join, join_all, part_of};
 ghost use Rattle.migration_model.specs.Parts.{with_frame, with_frames};
+ghost use Rattle.migration_model.specs.Resumed.{IsResumed};
 ghost use Rattle.migration_model.specs.Trace.{GuestTrace, IsTrace, Spells};
-ghost use Rattle.migration_model.specs.Touches.{is_written, touches_of};
+ghost use Rattle.migration_model.specs.Touches.{ArePlacedBefore, GuestTouch, is_written, touches_of};
 ghost use Rattle.migration_model.specs.Versions.{IsWritten, page_at, version_before};
 
 /// A trace has one encoding.
@@ -35,6 +37,12 @@ pub fn written_as_a_test()
         trace from to page }
 {}
 
+/// One number of touches is that of those before a tick.
+pub fn one_count_before()
+    ensures { (touches : List GuestTouch) (tick m n : ℕ) → m ≤ length touches → n ≤ length touches
+        → ArePlacedBefore touches tick m → ArePlacedBefore touches tick n → m ≡ n }
+{}
+
 /// A page, a stamp and the bytes of the page have an encoding as a frame, and only one.
 pub fn one_frame_spelling()
     ensures some { (shape : GuestShape) (page stamp : ℕ) (content : List ℕ)
@@ -51,6 +59,28 @@ pub fn one_frame()
         → SpellsFrame shape bytes f → SpellsFrame shape bytes g → f ≡ g }
     ensures stream { (shape : GuestShape) (bytes : List ℕ) (fs gs : List PageFrame) → IsGuestShape shape
         → SpellsStream shape bytes fs → SpellsStream shape bytes gs → fs ≡ gs }
+{}
+
+/// At the front of some bytes there is at most one frame, and it has one length.
+pub fn one_front_frame()
+    ensures frame { (shape : GuestShape) (bytes : List ℕ) (m n : ℕ) (f g : PageFrame) → IsGuestShape shape
+        → m ≤ length bytes → n ≤ length bytes → SpellsFrame shape (take m bytes) f → SpellsFrame shape (take n bytes) g
+        → f ≡ g }
+    ensures size { (shape : GuestShape) (bytes : List ℕ) (m n : ℕ) (f g : PageFrame) → IsGuestShape shape
+        → m ≤ length bytes → n ≤ length bytes → SpellsFrame shape (take m bytes) f → SpellsFrame shape (take n bytes) g
+        → m ≡ n }
+{}
+
+/// A page, a stamp and the bytes of the page have one frame.
+pub fn one_frame_of_page()
+    ensures { (shape : GuestShape) (page stamp : ℕ) (bytes : List ℕ) (f g : PageFrame)
+        → IsFrameOf shape page stamp bytes f → IsFrameOf shape page stamp bytes g → f ≡ g }
+{}
+
+/// Of the pages that no part has, one is the first.
+pub fn one_page_lacking()
+    ensures { (shape : GuestShape) (parts : List GuestPart) (m n : ℕ)
+        → LacksFirst shape parts m → LacksFirst shape parts n → m ≡ n }
 {}
 
 /// For one shape, no frame's encoding begins another frame's.
@@ -115,4 +145,10 @@ pub fn versions_make_memory()
         ≡ memory.pages * 2 ^ memory.shift
         → ((page : ℕ) → page < trace.pages → page_of memory page ≡ page_at trace page (version_before trace page tick))
         → memory ≡ image_before trace tick }
+{}
+
+/// Memory whose pages are at versions of their own has one end.
+pub fn one_resumed()
+    ensures { (trace : GuestTrace) (versions : List ℕ) (before a b : GuestMemory)
+        → IsResumed trace versions before a → IsResumed trace versions before b → a ≡ b }
 {}

@@ -2,4 +2,3 @@ pub mod Shapes
 pub mod Bodies
 pub mod Reading
 pub mod Refusals
-pub mod Framing

@@ -1,5 +1,7 @@
 //! Frames from bytes.
 
+// `SpellsFrame` holds, at the front of some bytes, of one frame and one size alone: `one_front_frame`.
+
 ghost use Rattle.std.specs.Prelude.{◌≡◌, ◌≤◌, ◌+◌, ◌^◌, ◌++◌, ◌==◌, ℕ, List, IfErr, IfOk, MatchResult, None, Ok, OnOk};
 ghost use Rattle.std.specs.Prelude.{Some, drop, length, option_map, take};
 ghost use Rattle.std.specs.List.{list_all};
@@ -13,10 +15,10 @@ ghost use Rattle.page_message.specs.Shapes.{shape_of};
 use crate::encoding::HEAD;
 use crate::error::FrameError;
 use crate::frame::{Frame, FrameView};
-use crate::zeros::is_zero;
 use byteorder::{ByteOrder, LittleEndian};
 use guest_log::Shape;
 use std::alloc::Global;
+use zero_pages::is_zero;
 
 #[tactic(auto, unfolding(migration_model::specs::Numbers::number_in))]
 fn u32_in(bytes: &[u8]) -> u32

@@ -4,15 +4,15 @@ ghost use Rattle.std.specs.Prelude.{◌≡◌, ◌<◌, ◌≤◌, ◌^◌, ◌+
 ghost use Rattle.std.specs.Int.{w32};
 ghost use Rattle.migration_model.specs.Frames.{IsFrame, PageFrame, frame_text};
 ghost use Rattle.migration_model.specs.Numbers.{text_of};
-ghost use Rattle.page_message.specs.Framing.{IsFrameOf};
+ghost use Rattle.migration_model.specs.Frames.{IsFrameOf};
 ghost use Rattle.page_message.specs.Shapes.{shape_of};
 
 use crate::error::FrameError;
 use crate::frame::{Body, Frame};
-use crate::zeros::is_zero;
 use byteorder::{ByteOrder, LittleEndian};
 use guest_log::Shape;
 use std::alloc::Global;
+use zero_pages::is_zero;
 
 /// How many bytes a frame has before the page.
 pub(crate) const HEAD: usize = 9;

@@ -4,10 +4,10 @@ ghost use Rattle.std.specs.Prelude.{◌≡◌, ◌≢◌, ◌↔◌, IfOk, IsSom
 ghost use Rattle.migration_model.specs.Frames.{IsFrame};
 ghost use Rattle.page_message.specs.Shapes.{shape_of};
 
-use crate::zeros::is_zero;
 use guest_log::Shape;
 use std::alloc::{AllocError, Global};
 use std::marker::Model;
+use zero_pages::is_zero;
 
 /// The bytes of a page.
 #[derive(Debug, Drop)]

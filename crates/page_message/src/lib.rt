@@ -6,11 +6,9 @@ mod encoding;
 mod error;
 mod frame;
 mod page_frame;
-mod zeros;
 
 pub use decoding::{decode_frame, view_frame};
 pub use encoding::{append_frame, encode_frame};
 pub use error::FrameError;
 pub use frame::{Body, Frame, FrameView};
 pub use page_frame::frame_of;
-pub use zeros::is_zero;

@@ -1,12 +1,12 @@
 //! Where a trace writes each page.
 
-ghost use Rattle.std.specs.Prelude.{◌≡◌, ◌<◌, ◌≤◌, ◌↔◌, IfOk, IsTrue, OnOk, length, nat_le, nat_lt};
+ghost use Rattle.std.specs.Prelude.{◌≡◌, ◌<◌, ◌≤◌, ◌↔◌, IfOk, IsTrue, OnOk, fold, length, max, nat_le, nat_lt};
 ghost use Rattle.std.specs.List.{filter};
 ghost use Rattle.migration_model.specs.Trace.{GuestTrace};
 ghost use Rattle.migration_model.specs.Versions.{page_at, version_before as version_of};
 ghost use Rattle.page_versions.specs.Index.{GuestIndex, HasWritesOf, IsIndexOf, index_with, places_in, places_of};
 ghost use Rattle.page_versions.specs.Index.{version_after as version_at};
-ghost use Rattle.page_versions.specs.Layout.{IsLaidOut};
+ghost use Rattle.page_versions.specs.Layout.{IsLaidOut, tick_at};
 
 use crate::bytes::{put_bytes, put_writes};
 use crate::error::IndexError;
@@ -123,7 +123,9 @@ impl PageIndex {
     /// is none. It does a binary search.
     pub fn version_before(&self, page: u32, tick: u64) -> u32
         requires { page < self.now.pages }
-        ensures { (trace : GuestTrace) → IsIndexOf self.now trace → result ≡ version_of trace page tick }
+        ensures own { result ≡ fold max 0 (filter (λ place. nat_lt (tick_at self.now.touches place) tick)
+            (places_in self.now.touches page)) }
+        ensures of_trace { (trace : GuestTrace) → IsIndexOf self.now trace → result ≡ version_of trace page tick }
     {
         greatest_before(&self.touches, self.part(page), tick)
     }
@@ -132,7 +134,8 @@ impl PageIndex {
     /// among them, or 0 if there is none. It does a binary search.
     pub fn version_after(&self, page: u32, count: u32) -> u32
         requires { page < self.now.pages }
-        ensures { (trace : GuestTrace) → IsIndexOf self.now trace → result ≡ version_at trace page count }
+        ensures own { result ≡ fold max 0 (filter (λ place. nat_le place count) (places_in self.now.touches page)) }
+        ensures of_trace { (trace : GuestTrace) → IsIndexOf self.now trace → result ≡ version_at trace page count }
     {
         greatest_to(self.part(page), count)
     }

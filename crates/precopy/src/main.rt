@@ -6,16 +6,18 @@ mod starting;
 #[cfg(test)]
 mod tests;
 
-use crate::starting::start;
+pub use crate::starting::start;
 use byte_sinks::FromWrite;
+pub use byte_sinks::Sink;
 use job_commands::words;
+pub use migration_jobs::{Job, RunError, Show, run};
 use program_messages::{Program, refuse};
 use std::process::ExitCode;
 use trace_codec::FromRead;
 
 fn main(rt: HostRuntime) -> ExitCode {
     let mut source = FromRead::new(rt.stdin());
-    let mut sink = FromWrite::new(rt.stdout());
+    let mut sink = FromWrite::last(rt.stdout());
     let mut faults = FromWrite::new(rt.stderr());
     let status = match words(&rt) {
         Ok(words) => start(&rt, rt.alloc(), words, &mut source, &mut sink, &mut faults),

@@ -12,7 +12,7 @@ use crate::faults::run_fault;
 use byte_sinks::Sink;
 use job_commands::job_of;
 use live_engine::OpenGate;
-use migration_jobs::{Job, Remains, run};
+use migration_jobs::{Job, run};
 use program_messages::{Program, refuse};
 use std::alloc::Global;
 use std::sync::Wait;
@@ -38,7 +38,7 @@ fn run_job<R: Threads + Wait + Sync, S: Source, K: Sink, E: Sink>(
         (λ e. TellsRun e (E.contents faults.old) (E.contents faults.new) (E.has_failed faults.new)) }
     ensures untold { result ≡ 0 → faults.new ≡ faults.old }
 {
-    match run(rt, alloc, job, source, sink, &OpenGate, Remains::Left) {
+    match run(rt, alloc, job, source, sink, &OpenGate) {
         Ok(()) => 0,
         Err(error) => run_fault(&error, faults),
     }

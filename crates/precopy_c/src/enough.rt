@@ -40,7 +40,8 @@ fn enough(
 }
 
 /// Sets whether the migration of a trace keeps the limit of a question; the least link and the least downtime that do,
-/// each by itself; and how much the guest has to be slowed if it is not kept.
+/// each by itself; how much the guest has to be slowed if it is not kept; and the least link and the latest start that
+/// end it within the trace if it does not.
 #[unsafe(no_mangle)]
 pub extern "C" fn precopy_enough(
     alloc: Global,

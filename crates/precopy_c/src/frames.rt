@@ -4,7 +4,7 @@ ghost use Rattle.std.specs.Prelude.{◌≡◌, ◌≢◌, ◌↔◌, ◌^◌, �
 ghost use Rattle.std.specs.Prelude.{length, take};
 ghost use Rattle.std.specs.List.{All};
 ghost use Rattle.migration_model.specs.Frames.{IsFrame, IsGuestShape, PageFrame, SpellsFrame, content_of, frame_text};
-ghost use Rattle.page_message.specs.Framing.{IsFrameOf};
+ghost use Rattle.migration_model.specs.Frames.{IsFrameOf};
 ghost use Rattle.page_message.specs.Shapes.{shape_of};
 ghost use Rattle.precopy_c.specs.Answers.{IsNumberOf};
 ghost use Rattle.precopy_c.specs.Buffers.{over};
@@ -154,5 +154,5 @@ pub extern "C" fn precopy_decode_frame(
 pub extern "C" fn precopy_is_zero(bytes: &[u8]) -> bool
     ensures { IsTrue result ↔ All (λ byte. byte ≡ 0) bytes.now }
 {
-    page_message::is_zero(bytes)
+    zero_pages::is_zero(bytes)
 }

@@ -3,7 +3,7 @@
 // `IsPlan` holds of one value alone: `one_plan`.
 // `Spells` holds of one value alone: `one_trace`.
 
-ghost use Rattle.std.specs.Prelude.{◌≡◌, ◌≢◌, ◌<◌, ◌≤◌, ◌⊎◌, IfErr, IfOk, length, map};
+ghost use Rattle.std.specs.Prelude.{◌≡◌, ◌≢◌, ◌<◌, ◌≤◌, ◌⊎◌, IfErr, IfOk, OnOk, length, map};
 ghost use Rattle.migration_model.specs.Rounds.{MigrationPlan};
 ghost use Rattle.migration_model.specs.Sweeps.{outcome_of};
 ghost use Rattle.migration_model.specs.Trace.{GuestTrace, Spells};
@@ -38,6 +38,7 @@ fn row(round: &Round) -> RoundRow
 /// Returns the plan of the trace that the bytes encode. The settings are tested first.
 fn planned(alloc: Global, trace: &[u8], settings: &SizedSettings) -> Result<Plan, Refusal>
     ensures made { IfOk result (IsPlanOf trace.now (settings_in settings.now)) }
+    ensures given { OnOk result (AreGiven settings.now) }
     ensures refused { IfErr result (RefusesPlan trace.now settings.now) }
     ensures only { (t : GuestTrace) → Spells trace.now t → AreGiven settings.now
         → IfErr result (λ e. number_of e ≡ 16) }
@@ -61,6 +62,7 @@ pub extern "C" fn precopy_plan(
 ) -> u32
     ensures made { result ≡ 0 → (plan : MigrationPlan) × IsPlanOf trace.now (settings_in settings.now) plan
         × (found.new ≡ sums_of (outcome_of plan)) }
+    ensures given { result ≡ 0 → AreGiven settings.now }
     ensures refused { result ≢ 0
         → IsToldBy result record.old record.new (RefusesPlan trace.now settings.now) }
     ensures only { (t : GuestTrace) → Spells trace.now t → AreGiven settings.now
@@ -102,6 +104,7 @@ pub extern "C" fn precopy_rounds(
         × (count.new ≡ length plan.rounds) × (rounds.new ≡ over (map row_of plan.rounds) rounds.old) }
     ensures short { result ≡ 61 → (plan : MigrationPlan) × IsPlanOf trace.now (settings_in settings.now) plan
         × (count.new ≡ length plan.rounds) × (length rounds.old < count.new) }
+    ensures given { (result ≡ 0) ⊎ (result ≡ 61) → AreGiven settings.now }
     ensures refused { result ≢ 0 → result ≢ 61
         → IsToldBy result record.old record.new (RefusesPlan trace.now settings.now)
         × (count.new ≡ count.old) }

@@ -3,7 +3,7 @@
 // `IsPlan` holds of one value alone: `one_plan`.
 // `Spells` holds of one value alone: `one_trace`.
 
-ghost use Rattle.std.specs.Prelude.{◌≡◌, ◌≢◌, ◌<◌, ◌⊎◌, ℕ, List, IfErr, IfOk, length};
+ghost use Rattle.std.specs.Prelude.{◌≡◌, ◌≢◌, ◌<◌, ◌⊎◌, ℕ, List, IfErr, IfOk, OnOk, length};
 ghost use Rattle.migration_model.specs.Trace.{GuestTrace, Spells};
 ghost use Rattle.precopy_c.specs.Answers.{IsToldBy, number_of};
 ghost use Rattle.precopy_c.specs.Buffers.{over};
@@ -22,6 +22,7 @@ use working_sets::tables;
 /// Returns the text of the report on the trace that the bytes encode. The settings are tested first.
 fn reported(alloc: Global, trace: &[u8], settings: &SizedSettings) -> Result<Vec<u8>, Refusal>
     ensures made { IfOk result (λ text. IsReportOf trace.now (settings_in settings.now) text.items) }
+    ensures given { OnOk result (AreGiven settings.now) }
     ensures refused { IfErr result (RefusesPlan trace.now settings.now) }
     ensures only { (t : GuestTrace) → Spells trace.now t → AreGiven settings.now
         → IfErr result (λ e. number_of e ≡ 16) }
@@ -51,6 +52,7 @@ pub extern "C" fn precopy_report(
         × (needed.new ≡ length report) × (text.new ≡ over report text.old) }
     ensures short { result ≡ 61 → (report : List ℕ) × IsReportOf trace.now (settings_in settings.now) report
         × (needed.new ≡ length report) × (length text.old < needed.new) }
+    ensures given { (result ≡ 0) ⊎ (result ≡ 61) → AreGiven settings.now }
     ensures refused { result ≢ 0 → result ≢ 61
         → IsToldBy result record.old record.new (RefusesPlan trace.now settings.now)
         × (needed.new ≡ needed.old) }

@@ -53,6 +53,7 @@ fn settings_of_cases(alloc: Global, cases: &[SizedSettings]) -> Result<Vec<Setti
 /// Returns the lines of a sweep of the trace that the bytes encode. The cases are tested first.
 fn swept(alloc: Global, trace: &[u8], cases: &[SizedSettings]) -> Result<Vec<Line>, Refusal>
     ensures made { IfOk result (λ lines. IsSweepOf trace.now (map settings_in cases.now) lines.items) }
+    ensures given { OnOk result (All AreGiven cases.now) }
     ensures refused { IfErr result (RefusesSweep trace.now cases.now) }
     ensures only { (t : GuestTrace) → Spells trace.now t → All AreGiven cases.now
         → IfErr result (λ e. number_of e ≡ 16) }
@@ -111,6 +112,7 @@ pub extern "C" fn precopy_sweep(
 ) -> u32
     ensures made { result ≡ 0 → (lines : List SweepLine) × IsSweepOf trace.now (map settings_in cases.now) lines
         × (found.new ≡ over (map line_sums lines) found.old) × (chosen.new ≡ best_of lines) }
+    ensures given { result ≡ 0 → All AreGiven cases.now }
     ensures short { length found.old < length cases.now → result ≡ 61 }
     ensures long { result ≡ 61 → length found.old < length cases.now }
     ensures refused { result ≢ 0 → result ≢ 61

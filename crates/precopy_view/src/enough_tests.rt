@@ -1,5 +1,5 @@
-//! Worked examples of limits that are not kept. The amounts that are enough come from `bench/remedies.py`, which shares
-//! no code with the crates.
+//! Worked examples of limits that are not kept. The amounts that are enough come from
+//! `python/precopy_dev/models/remedies.py`, which shares no code with the crates.
 
 use crate::tests::ends_with;
 use std::test::Fail;

@@ -1,5 +1,5 @@
-//! Worked examples of the ranges over starts. The numbers come from the plans of `bench/redrawn.py`, and what is enough
-//! from `bench/remedies.py`. Neither shares code with the crates.
+//! Worked examples of the ranges over starts. The numbers come from the plans of `redrawn.py` in
+//! `python/precopy_dev/models`, and what is enough from `remedies.py` there. Neither shares code with the crates.
 
 use crate::tests::writes;
 use std::test::Fail;
@@ -37,6 +37,9 @@ static NONE_KNOWN: &str =
     "converges: unknown, the trace ends before the migration does; record longer
 total time: more than 2.500 s
 enough: unknown, since the trace ends before the migration does
+enough: --link 2Kbit
+enough: the guest slowed to 65 per cent of its speed
+enough to end within the trace: --link 2Kbit
 precopy live --min 1 --max 1 --inc 0 --threshold 1 --rounds 30 --start 0
 QEMU: migrate_set_parameter max-bandwidth 125B
 QEMU: migrate_set_parameter downtime-limit 190

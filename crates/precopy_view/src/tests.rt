@@ -233,8 +233,8 @@ fn unknown_words_are_told(rt: HostRuntime) -> Result<(), Fail> {
 
 /// A prediction for a guest of which one page in four was recorded, over a link of 64 pages of the guest in 1,000
 /// ticks: 16 of the trace. The first round sends 4 pages in 250 ticks. The 2 that are left take 125 ticks. The standard
-/// errors come from `bench/redrawn.py`, and what is enough from `bench/remedies.py`. Neither shares code with the
-/// crates.
+/// errors come from `redrawn.py` in `python/precopy_dev/models`, and what is enough from `remedies.py` there. Neither
+/// shares code with the crates.
 static PREDICTION: &str = "converges: yes, rounds: 1
 total time: 385 ms
 sent: 384 bytes
@@ -266,6 +266,10 @@ total time: more than 100 ms
 starts: 21, known: 19, converging: 19, limit kept: 19
 over known starts: sent 256 bytes to 384 bytes, time 260 ms to 385 ms, downtime 10 ms to 135 ms
 enough: unknown, since the trace ends before the migration does
+enough: --link 21Kbit
+enough: the guest slowed to 40 per cent of its speed
+enough to end within the trace: --link 21Kbit
+enough to end within the trace: --start 2250
 precopy live --min 16 --max 16 --inc 0 --threshold 4 --rounds 30 --start 2400
 QEMU: migrate_set_parameter max-bandwidth 1024B
 QEMU: migrate_set_parameter downtime-limit 190

@@ -137,7 +137,8 @@ static UNKNOWN: &str =
 \"starts\":{\"count\":21,\"known\":19,\"converging\":19,\"kept\":19,\
 \"least\":{\"time_seconds\":0.260000,\"sent_bytes\":256,\"down_seconds\":0.010000},\
 \"greatest\":{\"time_seconds\":0.385000,\"sent_bytes\":384,\"down_seconds\":0.135000}},\
-\"enough\":{\"answer\":\"unknown\"},\
+\"enough\":{\"answer\":\"unknown\",\"link_bytes\":2625,\"guest_percent\":40,\"ending_link_bytes\":2625,\
+\"ending_start\":2250},\
 \"hosts\":{\"bandwidth_bytes\":1024,\"down_milliseconds\":190}}\n";
 
 #[test]
@@ -159,7 +160,7 @@ static STARTS: &str = "          tick         start          time          sent 
            800       0.800 s        260 ms     256 bytes         10 ms  kept
           1600       1.600 s        260 ms     256 bytes         10 ms  kept
           2400       2.400 s        385 ms     384 bytes        135 ms  unknown
-best:  0.800 s, --start 800: time 260 ms, sent 256 bytes, downtime 10 ms, kept
+best:  0.800 s, --start 800: time 260 ms, sent 256 bytes, downtime 10 ms +- 0 s, kept
 worst: 0.000 s, --start 0: time 385 ms, sent 384 bytes, downtime 135 ms, kept
 ";
 
@@ -178,7 +179,8 @@ static DOCUMENT: &str = "{\"limit_seconds\":0.100000,\"starts\":[\
 {\"start\":2400,\"start_seconds\":2.400000,\"rounds\":1,\"time_seconds\":0.385000,\"sent_bytes\":384,\
 \"down_seconds\":0.135000,\"kept\":\"unknown\"}],\
 \"best\":{\"start\":0,\"start_seconds\":0.000000,\"rounds\":1,\"time_seconds\":0.385000,\"sent_bytes\":384,\
-\"down_seconds\":0.135000,\"kept\":\"no\"},\
+\"down_seconds\":0.135000,\"kept\":\"no\",\"errors\":{\"sent_bytes\":64,\"time_seconds\":0.054082,\
+\"down_seconds\":0.054082}},\
 \"worst\":{\"start\":0,\"start_seconds\":0.000000,\"rounds\":1,\"time_seconds\":0.385000,\"sent_bytes\":384,\
 \"down_seconds\":0.135000,\"kept\":\"no\"}}\n";
 

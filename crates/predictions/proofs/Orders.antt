@@ -1,13 +1,13 @@
 -- Being less by a number, and then by a test, is an order if the test is one.
-use Rattle.std.proofs.Common.{◌≡◌, ℕ, ◌<◌, Bool, true, false, ◌&&◌, ◌||◌, eqb, ltb, ◌∙◌, sym, inl, inr, arith}
-use Rattle.std.specs.Prelude.{◌⊎◌}
+use Rattle.std.proofs.Common.{◌≡◌, ℕ, ◌≤◌, ◌<◌, Bool, true, false, ◌&&◌, ◌||◌, eqb, ltb, ◌∙◌, sym, inl, inr, arith}
+use Rattle.std.specs.Prelude.{◌⊎◌, if◌then◌else◌, nat_le}
 use Rattle.std.specs.Cmp.{IsStrictWeakOrder}
 use Rattle.std.proofs.lemmas.Bool.{cases_lt, cases_eq, or_cases, or_left, or_right, and_parts, and_from, both_ways}
 use Rattle.std.proofs.lemmas.Bool.{false_from_ne_true, ltb-true, lt-ltb, eq-eqb, eqb-true}
-use Rattle.std.proofs.lemmas.List.MinMax.{IsStrictWeakOrder-by_number, IsStrictWeakOrder-flip}
-use Rattle.predictions.specs.Starts.Costs.{CostAtStart}
-use Rattle.predictions.specs.Starts.Choices.{by_then, first_price, is_better_known, is_better_start, is_worse_known}
-use Rattle.predictions.specs.Starts.Choices.{is_worse_start, lateness, misses, second_price}
+use Rattle.std.proofs.lemmas.List.MinMax.{IsStrictWeakOrder-by_number}
+use Rattle.predictions.specs.Starts.Costs.{CostAtStart, plain_of}
+use Rattle.predictions.specs.Starts.Choices.{by_then, bytes_at, is_better_known, is_better_start, is_quicker}
+use Rattle.predictions.specs.Starts.Choices.{is_worse_known, is_worse_start, lateness, likely_downtime, overrun}
 
 -- the first of two numbers is less, or they are equal and the rest holds
 less_is : (m n : ℕ) (rest : Bool) → (ltb m n || (eqb m n && rest)) ≡ true → (m < n) ⊎ ((m ≡ n) × (rest ≡ true))
@@ -63,16 +63,41 @@ module _ (key : CostAtStart → ℕ) (test : CostAtStart → CostAtStart → Boo
         (chain_of a b c (not_less (key a) (key b) (test a b) x) (not_less (key b) (key c) (test b c) y));
   }
 
-pub better_order : IsStrictWeakOrder is_better_start
-better_order =
-    IsStrictWeakOrder-by_then misses _ (IsStrictWeakOrder-by_then first_price _
-    (IsStrictWeakOrder-by_then second_price _ (IsStrictWeakOrder-by_number (λ (at : CostAtStart). at.cost.time))))
+pub better_order : (limit : ℕ) → IsStrictWeakOrder (is_better_start limit)
+better_order limit =
+    IsStrictWeakOrder-by_then (overrun limit) _ (IsStrictWeakOrder-by_then bytes_at _
+    (IsStrictWeakOrder-by_number (λ (at : CostAtStart). at.cost.time)))
 
-pub worse_order : IsStrictWeakOrder is_worse_start
-worse_order = IsStrictWeakOrder-flip is_better_start better_order
+pub worse_order : (limit : ℕ) → IsStrictWeakOrder (is_worse_start limit)
+worse_order limit = record {
+  one_way = λ a b is. (better_order limit).one_way (plain_of b) (plain_of a) is;
+  chain = λ a b c x y. (better_order limit).chain (plain_of c) (plain_of b) (plain_of a) y x;
+}
 
-pub better_known_order : IsStrictWeakOrder is_better_known
-better_known_order = IsStrictWeakOrder-by_then lateness is_better_start better_order
+pub better_known_order : (limit : ℕ) → IsStrictWeakOrder (is_better_known limit)
+better_known_order limit = IsStrictWeakOrder-by_then lateness (is_better_start limit) (better_order limit)
 
-pub worse_known_order : IsStrictWeakOrder is_worse_known
-worse_known_order = IsStrictWeakOrder-by_then lateness is_worse_start worse_order
+pub worse_known_order : (limit : ℕ) → IsStrictWeakOrder (is_worse_known limit)
+worse_known_order limit = IsStrictWeakOrder-by_then lateness (is_worse_start limit) (worse_order limit)
+
+-- what is above a limit counts no less if it is more
+above : (limit l m : ℕ) → l ≤ m → (if nat_le l limit then 0 else l) ≤ (if nat_le m limit then 0 else m)
+above limit l m less = grind arith
+
+-- errors never make a start better
+overrun_grows : (limit : ℕ) (at : CostAtStart) → overrun limit (plain_of at) ≤ overrun limit at
+overrun_grows limit at = above limit (likely_downtime (plain_of at)) (likely_downtime at) (grind arith)
+
+pub no_better_with_errors : (limit : ℕ) (a b : CostAtStart) → is_better_start limit (plain_of a) b ≡ false
+    → is_better_start limit a b ≡ false
+no_better_with_errors limit a b is =
+    let rest = by_then bytes_at is_quicker a b in
+    let grows = overrun_grows limit a in
+    not_from (overrun limit a) (overrun limit b) rest
+    (elim (not_less (overrun limit (plain_of a)) (overrun limit b) rest is) [
+      | inl more ↦ inl (omega (arith, grows))
+      | inr same ↦ elim (cases_lt (overrun limit b) (overrun limit a)) [
+        | inl more ↦ inl more
+        | inr no_more ↦ inr (omega (arith, same.0, grows, no_more), same.1)
+      ]
+    ])

@@ -1,9 +1,9 @@
 -- Answers that turn.
-use Rattle.std.proofs.Common.{◌≡◌, ◌↔◌, ◌+◌, ◌/◌, ◌^◌, ℕ, Bool, true, false, refl, inr, arith, subst, sym}
+use Rattle.std.proofs.Common.{◌≡◌, ◌↔◌, ◌+◌, ◌/◌, ◌^◌, ℕ, Bool, true, false, refl, inl, inr, arith, subst, sym}
 use Rattle.std.proofs.lemmas.Bool.{false≢true}
 use Rattle.std.specs.Bool.{beq}
 use Rattle.std.specs.Prelude.{IsTrue, not, if◌then◌else◌, Some, None}
-use Rattle.predictions.specs.Remedies.{IsFound, TurnsNowhere, amount_on, far_way}
+use Rattle.predictions.specs.Remedies.{IsFound, TurnsNear, TurnsNowhere, amount_on, far_way}
 use Rattle.predictions.specs.declared.remedies.way.Way.TheVariants as ways
 
 -- a test that does not differ from an answer has it
@@ -28,3 +28,8 @@ pub found_unturned : (Keeps : ℕ → Type 0) (start : ℕ) (b : Bool) → Turns
     → IsFound Keeps start b (if b then Some (start / 2 ^ 6) else None)
 found_unturned Keeps start true nowhere = inr (nowhere, refl)
 found_unturned Keeps start false nowhere = nowhere
+
+pub found_turned : (Keeps : ℕ → Type 0) (start : ℕ) (b : Bool) (before at : ℕ)
+    → TurnsNear Keeps b (far_way start b) before at → IsFound Keeps start b (Some (if b then before else at))
+found_turned Keeps start true before at turns = inl (at, turns)
+found_turned Keeps start false before at turns = (before, turns)

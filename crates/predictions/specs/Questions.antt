@@ -75,7 +75,8 @@ Fits scale shift pages = (2 ^ shift ≡ scale.page) × (scale.sampled < scale.gu
 -- a trace does not have the scale
 abbrev pub IsMisfit : TraceScale → ℕ → ℕ → Misfit → Type 0
 IsMisfit scale shift pages misfits.PageSize = 2 ^ shift ≢ scale.page
-IsMisfit scale shift pages misfits.TooManyPages = (scale.sampled < scale.guest) × (scale.sampled < pages)
+IsMisfit scale shift pages misfits.TooManyPages =
+    (2 ^ shift ≡ scale.page) × (scale.sampled < scale.guest) × (scale.sampled < pages)
 
 -- a number as 64 bits hold it: what is above their greatest is told as that
 abbrev pub capped : ℕ → ℕ

@@ -1,17 +1,19 @@
--- What would keep the downtime limit of a migration, or how far it is kept, found by plans. As an amount grows, a limit
--- may be kept, missed and kept again: an answer is the nearest turn of the amounts that are tried. This project's own.
+-- What would keep the downtime limit of a migration, or how far it is kept, and what ends it within the trace, found by
+-- plans. As an amount grows, a limit may be kept, missed and kept again: an answer is the nearest turn of the amounts
+-- that are tried. This project's own.
 pub mod Trials
 pub mod Questions
 pub mod Texts
 use Rattle.std.specs.Prelude.{◌≡◌, ◌↔◌, ◌⊎◌, ℕ, ◌+◌, ◌-◌, ◌*◌, ◌/◌, ◌^◌, ◌<◌, min, not, if◌then◌else◌, Bool, true}
-use Rattle.std.specs.Prelude.{false, IsTrue, List, Option, None, Some}
+use Rattle.std.specs.Prelude.{false, IsTrue, List, Option, None, Some, unwrap_or}
 use Rattle.std.specs.Int.{div_ceil}
-use Rattle.predictions.specs.Remedies.Trials.{KeepsLimit, KeepsWith, MigrationTrial}
+use Rattle.predictions.specs.Remedies.Trials.{EndsWith, EndsWithin, KeepsLimit, KeepsWith, MigrationTrial}
 use Rattle.predictions.specs.declared.remedies.change.Change.TheVariants as changes
+use Rattle.predictions.specs.declared.remedies.ending.Ending.{Ending}
 use Rattle.predictions.specs.declared.remedies.finding.Remedies.{Remedies}
 use Rattle.predictions.specs.declared.remedies.way.Way.{Way}
 use Rattle.predictions.specs.declared.remedies.way.Way.TheVariants as ways
-use Rattle.migration_model.specs.Touches.{GuestTouch}
+use Rattle.migration_model.specs.Touches.{GuestTouch, last_tick_of}
 
 -- The amounts of a way, from number 0 on: up from an amount by doublings, down by halvings, to another by sixteenths,
 -- or down from 100 by steps of 5. None is more than 64 bits hold.
@@ -48,24 +50,28 @@ TurnsNowhere Keeps is_kept way = AllAnswer Keeps is_kept way (count_on way)
 abbrev pub far_way : ℕ → Bool → Way
 far_way start is_kept = if is_kept then ways.Down start else ways.Up start
 
--- where the answer turns near a start: on the far way first, then between the amounts there, and once more
-pub record TurnsNear (Keeps : ℕ → Type 0) (is_kept : Bool) (start before at : ℕ) : Type 0 where
+-- where the answer turns nearest on a way: on the way first, then between the amounts there, and once more
+pub record TurnsNear (Keeps : ℕ → Type 0) (is_kept : Bool) (way : Way) (before at : ℕ) : Type 0 where
   pub far_before : ℕ
   pub far_at : ℕ
-  pub far : TurnsAt Keeps is_kept (far_way start is_kept) far_before far_at
+  pub far : TurnsAt Keeps is_kept way far_before far_at
   pub near_before : ℕ
   pub near_at : ℕ
   pub near : TurnsAt Keeps is_kept (ways.Between far_before far_at) near_before near_at
   pub nearest : TurnsAt Keeps is_kept (ways.Between near_before near_at) before at
 
+-- the first amount of a way that keeps the limit, if that with which it begins does not; there may be none
+abbrev pub IsFirst : (ℕ → Type 0) → Way → Option ℕ → Type 0
+IsFirst Keeps way (Some first) = (before : ℕ) × TurnsNear Keeps false way before first
+IsFirst Keeps way None = TurnsNowhere Keeps false way
+
 -- What is found from a start that keeps the limit: the last that does going down, or a 64th if the answer turns
 -- nowhere. From one that does not: the first that does going up, if there is one.
 abbrev pub IsFound : (ℕ → Type 0) → ℕ → Bool → Option ℕ → Type 0
-IsFound Keeps start true (Some least) = ((at : ℕ) × TurnsNear Keeps true start least at)
+IsFound Keeps start true (Some least) = ((at : ℕ) × TurnsNear Keeps true (ways.Down start) least at)
     ⊎ (TurnsNowhere Keeps true (ways.Down start) × (least ≡ start / 2 ^ 6))
 IsFound Keeps start true None = ⊥
-IsFound Keeps start false (Some least) = (before : ℕ) × TurnsNear Keeps false start before least
-IsFound Keeps start false None = TurnsNowhere Keeps false (ways.Up start)
+IsFound Keeps start false least = IsFirst Keeps (ways.Up start) least
 
 -- the least amount that keeps the limit, near a start
 pub record IsLeast (Keeps : ℕ → Type 0) (start : ℕ) (least : Option ℕ) : Type 0 where
@@ -79,11 +85,29 @@ IsSlowed Keeps true speed = speed ≡ None
 IsSlowed Keeps false (Some speed) = (before : ℕ) × TurnsAt Keeps false ways.Slower before speed
 IsSlowed Keeps false None = TurnsNowhere Keeps false ways.Slower
 
+-- what is found if it is not needed, and if it is
+abbrev pub IsFoundUnless : Bool → (Option ℕ → Type 0) → Option ℕ → Type 0
+IsFoundUnless true IsIt found = found ≡ None
+IsFoundUnless false IsIt found = IsIt found
+
+-- Whether a trial ends within the trace, and what does if it does not: the least link in Kbit a second, and the latest
+-- tick at which it begins. The search for the latter goes back from the trial's start, or the last tick if that is
+-- earlier, to the copy at the destination, or else to tick 0.
+pub record AreEndings (pages : ℕ) (touches : List GuestTouch) (trial : MigrationTrial) (ending : Ending) : Type
+    0 where
+  pub ends : IsTrue ending.ends ↔ EndsWithin pages touches trial
+  pub link : IsFoundUnless ending.ends
+      (IsLeast (EndsWith pages touches trial changes.Link) (div_ceil trial.limits.link 125)) ending.link
+  pub start : IsFoundUnless ending.ends (IsFirst (EndsWith pages touches trial changes.Start)
+      (ways.Between (min trial.others.start (last_tick_of touches)) (unwrap_or trial.others.base 0))) ending.start
+
 -- Whether a trial keeps its limit, and what does: the least link in Kbit a second, the least downtime in microseconds,
--- and the speed of the guest in per cent. The search begins at what the trial has; its link is rounded up.
+-- and the speed of the guest in per cent. The search begins at what the trial has; its link is rounded up. And what
+-- ends it within the trace, whether it then keeps its limit or not.
 pub record AreRemedies (pages : ℕ) (touches : List GuestTouch) (trial : MigrationTrial) (remedies : Remedies) : Type
     0 where
   pub kept : IsTrue remedies.is_kept ↔ KeepsLimit pages touches trial
   pub link : IsLeast (KeepsWith pages touches trial changes.Link) (div_ceil trial.limits.link 125) remedies.link
   pub downtime : IsLeast (KeepsWith pages touches trial changes.Downtime) trial.limits.downtime remedies.downtime
   pub speed : IsSlowed (KeepsWith pages touches trial changes.Speed) remedies.is_kept remedies.speed
+  pub ending : AreEndings pages touches trial remedies.ending

@@ -5,6 +5,7 @@
 mod answer;
 mod cost;
 mod hosts;
+mod laws;
 mod prediction;
 mod prediction_text;
 mod quantities;
@@ -18,8 +19,9 @@ mod verdict;
 pub use answer::{Answer, ErrorNumbers, number_of_reason};
 pub use cost::Cost;
 pub use hosts::{link_in_mib, millis_for_pages, push_hosts};
+pub use laws::{one_best, one_errors};
 pub use prediction::Prediction;
 pub use prediction_text::push_prediction;
 pub use quantities::{push_bytes, push_error, push_moment, push_time, push_wide};
-pub use question::{Misfit, Question, Terms, check_fit};
+pub use question::{Misfit, Question, Terms, check_fit, one_misfit};
 pub use verdict::Verdict;

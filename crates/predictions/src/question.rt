@@ -1,7 +1,10 @@
 //! Questions about a migration, in the numbers that C and a web page have.
 
-ghost use Rattle.std.specs.Prelude.{◌≡◌, IfErr, IsOk, OnOk};
+// `IsMisfit` holds of one value alone: `one_misfit`.
+
+ghost use Rattle.std.specs.Prelude.{◌≡◌, ℕ, IfErr, IsOk, OnOk};
 ghost use Rattle.predictions.specs.Questions.{Fits, IsMisfit, given};
+ghost use Rattle.predictions.specs.Units.Scales.{TraceScale};
 
 use crate::units::{Limits, Scale, UnitsError};
 use guest_log::Shape;
@@ -149,3 +152,9 @@ pub fn check_fit(scale: &Scale, shape: &Shape) -> Result<(), Misfit>
     }
     Ok(())
 }
+
+/// A trace has one misfit with a scale.
+pub fn one_misfit()
+    ensures { (scale : TraceScale) (shift pages : ℕ) (a b : Misfit) → IsMisfit scale shift pages a
+        → IsMisfit scale shift pages b → a ≡ b }
+{}

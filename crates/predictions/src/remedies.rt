@@ -1,7 +1,9 @@
 //! What is enough for the downtime limit of a migration: the least link, the least downtime, and how much the guest has
-//! to be slowed, each found by plans.
+//! to be slowed; and what ends it within the trace: the least link, and the latest start. Each is found by plans.
 
+mod aim;
 mod change;
+mod ending;
 mod finding;
 mod numbers;
 mod remedies_text;
@@ -10,6 +12,7 @@ mod trial;
 mod way;
 
 pub use change::Change;
+pub use ending::Ending;
 pub use finding::{Remedies, remedies_of};
 pub use numbers::RemedyNumbers;
 pub use remedies_text::push_remedies;

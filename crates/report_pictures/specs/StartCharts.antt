@@ -7,7 +7,9 @@ use Rattle.predictions.specs.Units.Scales.{TraceScale, micros_of}
 use Rattle.predictions.specs.declared.units.limits.Limits.{Limits}
 use Rattle.migration_model.specs.Rates.{MigrationSettings}
 use Rattle.migration_model.specs.Windows.{WorkingSets}
+use Rattle.predictions.specs.Redrawn.Errors.{SampleErrors}
 use Rattle.predictions.specs.Starts.Costs.{CostAtStart}
+use Rattle.predictions.specs.Starts.Texts.{down_spread}
 use Rattle.predictions.specs.Quantities.{bytes_text, moment_text, time_text}
 use Rattle.sweep_report.specs.Lines.{field}
 use Rattle.report_pictures.specs.Labels.{AreLabels, place_on}
@@ -108,9 +110,10 @@ curves_marks axis limit costs best worst =
     ++ curve_marks axis (curve_panel quantities.Sent costs 1 580) quantities.Sent costs best worst))
 
 -- the line of a chosen start
-unfoldable pub start_words : TraceScale → List ℕ → ℕ → ℕ → List ℕ
-start_words scale name start downtime =
-    name ++ (moment_text (micros_of scale start) ++ (codes ": downtime " ++ time_text downtime))
+unfoldable pub start_words : TraceScale → List ℕ → ℕ → ℕ → Option SampleErrors → List ℕ
+start_words scale name start downtime errors =
+    name ++ (moment_text (micros_of scale start) ++ (codes ": downtime " ++ (time_text downtime
+    ++ down_spread errors)))
 
 unfoldable pub cost_words : CostAtStart → List ℕ
 cost_words at = codes ", time " ++ (time_text at.cost.time ++ (codes ", " ++ (bytes_text at.cost.bytes
@@ -118,7 +121,8 @@ cost_words at = codes ", time " ++ (time_text at.cost.time ++ (codes ", " ++ (by
 
 unfoldable pub chosen_line : TraceScale → List ℕ → ℕ → CostAtStart → List ℕ
 chosen_line scale name y at =
-    text_head (codes "foot") 90 y ++ (start_words scale name at.start at.cost.downtime ++ (cost_words at ++ text_end))
+    text_head (codes "foot") 90 y ++ (start_words scale name at.start at.cost.downtime at.errors
+    ++ (cost_words at ++ text_end))
 
 abbrev pub chosen_words : TraceScale → List ℕ → ℕ → Option CostAtStart → List ℕ
 chosen_words scale name y None = []

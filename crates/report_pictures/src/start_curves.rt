@@ -14,7 +14,8 @@ use crate::panel::Panel;
 use crate::svg::{Area, begin_picture, begin_text, end_picture, end_text, push_rect, push_text};
 use crate::window_panel::push_windows;
 use crate::words::push_words;
-use predictions::starts::StartCost;
+use predictions::redrawn::Errors;
+use predictions::starts::{StartCost, push_spread};
 use predictions::units::{Limits, Scale};
 use predictions::{push_bytes, push_moment, push_time};
 use rate_limit::Settings;
@@ -220,7 +221,7 @@ fn push_limit(text: &mut Vec<u8>, panel: &Panel, limit: u64) -> Result<(), Alloc
     push_limit_keys(text, panel)
 }
 
-/// Appends when a start is, and its downtime.
+/// Appends when a start is, and its downtime with its standard error, if one is counted.
 #[tactic(auto, unfolding(crate::specs::StartCharts::start_words))]
 fn push_start_words(
     text: &mut Vec<u8>,
@@ -228,13 +229,16 @@ fn push_start_words(
     name: &str,
     start: u64,
     downtime: u128,
+    errors: &Option<Errors>,
 ) -> Result<(), AllocError>
-    ensures { OnOk result (text.new.items ≡ text.old.items ++ start_words scale.now name.now start downtime) }
+    ensures { OnOk result (text.new.items
+        ≡ text.old.items ++ start_words scale.now name.now start downtime errors.now) }
 {
     push_words(text, name)?;
     push_moment(text, scale.micros(start))?;
     push_words(text, ": downtime ")?;
     push_time(text, downtime)?;
+    push_spread(text, errors)?;
     Ok(())
 }
 
@@ -263,7 +267,7 @@ fn push_chosen_line(
     ensures { OnOk result (text.new.items ≡ text.old.items ++ chosen_line scale.now name.now y at.now) }
 {
     begin_text(text, "foot", LEFT, y)?;
-    push_start_words(text, scale, name, at.start, at.cost.downtime)?;
+    push_start_words(text, scale, name, at.start, at.cost.downtime, &at.errors)?;
     push_cost_words(text, at)?;
     end_text(text)
 }

@@ -8,3 +8,4 @@ pub mod Counted
 pub mod Outcomes
 pub mod MarkedWays
 pub mod ListedWays
+pub mod Followers

@@ -36,7 +36,7 @@ mod tally;
 
 pub use error::PlanError;
 pub use index::RoundIndex;
-pub use laws::one_plan;
+pub use laws::{one_following, one_plan};
 pub use marked::{SentPages, plan_rows};
 pub use numbers::{Following, RoundNumbers, RoundSums};
 pub use parts::{Outcome, Plan, Round, RoundRow};

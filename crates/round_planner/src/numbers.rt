@@ -1,5 +1,7 @@
 //! Rounds by their numbers: what is kept of them if there is no list of pages.
 
+// `IsFollowing` holds of one value alone: `one_following`.
+
 ghost use Rattle.std.specs.Prelude.{◌≡◌, ◌⊎◌, ◌<◌, ◌≤◌, ◌-◌, ◌^◌};
 ghost use Rattle.round_planner.specs.Steps.{IsFollowing};
 

@@ -7,8 +7,9 @@ ghost use Rattle.migration_model.specs.Versions.{page_at};
 ghost use Rattle.page_versions.specs.Index.{IsIndexOf};
 
 use guest_log::WriteLog;
-use page_message::{FrameView, is_zero};
+use page_message::FrameView;
 use page_versions::{PageIndex, PageProgress};
+use zero_pages::is_zero;
 
 /// A page before its first write.
 const UNWRITTEN: PageProgress = PageProgress {

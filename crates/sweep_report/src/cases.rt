@@ -1,6 +1,6 @@
 //! The text of a sweep.
 
-ghost use Rattle.std.specs.Prelude.{◌≡◌, ◌≤◌, ◌<◌, ◌++◌, if◌then◌else◌, IfOk, OnOk, length};
+ghost use Rattle.std.specs.Prelude.{◌≡◌, ◌≤◌, ◌<◌, ◌++◌, if◌then◌else◌, IfErr, IfOk, OnOk, length};
 ghost use Rattle.std.specs.List.{flat_map};
 ghost use Rattle.migration_model.specs.Sweeps.{best_of, is_better};
 ghost use Rattle.sweep_report.specs.Lines.{best_line, case_fields, case_line, outcome_fields};
@@ -100,7 +100,8 @@ fn push_best(text: &mut Vec<u8>, number: usize) -> Result<(), AllocError>
 
 /// Returns the text of a sweep: ASCII, a line for each case, and one on the best of them. Of no lines it is empty.
 pub fn sweep_text(alloc: Global, lines: &[Line]) -> Result<Vec<u8>, SweepError>
-    ensures { IfOk result (λ text. text.items ≡ sweep_of lines.now) }
+    ensures written { IfOk result (λ text. text.items ≡ sweep_of lines.now) }
+    ensures refused { IfErr result (λ e. e ≡ SweepError.Memory) }
 {
     let mut text = Vec::new(alloc);
     if lines.is_empty() {

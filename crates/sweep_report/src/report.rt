@@ -1,6 +1,6 @@
 //! The text of a report.
 
-ghost use Rattle.std.specs.Prelude.{◌≡◌, ◌++◌, IfOk, OnOk};
+ghost use Rattle.std.specs.Prelude.{◌≡◌, ◌++◌, IfErr, IfOk, OnOk};
 ghost use Rattle.std.specs.List.{flat_map};
 ghost use Rattle.sweep_report.specs.Lines.{page_line, window_line};
 ghost use Rattle.sweep_report.specs.Texts.{report_of, round_lines};
@@ -52,8 +52,9 @@ pub fn report_text(
     tables: &Tables,
     plan: &Plan,
 ) -> Result<Vec<u8>, SweepError>
-    ensures { IfOk result (λ text. text.items
+    ensures written { IfOk result (λ text. text.items
         ≡ report_of shape.now.shift shape.now.pages shape.now.writes settings.now.hot tables.now plan.now) }
+    ensures refused { IfErr result (λ e. e ≡ SweepError.Memory) }
 {
     let mut text = Vec::new(alloc);
     push_trace(&mut text, shape)?;

@@ -5,7 +5,7 @@ use Rattle.std.proofs.lemmas.List.{nil_from_length}
 use Rattle.migration_model.specs.Trace.{GuestWrite, Spells, trace_with}
 use Rattle.migration_model.specs.TraceReading.{tick_in, write_in, rest_after, writes_in}
 use Rattle.migration_model.proofs.Writes.{length-writes_in, writes_in_more}
-use Rattle.trace_codec.specs.Reading.{IsReading, ReaderState, reader_state, ReadsTo}
+use Rattle.trace_codec.specs.Reading.{IsReading, ReaderState, reader_state, ReadsTo, rest_at, refusal_at}
 use Rattle.trace_codec.specs.Refusals.{Refuses, write_refusal}
 use Rattle.trace_codec.specs.declared.error.TraceError.{TraceError}
 use Rattle.trace_codec.specs.declared.error.TraceError.TheVariants.{TrailingBytes}
@@ -64,3 +64,18 @@ state_more state bytes version shift pages count n last rest write on is read =
     ∙ ap (λ (w : GuestWrite). writes_in n (drop 16 bytes) ++ w ∷ [])
     (ap write_in (sym on.reads.rest_is) ∙ sym read))
     ∙ ap (λ (s : ReaderState). record s { writes = s.writes ++ write ∷ [] }) is
+
+-- what a reader's own numbers say of the rest, its state says
+pub rest_is : (state : ReaderState) (bytes : List ℕ) (version shift pages count n last : ℕ) (rest : List ℕ)
+    → IsReading bytes version shift pages count n last rest
+    → reader_state bytes version shift pages count (writes_in n (drop 16 bytes)) ≡ state → rest ≡ rest_at state
+rest_is state bytes version shift pages count n last rest on is =
+    subst (λ (s : ReaderState). rest ≡ rest_at s) is (rw (length-writes_in n (drop 16 bytes)) on.reads.rest_is)
+
+pub refusal_is : (state : ReaderState) (bytes : List ℕ) (version shift pages count n last : ℕ) (rest : List ℕ)
+    → IsReading bytes version shift pages count n last rest
+    → reader_state bytes version shift pages count (writes_in n (drop 16 bytes)) ≡ state
+    → refusal_at state ≡ write_refusal version shift pages last n rest
+refusal_is state bytes version shift pages count n last rest on is =
+    subst (λ (s : ReaderState). refusal_at s ≡ write_refusal version shift pages last n rest) is
+    (rw (length-writes_in n (drop 16 bytes), on.reads.last_is, on.reads.rest_is) refl)

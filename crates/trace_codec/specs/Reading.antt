@@ -1,5 +1,5 @@
 -- Bytes read as writes, one after another.
-use Rattle.std.specs.Prelude.{◌≡◌, ◌≤◌, ◌<◌, ◌⊎◌, ℕ, zero, suc, ◌+◌, List, [], drop, length, slice_index, Some, None}
+use Rattle.std.specs.Prelude.{◌≡◌, ◌≤◌, ◌<◌, ◌⊎◌, ℕ, zero, suc, ◌+◌, List, [], drop, length, slice_index, Option, Some, None}
 use Rattle.std.specs.List.{All}
 use Rattle.std.specs.Int.{w32}
 use Rattle.migration_model.specs.Numbers.{IsBytes, number_in}
@@ -63,6 +63,20 @@ pub record ReaderState : Type 0 where
 abbrev pub reader_state : List ℕ → ℕ → ℕ → ℕ → ℕ → List GuestWrite → ReaderState
 reader_state bytes version shift pages count writes =
     record { bytes = bytes; version = version; shift = shift; pages = pages; count = count; writes = writes }
+
+-- the bytes that a reader has not read yet
+abbrev pub rest_at : ReaderState → List ℕ
+rest_at state = rest_of (length state.writes) (drop 16 state.bytes)
+
+-- what the write there is refused for
+abbrev pub refusal_at : ReaderState → Option TraceError
+refusal_at state =
+    write_refusal state.version state.shift state.pages (last_tick state.writes) (length state.writes) (rest_at state)
+
+-- a reader of these bytes that has read no write
+abbrev pub reader_of : List ℕ → ReaderState
+reader_of bytes = reader_state bytes (slice_index bytes 4) (slice_index bytes 5) (number_in w32 (drop 8 bytes))
+    (number_in w32 (drop 12 bytes)) []
 
 -- what a reader keeps: the header is right, and so are the first n writes
 pub record IsReading (bytes : List ℕ) (version shift pages count n last : ℕ) (rest : List ℕ) : Type 0 where

@@ -2,11 +2,12 @@
 
 // `Refuses` holds of one value alone: `TraceView::parse: first`.
 
-ghost use Rattle.std.specs.Prelude.{◌≡◌, ◌<◌, ◌++◌, ◌∷◌, [], IfErr, IfOk, OnErr, OnOk, drop, length};
+ghost use Rattle.std.specs.Prelude.{◌≡◌, ◌≢◌, ◌<◌, ◌++◌, ◌∷◌, [], IfErr, IfOk, None, OnErr, OnOk, Some, drop, length};
 ghost use Rattle.migration_model.specs.Trace.{AreGuestWrites, IsGuestWrite, Spells, trace_with};
-ghost use Rattle.migration_model.specs.TraceReading.{writes_in};
-ghost use Rattle.trace_codec.specs.Reading.{IsReading, ReaderState, reader_state};
-ghost use Rattle.trace_codec.specs.Refusals.{Refuses};
+ghost use Rattle.migration_model.specs.TraceReading.{write_in, writes_in};
+ghost use Rattle.trace_codec.specs.Reading.{IsReading, ReaderState, reader_of, reader_state, refusal_at, rest_at};
+ghost use Rattle.trace_codec.specs.Refusals.{Refuses, header_refusal};
+ghost use Rattle.trace_codec.specs.declared.error.TraceError.TheVariants.{TrailingBytes};
 ghost use Rattle.guest_log.specs.Writes.{shown};
 
 use crate::error::TraceError;
@@ -41,7 +42,10 @@ impl<'a> TraceReader<'a> {
     pub fn new(bytes: &'a [u8]) -> Result<TraceReader<'a>, TraceError>
         ensures bytes { IfOk result (λ r. r.bytes ≡ bytes.entry.now) }
         ensures writes { IfOk result (λ r. r.writes ≡ []) }
+        ensures state { IfOk result (λ r. r ≡ reader_of bytes.entry.now) }
+        ensures accepted { OnOk result (header_refusal bytes.entry.now ≡ None) }
         ensures refused { IfErr result (Refuses bytes.entry.now) }
+        ensures header { IfErr result (λ e. header_refusal bytes.entry.now ≡ Some e) }
     {
         let (header, rest) = split_header(bytes)?;
         Ok(TraceReader {
@@ -82,7 +86,10 @@ impl<'a> TraceReader<'a> {
             self.old.pages (shown write)) }
         ensures order { IfOk result (λ write. AreGuestWrites self.old.version self.old.shift self.old.pages
             (self.old.writes ++ shown write ∷ [])) }
+        ensures front { IfOk result (λ write. shown write ≡ write_in (rest_at self.old)) }
+        ensures accepted { OnOk result (refusal_at self.old ≡ None) }
         ensures refused { IfErr result (Refuses self.old.bytes) }
+        ensures first { IfErr result (λ e. refusal_at self.old ≡ Some e) }
         ensures kept { OnErr result (self.new ≡ self.old) }
     {
         let (write, rest) = checked_write(self.header, self.last, self.index, self.rest)?;
@@ -97,7 +104,9 @@ impl<'a> TraceReader<'a> {
         requires { length self.writes ≡ self.count }
         ensures spelled { OnOk result (Spells self.entry.bytes
             (trace_with self.entry.version self.entry.shift self.entry.pages self.entry.writes)) }
+        ensures whole { OnOk result (rest_at self.entry ≡ []) }
         ensures refused { IfErr result (Refuses self.entry.bytes) }
+        ensures trailing { IfErr result (λ e. (rest_at self.entry ≢ []) × (e ≡ TrailingBytes)) }
     {
         if !self.rest.is_empty() {
             return Err(TraceError::TrailingBytes);

@@ -5,10 +5,11 @@ use Rattle.predictions.specs.declared.remedies.finding.Remedies.{Remedies}
 use Rattle.trace_views.specs.Enough.{answer_of, enough_word}
 use Rattle.trace_views.specs.Json.{member_of, number_member, object_of, seconds_member, text_member}
 
--- the least link in bytes a second, the least downtime, and the guest's speed, of which each may be missing
-abbrev pub link_member : Option ℕ → List Token
-link_member None = []
-link_member (Some kbit) = number_member (codes "link_bytes") (kbit * 125)
+-- the least link in bytes a second, the least downtime, the guest's speed, and the latest start, of which each may be
+-- missing
+abbrev pub link_member : List ℕ → Option ℕ → List Token
+link_member name None = []
+link_member name (Some kbit) = number_member name (kbit * 125)
 
 abbrev pub down_member : Option ℕ → List Token
 down_member None = []
@@ -18,14 +19,18 @@ abbrev pub speed_member : Option ℕ → List Token
 speed_member None = []
 speed_member (Some percent) = number_member (codes "guest_percent") percent
 
-abbrev pub amount_members : Option Remedies → List (List Token)
-amount_members None = []
-amount_members (Some r) = link_member r.link ∷ down_member r.downtime ∷ speed_member r.speed ∷ []
+abbrev pub start_member : Option ℕ → List Token
+start_member None = []
+start_member (Some start) = number_member (codes "ending_start") start
+
+-- what keeps the limit, and what ends the migration within the trace
+abbrev pub amount_members : Remedies → List (List Token)
+amount_members r = link_member (codes "link_bytes") r.link ∷ down_member r.downtime ∷ speed_member r.speed
+    ∷ link_member (codes "ending_link_bytes") r.ending.link ∷ start_member r.ending.start ∷ []
 
 -- what is enough as a word, and the amounts that are
-abbrev pub enough_object : Option Remedies → List Token
-enough_object remedies = object_of
-    (text_member (codes "answer") (enough_word (answer_of remedies)) ∷ amount_members remedies)
+abbrev pub enough_object : Remedies → List Token
+enough_object r = object_of (text_member (codes "answer") (enough_word (answer_of r)) ∷ amount_members r)
 
-abbrev pub enough_member : Option Remedies → List Token
-enough_member remedies = member_of (codes "enough") (enough_object remedies)
+abbrev pub enough_member : Remedies → List Token
+enough_member r = member_of (codes "enough") (enough_object r)

@@ -1,8 +1,7 @@
 -- What is predicted of a migration over a log.
-use Rattle.std.specs.Prelude.{◌≡◌, Bool, true, false, List, Option, None, Some}
+use Rattle.std.specs.Prelude.{◌≡◌, List, Option, None, Some}
 use Rattle.predictions.specs.Remedies.{AreRemedies}
 use Rattle.predictions.specs.Remedies.Trials.{MigrationTrial}
-use Rattle.predictions.specs.declared.remedies.finding.Remedies.{Remedies}
 use Rattle.migration_model.specs.Rounds.{IsPlan, MigrationPlan}
 use Rattle.migration_model.specs.Sweeps.{AreLines, SweepLine}
 use Rattle.migration_model.specs.Touches.{GuestTouches, last_tick_of}
@@ -29,12 +28,6 @@ trial_of asked = record {
   others = asked.settings;
 }
 
--- what is enough for the limit of a migration; it is not known if the trace ends before the migration does
-abbrev pub AreEnough : GuestTouches → AskedPrediction → Bool → Option Remedies → Type 0
-AreEnough log asked true remedies = remedies ≡ None
-AreEnough log asked false None = ⊥
-AreEnough log asked false (Some remedies) = AreRemedies log.pages log.touches (trial_of asked) remedies
-
 -- what the plan predicts, how far chance moves that if pages were sampled, the ranges over starts, and what is enough
 -- for the limit
 pub record IsOutlook (log : GuestTouches) (asked : AskedPrediction) (outlook : Outlook) : Type 0 where
@@ -44,4 +37,4 @@ pub record IsOutlook (log : GuestTouches) (asked : AskedPrediction) (outlook : O
       ≡ prediction_of asked.scale asked.limits asked.settings.start plan (last_tick_of log.touches)
   pub are_errors : AreErrors log.pages log.touches asked.settings asked.scale outlook.errors
   pub are_ranges : AreRangesOver log asked outlook.ranges
-  pub are_enough : AreEnough log asked outlook.prediction.cost.is_late outlook.remedies
+  pub are_remedies : AreRemedies log.pages log.touches (trial_of asked) outlook.remedies

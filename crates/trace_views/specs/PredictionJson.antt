@@ -11,7 +11,7 @@ use Rattle.trace_views.specs.EnoughJson.{enough_member}
 use Rattle.trace_views.specs.Json.{member_of, number_member, object_of, scale_object, seconds_member, settings_members}
 use Rattle.trace_views.specs.Json.{text_member}
 use Rattle.trace_views.specs.RangesJson.{ranges_member}
-use Rattle.trace_views.specs.StartsJson.{cost_numbers}
+use Rattle.trace_views.specs.StartsJson.{cost_numbers, errors_member}
 use Rattle.trace_views.specs.declared.outlook.Outlook.{Outlook}
 
 -- what a migration may take
@@ -43,16 +43,6 @@ abbrev pub hosts_object : Limits → List Token
 hosts_object limits =
     object_of (number_member (codes "bandwidth_bytes") limits.link ∷ mib_member (link_in_mib limits)
     ∷ number_member (codes "down_milliseconds") (millis_for_pages limits) ∷ [])
-
--- one standard error of what is sent, of the time, and of the downtime
-abbrev pub errors_object : SampleErrors → List Token
-errors_object errors =
-    object_of (number_member (codes "sent_bytes") errors.bytes ∷ seconds_member (codes "time_seconds") errors.time
-    ∷ seconds_member (codes "down_seconds") errors.downtime ∷ [])
-
-abbrev pub errors_member : Option SampleErrors → List Token
-errors_member None = []
-errors_member (Some errors) = member_of (codes "errors") (errors_object errors)
 
 -- the migration of a plan: why it stops, what it costs, how many pages of the trace are sent after the stop, and the
 -- errors

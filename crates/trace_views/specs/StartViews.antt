@@ -1,9 +1,9 @@
 -- What the same migration costs from each of some starts.
-use Rattle.std.specs.Prelude.{◌≡◌, ℕ, ◌≤◌, List, Option, None, Some}
+use Rattle.std.specs.Prelude.{◌≡◌, ℕ, ◌≤◌, List, length, Option, None, Some}
 use Rattle.migration_model.specs.Sweeps.{SweepLine, AreLines}
 use Rattle.migration_model.specs.Touches.{GuestTouches, last_tick_of}
 use Rattle.migration_model.specs.Windows.{working_sets_of}
-use Rattle.predictions.specs.Starts.Choices.{IsChosen, is_better_start, is_worse_start, known_of}
+use Rattle.predictions.specs.Starts.Choices.{IsBest, IsChosen, is_worse_start, known_of}
 use Rattle.predictions.specs.Starts.Costs.{CostAtStart, costs_at_starts}
 use Rattle.predictions.specs.Starts.{RefusesStarts, cases_from, count_of}
 use Rattle.predictions.specs.Starts.Texts.{starts_text_of}
@@ -20,7 +20,8 @@ use Rattle.trace_views.specs.declared.view.AskedStarts.{AskedStarts}
 use Rattle.trace_views.specs.declared.view.StartsForm.{StartsForm}
 use Rattle.trace_views.specs.declared.view.StartsForm.TheVariants as forms
 
--- what a migration over a log costs from each start, by its own plan, and the best and the worst of the known starts
+-- what a migration over a log costs from each start, by its own plan, and the best and the worst of the known starts;
+-- the best with its standard errors
 pub record AreStartsOf (log : GuestTouches) (asked : AskedStarts) (costs : List CostAtStart)
     (best worst : Option CostAtStart) : Type 0 where
   pub few : count_of asked.starts (last_tick_of log.touches) ≤ 4_096
@@ -28,13 +29,14 @@ pub record AreStartsOf (log : GuestTouches) (asked : AskedStarts) (costs : List 
   pub are_lines : AreLines log.pages log.touches
       (cases_from asked.settings asked.starts (last_tick_of log.touches)) lines
   pub costs_are : costs ≡ costs_at_starts asked.scale asked.limits (last_tick_of log.touches) lines
-  pub best_is : IsChosen is_better_start (known_of costs) best
-  pub worst_is : IsChosen is_worse_start (known_of costs) worst
+  pub best_is : IsBest log.pages log.touches asked.scale asked.limits lines (length lines) best
+  pub worst_is : IsChosen (is_worse_start asked.limits.downtime) (known_of costs) worst
 
 -- the starts in some form
 abbrev pub IsStartsText : StartsForm → GuestTouches → AskedStarts → List CostAtStart → Option CostAtStart
     → Option CostAtStart → List ℕ → Type 0
-IsStartsText forms.Table log asked costs best worst text = text ≡ starts_text_of asked.scale costs best worst
+IsStartsText forms.Table log asked costs best worst text =
+    text ≡ starts_text_of asked.scale asked.limits.downtime costs best worst
 IsStartsText forms.Json log asked costs best worst text =
     text ≡ line_of (starts_object asked.scale asked.limits.downtime costs best worst)
 IsStartsText forms.Chart log asked costs best worst text = IsStartsChart asked.settings asked.scale asked.limits

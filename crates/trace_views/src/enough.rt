@@ -1,8 +1,7 @@
 //! What is enough for the limit of a migration, as an answer and as lines.
 
 ghost use Rattle.std.specs.Prelude.{◌≡◌, ◌++◌, OnOk};
-ghost use Rattle.trace_views.specs.Enough.{amounts_text, answer_for, answer_of, enough_line, enough_text, enough_word};
-ghost use Rattle.trace_views.specs.Enough.{finds_some};
+ghost use Rattle.trace_views.specs.Enough.{answer_of, enough_line, enough_text, enough_word, finds_some};
 
 use predictions::remedies::{Remedies, push_remedies};
 use std::alloc::AllocError;
@@ -16,7 +15,7 @@ pub(crate) enum Enough {
     Other,
     /// Nothing that was tried.
     Nothing,
-    /// It is not known, since the trace ends before the migration does.
+    /// Of what is asked it is not known, since the trace ends before the migration does.
     Unknown,
 }
 
@@ -28,26 +27,18 @@ fn finds_some(remedies: &Remedies) -> bool
 }
 
 impl Enough {
-    /// Returns what is enough if the trace does not end before the migration does.
-    fn found(remedies: &Remedies) -> Enough
-        ensures { result ≡ answer_for remedies.now }
+    /// Returns what is enough, by what is found.
+    pub(crate) fn new(remedies: &Remedies) -> Enough
+        ensures { result ≡ answer_of remedies.now }
     {
         if remedies.is_kept {
             Enough::Asked
+        } else if !remedies.ending.ends {
+            Enough::Unknown
         } else if finds_some(remedies) {
             Enough::Other
         } else {
             Enough::Nothing
-        }
-    }
-
-    /// Returns what is enough, by what is found.
-    pub(crate) fn new(remedies: &Option<Remedies>) -> Enough
-        ensures { result ≡ answer_of remedies.now }
-    {
-        match remedies {
-            Some(remedies) => Enough::found(remedies),
-            None => Enough::Unknown,
         }
     }
 
@@ -76,21 +67,11 @@ impl Enough {
     }
 }
 
-/// Appends the amounts that are enough, if anything is known of them.
-fn push_amounts(text: &mut Vec<u8>, remedies: &Option<Remedies>) -> Result<(), AllocError>
-    ensures { OnOk result (text.new.items ≡ text.old.items ++ amounts_text remedies.now) }
-{
-    match remedies {
-        Some(remedies) => push_remedies(text, remedies),
-        None => Ok(()),
-    }
-}
-
 /// Appends what is enough for a limit as lines, in ASCII: the answer, and each amount that is.
-pub(crate) fn push_enough(text: &mut Vec<u8>, remedies: &Option<Remedies>) -> Result<(), AllocError>
+pub(crate) fn push_enough(text: &mut Vec<u8>, remedies: &Remedies) -> Result<(), AllocError>
     ensures { OnOk result (text.new.items ≡ text.old.items ++ enough_text remedies.now) }
 {
     text.extend_from_slice(Enough::new(remedies).line().as_bytes())?;
-    push_amounts(text, remedies)?;
+    push_remedies(text, remedies)?;
     Ok(())
 }

@@ -1,9 +1,9 @@
 //! What is enough for the limit of a migration as a member of a JSON document.
 
-ghost use Rattle.std.specs.Prelude.{◌≡◌, ◌++◌, OnOk, Some};
+ghost use Rattle.std.specs.Prelude.{◌≡◌, ◌++◌, OnOk};
 ghost use Rattle.std.specs.List.{flat_map};
 ghost use Rattle.trace_views.specs.EnoughJson.{amount_members, down_member, enough_member, enough_object, link_member};
-ghost use Rattle.trace_views.specs.EnoughJson.{speed_member};
+ghost use Rattle.trace_views.specs.EnoughJson.{speed_member, start_member};
 
 use crate::document::Document;
 use crate::enough::Enough;
@@ -13,12 +13,12 @@ use std::alloc::{AllocError, Global};
 /// How many bytes a second a Kbit a second is.
 const KBIT: u128 = 125;
 
-/// Writes the least link, in Kbit a second, as a member in bytes a second, if there is one.
-fn write_link(out: &mut Document, kbit: Option<u64>) -> Result<(), AllocError>
-    ensures { OnOk result (out.new ≡ out.old ++ link_member kbit) }
+/// Writes a link, in Kbit a second, as a member in bytes a second, if there is one.
+fn write_link(out: &mut Document, name: &str, kbit: Option<u64>) -> Result<(), AllocError>
+    ensures { OnOk result (out.new ≡ out.old ++ link_member name.now kbit) }
 {
     match kbit {
-        Some(kbit) => out.wide_member("link_bytes", kbit as u128 * KBIT),
+        Some(kbit) => out.wide_member(name, kbit as u128 * KBIT),
         None => Ok(()),
     }
 }
@@ -43,36 +43,30 @@ fn write_speed(out: &mut Document, percent: Option<u64>) -> Result<(), AllocErro
     }
 }
 
-/// Writes the amounts that are found.
-fn write_found(alloc: Global, out: &mut Document, remedies: &Remedies) -> Result<(), AllocError>
-    ensures { OnOk result (out.new ≡ out.old ++ flat_map (λ m. m) (amount_members (Some remedies.now))) }
+/// Writes the tick of the latest start as a member, if there is one.
+fn write_latest(out: &mut Document, start: Option<u64>) -> Result<(), AllocError>
+    ensures { OnOk result (out.new ≡ out.old ++ start_member start) }
 {
-    write_link(out, remedies.link)?;
-    write_down(alloc, out, remedies.downtime)?;
-    write_speed(out, remedies.speed)?;
-    Ok(())
-}
-
-/// Writes the amounts that are enough, if anything is known of them.
-fn write_amounts(
-    alloc: Global,
-    out: &mut Document,
-    remedies: &Option<Remedies>,
-) -> Result<(), AllocError>
-    ensures { OnOk result (out.new ≡ out.old ++ flat_map (λ m. m) (amount_members remedies.now)) }
-{
-    match remedies {
-        Some(remedies) => write_found(alloc, out, remedies),
+    match start {
+        Some(start) => out.number_member("ending_start", start),
         None => Ok(()),
     }
 }
 
+/// Writes the amounts that are enough.
+fn write_amounts(alloc: Global, out: &mut Document, remedies: &Remedies) -> Result<(), AllocError>
+    ensures { OnOk result (out.new ≡ out.old ++ flat_map (λ m. m) (amount_members remedies.now)) }
+{
+    write_link(out, "link_bytes", remedies.link)?;
+    write_down(alloc, out, remedies.downtime)?;
+    write_speed(out, remedies.speed)?;
+    write_link(out, "ending_link_bytes", remedies.ending.link)?;
+    write_latest(out, remedies.ending.start)?;
+    Ok(())
+}
+
 /// Writes what is enough.
-fn write_answer(
-    alloc: Global,
-    out: &mut Document,
-    remedies: &Option<Remedies>,
-) -> Result<(), AllocError>
+fn write_answer(alloc: Global, out: &mut Document, remedies: &Remedies) -> Result<(), AllocError>
     ensures { OnOk result (out.new ≡ out.old ++ enough_object remedies.now) }
 {
     out.begin_object()?;
@@ -86,7 +80,7 @@ fn write_answer(
 pub(crate) fn write_enough(
     alloc: Global,
     out: &mut Document,
-    remedies: &Option<Remedies>,
+    remedies: &Remedies,
 ) -> Result<(), AllocError>
     ensures { OnOk result (out.new ≡ out.old ++ enough_member remedies.now) }
 {

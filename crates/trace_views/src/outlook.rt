@@ -1,7 +1,7 @@
 //! What is predicted of a migration over a log of touches.
 
 ghost use Rattle.std.specs.Prelude.{◌≡◌, ◌<◌, ◌^◌, IfErr, IfOk};
-ghost use Rattle.trace_views.specs.Outlooks.{AreEnough, AreRangesOver, IsOutlook, trial_of};
+ghost use Rattle.trace_views.specs.Outlooks.{AreRangesOver, IsOutlook, trial_of};
 
 use crate::error::ViewError;
 use crate::sweeping::planned;
@@ -12,7 +12,7 @@ use predictions::redrawn::Errors;
 use predictions::remedies::{Remedies, Trial};
 use predictions::starts::{StartRanges, ranges_over, spread_cases};
 use round_planner::plan;
-use std::alloc::{AllocError, Global};
+use std::alloc::Global;
 use std::thread::Threads;
 use trace_readers::TouchLog;
 
@@ -25,8 +25,8 @@ pub struct Outlook {
     pub errors: Option<Errors>,
     /// What it costs from several starts, if it is known from any.
     pub ranges: Option<StartRanges>,
-    /// What is enough for its limit, if the trace does not end before the migration does.
-    pub remedies: Option<Remedies>,
+    /// What is enough for its limit, and to end within the trace.
+    pub remedies: Remedies,
 }
 
 /// Returns the ranges of what a migration over a log costs from several starts.
@@ -46,13 +46,6 @@ fn ranges_from<R: Threads + Sync>(
     Ok(ranges_over(alloc, &asked.scale, &asked.limits, &lines, last)?)
 }
 
-/// Returns whether the trace ends before a migration does.
-fn is_late(prediction: &Prediction) -> bool
-    ensures { result ≡ prediction.now.cost.is_late }
-{
-    prediction.cost.is_late
-}
-
 /// Returns the migration that is asked for, as one whose limits are changed.
 fn trial_of(asked: &AskedPrediction) -> Trial
     ensures { result ≡ trial_of asked.now }
@@ -63,22 +56,6 @@ fn trial_of(asked: &AskedPrediction) -> Trial
         increment: asked.increment,
         others: *asked.settings.asked(),
     }
-}
-
-/// Returns what is enough for the limit of a migration, if the trace does not end before the migration does.
-fn remedies_for(
-    alloc: Global,
-    asked: &AskedPrediction,
-    log: &TouchLog,
-    is_late: bool,
-) -> Result<Option<Remedies>, AllocError>
-    ensures { IfOk result (AreEnough log.now asked.now is_late) }
-{
-    if is_late {
-        return Ok(None);
-    }
-    let remedies = Remedies::of_trace(alloc, log, &trial_of(asked))?;
-    Ok(Some(remedies))
 }
 
 /// Returns what is predicted of a migration over a log.
@@ -97,7 +74,7 @@ pub(crate) fn outlook_over<R: Threads + Sync>(
     let prediction = Prediction::new(scale, limits, start, &plan, last_tick(log));
     let errors = Errors::of_trace(alloc, log, &asked.settings, scale)?;
     let ranges = ranges_from(rt, alloc, asked, log)?;
-    let remedies = remedies_for(alloc, asked, log, is_late(&prediction))?;
+    let remedies = Remedies::of_trace(alloc, log, &trial_of(asked))?;
     Ok(Outlook {
         prediction,
         errors,

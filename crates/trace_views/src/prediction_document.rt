@@ -3,9 +3,8 @@
 ghost use Rattle.std.specs.Prelude.{◌≡◌, ◌++◌, IfOk, OnOk, codes};
 ghost use Rattle.std.specs.List.{flat_map};
 ghost use Rattle.trace_views.specs.Json.{line_of, member_of};
-ghost use Rattle.trace_views.specs.PredictionJson.{answer_members, asked_members, base_member, errors_member};
-ghost use Rattle.trace_views.specs.PredictionJson.{errors_object, first_member, hosts_object, limits_object};
-ghost use Rattle.trace_views.specs.PredictionJson.{mib_member, migration_member};
+ghost use Rattle.trace_views.specs.PredictionJson.{answer_members, asked_members, base_member, first_member};
+ghost use Rattle.trace_views.specs.PredictionJson.{hosts_object, limits_object, mib_member, migration_member};
 ghost use Rattle.trace_views.specs.PredictionJson.{migration_object, outlook_members, prediction_object};
 ghost use Rattle.trace_views.specs.PredictionJson.{settings_object};
 
@@ -13,7 +12,7 @@ use crate::document::Document;
 use crate::enough_document::write_enough;
 use crate::outlook::Outlook;
 use crate::ranges_document::write_ranges;
-use crate::starts_document::write_cost_numbers;
+use crate::starts_document::{write_cost_numbers, write_errors};
 use crate::sweep_document::{write_scale, write_settings};
 use predictions::redrawn::Errors;
 use predictions::units::{Limits, Scale};
@@ -88,35 +87,6 @@ fn write_hosts(out: &mut Document, limits: &Limits) -> Result<(), AllocError>
     out.number_member("down_milliseconds", millis_for_pages(limits))?;
     out.end_object()?;
     Ok(())
-}
-
-/// Writes standard errors.
-fn write_all(alloc: Global, out: &mut Document, errors: &Errors) -> Result<(), AllocError>
-    ensures { OnOk result (out.new ≡ out.old ++ errors_object errors.now) }
-{
-    out.begin_object()?;
-    out.wide_member("sent_bytes", errors.bytes)?;
-    out.seconds_member(alloc, "time_seconds", errors.time)?;
-    out.seconds_member(alloc, "down_seconds", errors.downtime)?;
-    out.end_object()?;
-    Ok(())
-}
-
-/// Writes standard errors as a member, if they are given.
-fn write_errors(
-    alloc: Global,
-    out: &mut Document,
-    errors: &Option<Errors>,
-) -> Result<(), AllocError>
-    ensures { OnOk result (out.new ≡ out.old ++ errors_member errors.now) }
-{
-    match errors {
-        Some(errors) => {
-            out.key("errors")?;
-            write_all(alloc, out, errors)
-        }
-        None => Ok(()),
-    }
 }
 
 /// Writes the migration of a plan: why it stops, what it costs, and how many pages of the trace are left then.

@@ -58,8 +58,8 @@ fn starts_found<R: Threads + Sync>(
     let lines = planned(rt, alloc, &cases, workers, log)?;
     let costs = start_costs(alloc, &asked.scale, &asked.limits, &lines, last)?;
     let known = known_starts(alloc, &costs)?;
-    let best = best_start(&known);
-    let worst = worst_start(&known);
+    let best = best_start(alloc, log, &asked.scale, &asked.limits, &lines)?;
+    let worst = worst_start(asked.limits.downtime, &known);
     Ok(Found { costs, best, worst })
 }
 
@@ -110,12 +110,10 @@ fn formed(
 {
     let Found { costs, best, worst } = found;
     let scale = &asked.scale;
+    let limit = asked.limits.downtime;
     match asked.form {
-        StartsForm::Table => Ok(starts_text(alloc, scale, costs, best, worst)?),
-        StartsForm::Json => {
-            let limit = asked.limits.downtime;
-            Ok(json_starts(alloc, scale, limit, costs, best, worst)?)
-        }
+        StartsForm::Table => Ok(starts_text(alloc, scale, limit, costs, best, worst)?),
+        StartsForm::Json => Ok(json_starts(alloc, scale, limit, costs, best, worst)?),
         StartsForm::Chart => chart(alloc, asked, found, log),
     }
 }

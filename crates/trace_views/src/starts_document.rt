@@ -3,10 +3,12 @@
 ghost use Rattle.std.specs.Prelude.{◌≡◌, ◌<◌, ◌++◌, IfOk, OnOk};
 ghost use Rattle.std.specs.List.{flat_map};
 ghost use Rattle.trace_views.specs.Json.{line_of};
-ghost use Rattle.trace_views.specs.StartsJson.{chosen_member, cost_members, cost_numbers, start_object, starts_object};
+ghost use Rattle.trace_views.specs.StartsJson.{chosen_member, cost_members, cost_numbers, errors_member};
+ghost use Rattle.trace_views.specs.StartsJson.{errors_object, start_object, starts_object};
 
 use crate::document::Document;
 use predictions::Cost;
+use predictions::redrawn::Errors;
 use predictions::starts::StartCost;
 use predictions::units::Scale;
 use std::alloc::{AllocError, Global};
@@ -35,6 +37,35 @@ fn write_cost(alloc: Global, out: &mut Document, cost: &Cost) -> Result<(), Allo
     Ok(())
 }
 
+/// Writes standard errors.
+fn write_all(alloc: Global, out: &mut Document, errors: &Errors) -> Result<(), AllocError>
+    ensures { OnOk result (out.new ≡ out.old ++ errors_object errors.now) }
+{
+    out.begin_object()?;
+    out.wide_member("sent_bytes", errors.bytes)?;
+    out.seconds_member(alloc, "time_seconds", errors.time)?;
+    out.seconds_member(alloc, "down_seconds", errors.downtime)?;
+    out.end_object()?;
+    Ok(())
+}
+
+/// Writes standard errors as a member, if they are given.
+pub(crate) fn write_errors(
+    alloc: Global,
+    out: &mut Document,
+    errors: &Option<Errors>,
+) -> Result<(), AllocError>
+    ensures { OnOk result (out.new ≡ out.old ++ errors_member errors.now) }
+{
+    match errors {
+        Some(errors) => {
+            out.key("errors")?;
+            write_all(alloc, out, errors)
+        }
+        None => Ok(()),
+    }
+}
+
 /// Writes a start.
 fn write_start(
     alloc: Global,
@@ -48,6 +79,7 @@ fn write_start(
     out.number_member("start", at.start)?;
     out.seconds_member(alloc, "start_seconds", scale.micros(at.start))?;
     write_cost(alloc, out, &at.cost)?;
+    write_errors(alloc, out, &at.errors)?;
     out.end_object()?;
     Ok(())
 }

@@ -83,10 +83,12 @@ def parts_of(tree):
 
 @functools.lru_cache(maxsize=None)
 def named_in(path):
-    """Returns the laws that a file names for relations, each in a line above its contracts."""
+    """Returns the laws that a file names for relations, in lines above its contracts: "`R` holds of one value alone:
+    `law`", or with more words between."""
     found = {}
-    for relation, names in re.findall(r"^// `(\w+)` holds of one value alone: (.*)\.$", contracts.read(path), re.M):
-        found[relation] = re.findall(r"`([^`]+)`", names)
+    for line in re.findall(r"^// (`\w+` holds\b.*)$", contracts.read(path), re.M):
+        for relation, names in re.findall(r"`(\w+)` (?:holds|does)\b[^:`]*: (`[^`]+`(?:, `[^`]+`)*)", line):
+            found[relation] = re.findall(r"`([^`]+)`", names)
     return found
 
 

@@ -19,6 +19,7 @@ import tempfile
 
 from precopy_dev.edits.files import GATE, PROVER, TWIN, BadEdit, read_edits
 from precopy_dev.tree import TOP as ROOT
+from precopy_dev.tree import crates
 
 RECORD = f"{ROOT}/docs/edits-tried.tsv"
 REFUSED = re.compile(
@@ -37,13 +38,6 @@ def stop(why):
     print(f"edits: {why}", file=sys.stderr)
     print("0 passed, 1 failed")
     sys.exit(2)
-
-
-def listed():
-    """Returns the names of the crates that crates.txt lists."""
-    with open(f"{ROOT}/crates.txt", encoding="utf-8") as lines:
-        heads = [line.split("#")[0].partition(":")[0].split() for line in lines]
-    return [head[0] for head in heads if head]
 
 
 def edits_of(crate, word, kinds):
@@ -170,7 +164,7 @@ def arguments(words):
 
 
 def main(words):
-    given, known, passed = arguments(words), listed(), 0
+    given, known, passed = arguments(words), list(crates()), 0
     names = list(dict.fromkeys(given.crates))
     for name in names:
         if name not in known:

@@ -38,13 +38,23 @@ class Trial(NamedTuple):
     others: Others
 
 
+class Ending(NamedTuple):
+    """Whether the migration ends within the trace, and Kbit of the link and the tick of the start that end it there."""
+
+    ends: bool
+    link: int | None = None
+    start: int | None = None
+
+
 class Remedies(NamedTuple):
-    """Whether the limit is kept, and Kbit of the link, microseconds, and per cent of the guest's speed that keep it."""
+    """Whether the limit is kept, and Kbit of the link, microseconds, and per cent of the guest's speed that keep it;
+    and what ends the migration within the trace."""
 
     is_kept: bool
     link: int | None
     downtime: int | None
     speed: int | None
+    ending: Ending
 
 
 def rate(scale: Scale, link: int) -> int:
@@ -61,7 +71,8 @@ def settings(trial: Trial) -> Settings | None:
     if not 1 <= least <= most <= 1_000_000 or limits.reserve > limits.downtime:
         return None
     threshold = (limits.downtime - limits.reserve) // scale.tick * most // 1_000 + 1
-    if threshold > 65_536:
+    # A copy at the destination is no younger than the start.
+    if threshold > 65_536 or (others.base is not None and others.start < others.base):
         return None
     increment = (most - least) // 10 if others.increment is None else others.increment
     return Settings(least, most, increment, threshold, others.rounds, others.start, others.skip, others.base)
@@ -72,11 +83,20 @@ def ends_well(trial: Trial, plan: Outcome, last: int) -> bool:
     return plan.reason == "few" and plan.stop <= last and downtime <= trial.limits.downtime
 
 
+def last_tick(guest: list[list[int]]) -> int:
+    return max((ticks[-1] for ticks in guest if ticks), default=0)
+
+
 def keeps(guest: list[list[int]], trial: Trial) -> bool:
     """Whether a trial keeps its limit, over a guest of which it is known when each page is written."""
     made = settings(trial)
-    last = max((ticks[-1] for ticks in guest if ticks), default=0)
-    return made is not None and ends_well(trial, planned(guest, made), last)
+    return made is not None and ends_well(trial, planned(guest, made), last_tick(guest))
+
+
+def ends(guest: list[list[int]], trial: Trial) -> bool:
+    """Whether a trial ends within the trace."""
+    made = settings(trial)
+    return made is not None and planned(guest, made).stop <= last_tick(guest)
 
 
 def with_link(trial: Trial, kbit: int) -> Trial:
@@ -85,6 +105,10 @@ def with_link(trial: Trial, kbit: int) -> Trial:
 
 def with_downtime(trial: Trial, micros: int) -> Trial:
     return trial._replace(limits=trial.limits._replace(downtime=micros))
+
+
+def with_start(trial: Trial, tick: int) -> Trial:
+    return trial._replace(others=trial.others._replace(start=tick))
 
 
 def slowed(trial: Trial, percent: int) -> Trial:
@@ -97,17 +121,42 @@ def turn(answers, is_kept: bool, amounts: list[int]) -> tuple[int, int] | None:
     return next(((before, at) for before, at in pairs if answers(at) != is_kept), None)
 
 
+def between(low: int, high: int) -> list[int]:
+    """From an amount to another, by sixteenths."""
+    return [(low * (16 - n) + high * n) // 16 for n in range(17)]
+
+
+def near_turn(answers, is_kept: bool, amounts: list[int]) -> tuple[int, int] | None:
+    """The turn among some amounts, then among those between the two, and once more."""
+    found = turn(answers, is_kept, amounts)
+    for _ in range(2):
+        found = found and turn(answers, is_kept, between(*found))
+    return found
+
+
 def least(answers, start: int) -> int | None:
-    """The least amount that keeps the limit, near a start."""
+    """The least amount with a good answer, near a start."""
     is_kept = answers(start)
     way = [start >> n if is_kept else min(start << n, MOST) for n in range(7)]
-    found = turn(answers, is_kept, way)
+    found = near_turn(answers, is_kept, way)
     if found is None:
         return way[-1] if is_kept else None
-    for _ in range(2):
-        low, high = found
-        found = turn(answers, is_kept, [(low * (16 - n) + high * n) // 16 for n in range(17)])
     return found[0] if is_kept else found[1]
+
+
+def kbit_of(trial: Trial) -> int:
+    """The link, rounded up to whole Kbit."""
+    return -(-trial.limits.link // 125)
+
+
+def ending(guest: list[list[int]], trial: Trial) -> Ending:
+    """What ends a migration within the trace, if it does not."""
+    if ends(guest, trial):
+        return Ending(True)
+    link = least(lambda n: ends(guest, with_link(trial, n)), kbit_of(trial))
+    back = between(min(trial.others.start, last_tick(guest)), trial.others.base or 0)
+    found = near_turn(lambda n: ends(guest, with_start(trial, n)), False, back)
+    return Ending(False, link, found and found[1])
 
 
 def remedies(guest: list[list[int]], trial: Trial) -> Remedies:
@@ -115,7 +164,8 @@ def remedies(guest: list[list[int]], trial: Trial) -> Remedies:
     slower = None if is_kept else turn(lambda n: keeps(guest, slowed(trial, n)), False, list(range(100, 0, -5)))
     return Remedies(
         is_kept,
-        least(lambda n: keeps(guest, with_link(trial, n)), -(-trial.limits.link // 125)),
+        least(lambda n: keeps(guest, with_link(trial, n)), kbit_of(trial)),
         least(lambda n: keeps(guest, with_downtime(trial, n)), trial.limits.downtime),
         slower[1] if slower else None,
+        ending(guest, trial),
     )

@@ -5,10 +5,12 @@ import hashlib
 import io
 import os
 import platform
+import re
 import tarfile
 
-from precopy_dev.packaging import contents, debian, library
+from precopy_dev.packaging import contents, library
 
+LEAST_PYTHON = "3.10"
 INSTALL = """\
 precopy {version}, for Linux on {machine} with the C library glibc {libc} or later.
 The tools need Python {python} or later.
@@ -19,6 +21,13 @@ It runs in place: bin/precopy, bin/precopy-view and bin/precopy-record, .. To in
 
 share/doc/precopy/README.md says what it does.
 """
+
+
+def least_libc(entries):
+    """The C library that machine code needs, by the symbols that it names."""
+    programs = [entry.data for entry in entries if entry.data.startswith(b"\x7fELF")]
+    versions = [version for data in programs for version in re.findall(rb"\0GLIBC_(\d+)\.(\d+)", data)]
+    return "{}.{}".format(*max((int(major), int(minor)) for major, minor in versions))
 
 
 def add(tar, name, entry, moment):
@@ -37,14 +46,13 @@ def build(folder):
     told = library.config("${pcfiledir}/../..", "${prefix}/lib", "${prefix}/include")
     places = contents.places_below("")
     entries = [*contents.contents(places), *library.entries(places, told)]
-    libc = debian.needed_by_programs(entries).partition("(>= ")[2].partition(")")[0]
-    text = INSTALL.format(version=version, machine=machine, libc=libc, python=debian.LEAST_PYTHON)
+    text = INSTALL.format(version=version, machine=machine, libc=least_libc(entries), python=LEAST_PYTHON)
     entries.append(contents.Entry("INSTALL", text.encode()))
     name = f"precopy-{version}-linux-{machine}"
     packed = io.BytesIO()
     with tarfile.open(fileobj=packed, mode="w", format=tarfile.GNU_FORMAT) as tar:
         for entry in sorted(entries, key=lambda entry: entry.place):
-            add(tar, name, entry, debian.moment(contents.version.DATE))
+            add(tar, name, entry, contents.moment(contents.version.DATE))
     data = gzip.compress(packed.getvalue(), 9, mtime=0)
     sum_line = f"{hashlib.sha256(data).hexdigest()}  {name}.tar.gz\n"
     for path, what in ((f"{name}.tar.gz", data), (f"{name}.tar.gz.sha256", sum_line.encode())):

@@ -21,10 +21,10 @@ import sys
 
 from precopy_dev.packaging import archive, compilers, contents, debian, documents, library, notices, options, release
 from precopy_dev.tree import TOP
+from precopy_dev.words import parser_of
 
 # The lists of what an installation put where, in the folder of the tools: of all, and of the library alone.
 OF_ALL, OF_LIBRARY = "installed", "installed-library"
-MAINTAINER = "precopy maintainers <maintainers@precopy.invalid>"
 
 
 def places_of(asked):
@@ -61,7 +61,7 @@ def wanted(asked):
     """Yields what belongs to an installation."""
     places = places_of(asked)
     if asked.what == "install":
-        yield from contents.contents(places)
+        yield from contents.contents(places, asked.python)
     yield from library.entries(places, library.config(asked.prefix, places.library, places.include))
     yield contents.Entry(lists_of(asked)[0])
 
@@ -148,9 +148,7 @@ WORK |= {"uninstall": uninstall, "uninstall-lib": uninstall}
 
 
 def options_of(words):
-    parser = argparse.ArgumentParser(
-        prog="make", description=__doc__, formatter_class=argparse.RawDescriptionHelpFormatter, allow_abbrev=False
-    )
+    parser = parser_of("make", __doc__)
     add = parser.add_argument
     add("what", metavar="WHAT", choices=(*WORK, *PACKED), help="what to do")
     add("--prefix", metavar="DIR", default="/usr/local", help="the folder to install below (/usr/local)")
@@ -158,7 +156,8 @@ def options_of(words):
     for name in contents.Places._fields:
         add(f"--{name}dir", metavar="DIR", help=argparse.SUPPRESS)
     add("--output", metavar="DIR", default=os.path.join(TOP, "out"), help="where packages go (out)")
-    add("--maintainer", metavar="WHO", default=MAINTAINER, help="who answers for a package: a name and <an address>")
+    add("--python", metavar="PATH", default="python3", help="the interpreter that installed tools run (python3)")
+    add("--maintainer", metavar="WHO", help="who answers for a package: a name and <an address> (as in debian/control)")
     return parser.parse_args(words)
 
 

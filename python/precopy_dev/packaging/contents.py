@@ -1,10 +1,10 @@
 """What is installed: each file by its place, its rights and its bytes.
 
-`make install`, packages and tarballs take all of it from here. A package of its own, as for a library, has a name in
-PACKAGES and gives that name to its files.
+`make install`, packages and tarballs take all of it from here. `debian/NAME.install` says which of it is in a package.
 """
 
 import contextlib
+import datetime
 import os
 import shutil
 import subprocess
@@ -66,7 +66,6 @@ class Entry:
     data: bytes = b""
     mode: int = 0o644
     link: Optional[str] = None
-    package: str = "precopy"
 
     def write(self, path):
         """Makes the file or the link at a path, where there is none, with its rights."""
@@ -81,6 +80,7 @@ class Entry:
 MODULE = "out/browser_planner.wasm"
 PAGE = "precopy.html"
 SCAN = f"{PACKAGE}/record/scan.c"
+MONITORING = "packaging/monitoring"
 
 
 class NotBuilt(Exception):
@@ -98,6 +98,12 @@ def program_file(name):
     if not os.access(path, os.X_OK):
         raise NotBuilt(f"{name} is not built: {f'./{name} --help' if name in PROGRAMS else 'make'} builds it")
     return path
+
+
+def moment(date):
+    """Midnight of a day, in seconds."""
+    day = datetime.date.fromisoformat(date)
+    return int(datetime.datetime(day.year, day.month, day.day, tzinfo=datetime.timezone.utc).timestamp())
 
 
 @contextlib.contextmanager
@@ -171,6 +177,12 @@ def services(places) -> Iterator[Entry]:
             yield Entry(os.path.join(places.systemd, name), read(f"packaging/{name}"))
 
 
+def monitoring(places) -> Iterator[Entry]:
+    """What an operator of Prometheus takes: alerts, a dashboard, and limits to begin with."""
+    for name in sorted(os.listdir(os.path.join(TOP, MONITORING))):
+        yield Entry(os.path.join(places.share, "monitoring", name), read(f"{MONITORING}/{name}"))
+
+
 def pages(places) -> Iterator[Entry]:
     """Manuals and completions."""
     programs, tools = told_by_help()
@@ -239,6 +251,7 @@ def sources_below(folder) -> Iterator[str]:
 def contents(places, python="python3") -> Iterator[Entry]:
     yield from commands(places, python)
     yield from services(places)
+    yield from monitoring(places)
     yield from pages(places)
     yield from page_that_plans(places)
     yield from texts(places)

@@ -26,15 +26,15 @@ RENAMED = {
     "They read a trace from standard input.": "They read a trace from standard input. Copy the folder `examples` here\n"
     "to where you may write, and run them there.",
     " (made by `make docs`)": "",
-    "after `make lib` five lines": "with the package `python3-precopy` five lines",
+    "after `make lib` and `export PYTHONPATH=bindings/python` four": "with the package `python3-precopy` four",
     "`make page` writes `out/precopy.html`": "`precopy-page` prints where `precopy.html` is",
     "`make lib` builds a static and a shared library": "the package `libprecopy-dev` has the library",
     "`make deb` makes `python3-precopy`": "the package `python3-precopy` has the module",
     "`./precopy` and installed programs add": "Programs add",
     "    $ examples/left_out.py": "    $ python3 examples/left_out.py",
-    "need the built `precopy-view`; `README.md` says how long that takes.": "need `precopy-view`.",
+    "predictions the built `precopy-view`": "predictions `precopy-view`",
     "machine code in the\npackage, and in the sources after `make scan`, which needs a C compiler": "machine code",
-    "needs `precopy` on its path": "needs the package",
+    "each with `precopy` on its path": "each with the package",
 }
 PROGRAM = re.compile(r"(?<![\w/.])\./(precopy(?:-view)?)(?![\w-])")
 

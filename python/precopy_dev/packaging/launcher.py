@@ -6,7 +6,7 @@ import re
 import tempfile
 
 from precopy_dev.packaging import compilers
-from precopy_dev.tree import TOP
+from precopy_dev.tree import TOP, read
 
 OPTIONS = ["-std=c99", "-O2", "-Wall", "-Wextra", "-pedantic", "-Wl,--build-id=none", "-Wl,-s", "-Wl,-z,now"]
 
@@ -14,8 +14,7 @@ OPTIONS = ["-std=c99", "-O2", "-Wall", "-Wextra", "-pedantic", "-Wl,--build-id=n
 @functools.cache
 def large_pages():
     """The parts of GLIBC_TUNABLES with which dev/start runs a program."""
-    with open(os.path.join(TOP, "dev", "start"), encoding="utf-8") as file:
-        found = re.search(r"^large_pages='([^']*)'$", file.read(), re.M)
+    found = re.search(r"^large_pages='([^']*)'$", read("dev/start"), re.M)
     if not found:
         raise compilers.Lacks("dev/start does not set large_pages as python/precopy_dev/packaging/launcher.py expects")
     return found[1].replace(" ", ":")

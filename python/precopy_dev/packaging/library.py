@@ -1,4 +1,4 @@
-"""The library for C: libprecopy.a and libprecopy.so.2, made of the proved archive of crates/precopy_c.
+"""The library for C: libprecopy.a and libprecopy.so.3, made of the proved archive of crates/precopy_c.
 
 Both hold the same object, in which only the functions of include/precopy.h have names that others see.
 """
@@ -15,10 +15,8 @@ from precopy_dev.tree import TOP
 ARCHIVE = os.path.join(TOP, "crates", "precopy_c", "out", "libprecopy_c.a")
 FOLDER = os.path.join(TOP, "out", "library")
 # The number of the interface, which is PRECOPY_ABI.
-INTERFACE = 2
+INTERFACE = 3
 NAME = f"libprecopy.so.{INTERFACE}"
-# The packages that it goes into: for programs that are linked with it, and for those who link them.
-RUNTIME, DEVELOPMENT = f"libprecopy{INTERFACE}", "libprecopy-dev"
 # What it is made of besides the archive.
 PARTS = ("include/precopy.h", "packaging/messages.c", "packaging/status_texts.h", "packaging/library.map")
 PARTS += ("python/precopy_tools/version.py",)
@@ -113,15 +111,15 @@ def entries(places, told):
     """Yields what an installation has of the library, of which `make lib` made both forms, with this text for
     pkg-config, and of the crate for Rust, as source."""
     lib = places.library
-    for name, package in (("libprecopy.a", DEVELOPMENT), (NAME, RUNTIME)):
+    for name in ("libprecopy.a", NAME):
         path = os.path.join(FOLDER, name)
         if not os.path.isfile(path):
             raise contents.NotBuilt("the library is not built: make lib builds it")
-        yield contents.Entry(os.path.join(lib, name), contents.read(path), package=package)
+        yield contents.Entry(os.path.join(lib, name), contents.read(path))
     header = contents.read("include/precopy.h")
-    yield contents.Entry(os.path.join(lib, "libprecopy.so"), link=NAME, package=DEVELOPMENT)
-    yield contents.Entry(os.path.join(places.include, "precopy.h"), header, package=DEVELOPMENT)
-    yield contents.Entry(os.path.join(lib, "pkgconfig", "precopy.pc"), told.encode(), package=DEVELOPMENT)
+    yield contents.Entry(os.path.join(lib, "libprecopy.so"), link=NAME)
+    yield contents.Entry(os.path.join(places.include, "precopy.h"), header)
+    yield contents.Entry(os.path.join(lib, "pkgconfig", "precopy.pc"), told.encode())
     for path in contents.sources_below(CRATE):
         place = os.path.join(places.share, "rust", os.path.relpath(path, CRATE))
-        yield contents.Entry(place, contents.read(path), package=DEVELOPMENT)
+        yield contents.Entry(place, contents.read(path))

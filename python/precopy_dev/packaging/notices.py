@@ -10,6 +10,7 @@ import re
 import shutil
 import subprocess
 
+from precopy_dev import tree
 from precopy_dev.tree import TOP
 
 USE = re.compile(r"^\s*(?:pub )?use ([a-z_0-9]+)::", re.M)
@@ -43,14 +44,6 @@ def libraries() -> str:
     return folder
 
 
-def below() -> dict[str, list[str]]:
-    """What each crate of this repository stands on."""
-    with open(os.path.join(TOP, "crates.txt"), encoding="utf-8") as file:
-        lines = [line.partition("#")[0] for line in file]
-    named = [line.split(":") for line in lines if ":" in line]
-    return {name.split()[0]: libraries_below.split() for name, libraries_below in named}
-
-
 def used_by(library: str) -> set[str]:
     """The other libraries of the toolchain that this one uses."""
     used = set()
@@ -63,10 +56,10 @@ def used_by(library: str) -> set[str]:
 
 def linked(crates: tuple[str, ...]) -> list[str]:
     """The libraries of the toolchain that these crates stand on."""
-    ours, found, left = below(), set(), list(crates)
+    ours, found, left = tree.crates(), set(), list(crates)
     while left:
         name = left.pop()
-        more = ours[name] if name in ours else used_by(name)
+        more = ours[name].uses if name in ours else used_by(name)
         left += [it for it in more if it not in found]
         found |= set(more)
     return sorted(name for name in found if name not in ours)

@@ -7,7 +7,6 @@ and TEXT may be -. tools/import makes the same trace from the text again, byte f
 program's name for it (docs/FORMATS.md) and status 1; then there is no text.
 """
 
-import argparse
 import itertools
 import sys
 
@@ -33,10 +32,7 @@ def write_all(lines, file):
 
 
 def main(words):
-    parser = argparse.ArgumentParser(
-        prog="export", description=__doc__, formatter_class=argparse.RawDescriptionHelpFormatter, allow_abbrev=False
-    )
-    version.add_to(parser)
+    parser = version.parser("export", __doc__)
     parser.add_argument("trace", metavar="TRACE")
     parser.add_argument("text", metavar="TEXT")
     parser.add_argument("--json", action="store_true", help=printed.JSON_HELP)

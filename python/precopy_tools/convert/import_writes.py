@@ -16,7 +16,6 @@ it is not what the program wrote. A store across the end of a page is two writes
 TEXT and TRACE may be -. A bad line is refused by its number with status 1, and then there is no trace.
 """
 
-import argparse
 import itertools
 import re
 import struct
@@ -179,10 +178,7 @@ def write_all(writes, writer, most):
 
 
 def options_of(words):
-    parser = argparse.ArgumentParser(
-        prog="import", description=__doc__, formatter_class=argparse.RawDescriptionHelpFormatter, allow_abbrev=False
-    )
-    version.add_to(parser)
+    parser = version.parser("import", __doc__)
     add = parser.add_argument
     add("text", metavar="TEXT")
     add("trace", metavar="TRACE")

@@ -61,10 +61,7 @@ def ticks(word):
 
 
 def main(words):
-    parser = argparse.ArgumentParser(
-        prog="release", description=__doc__, formatter_class=argparse.RawDescriptionHelpFormatter, allow_abbrev=False
-    )
-    version.add_to(parser)
+    parser = version.parser("release", __doc__)
     parser.add_argument("trace", metavar="TRACE")
     parser.add_argument("output", metavar="OUTPUT")
     parser.add_argument("--after", metavar="TICKS", type=ticks, required=True, help="how long a page is not written")

@@ -27,27 +27,7 @@ def base_of(path: str, trace: traces.Trace, records: list, options: argparse.Nam
     if options.record or os.path.exists(samples.path_beside(path)):
         return samples.read(path, trace, [record[:2] for record in records], options.record)
     last = max([options.start, *(record[0] for record in records[-1:])])
-    return samples.Sample(
-        format=samples.FORMAT,
-        trace_sha256=samples.digest(trace.text),
-        trace_pages=trace.pages,
-        trace_writes=trace.writes,
-        first_tick=options.start,
-        last_tick=last,
-        tick_seconds=options.tick,
-        interval_seconds=options.tick,
-        guest_pages=trace.pages,
-        guest_nonzero=trace.pages,
-        counted_pages=trace.pages,
-        sampled_pages=trace.pages,
-        sampled_nonzero=trace.pages,
-        seed=options.seed,
-        method="trace",
-        samples=1,
-        late=0,
-        taken_at=samples.now(),
-        taken_of=f"trace {os.path.basename(path)}",
-    )
+    return samples.of_all_pages(path, trace, (options.start, last), options.tick, options.seed)
 
 
 def write(path: str, trace: traces.Trace, sample: samples.Sample, records: list) -> None:
@@ -61,10 +41,7 @@ def write(path: str, trace: traces.Trace, sample: samples.Sample, records: list)
 
 
 def options_of(given: list[str]) -> argparse.Namespace:
-    parser = argparse.ArgumentParser(
-        prog="thin", description=__doc__, formatter_class=argparse.RawDescriptionHelpFormatter, allow_abbrev=False
-    )
-    version.add_to(parser)
+    parser = version.parser("thin", __doc__)
     add = parser.add_argument
     add("trace", metavar="TRACE")
     add("output", metavar="OUTPUT")

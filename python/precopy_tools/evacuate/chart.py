@@ -4,6 +4,7 @@ import html
 import math
 
 from precopy_tools.evacuate.schedules import Placed
+from precopy_tools.pictures import picture, round_above
 from precopy_tools.quantities import moment_text, size_text, time_text
 
 WIDTH, LEFT, RIGHT, TOP, BELOW = 900, 170, 90, 76, 44
@@ -12,12 +13,14 @@ ROW, ROWS, LEAST_ROW, LEAST_TEXT = 26, 3000, 2, 13
 LEAST_DOWN = 2.0
 STYLE = """<style>
 .paper { fill: #ffffff } text { fill: #1f2328 } .note { fill: #57606a } .grid { stroke: #d8dee4 }
-.moving { fill: #54aeff } .missed { fill: #e3a008 } .unknown { fill: #b6bfc9 } .down { fill: #cf222e }
+.moving { fill: #54aeff } .planned { fill: #b6bfc9 } .missed { fill: #e3a008 }
+.unknown { fill: #b6bfc9 } .down { fill: #cf222e }
 .round { stroke: #ffffff } .limit { stroke: #cf222e; stroke-dasharray: 5 3 }
 .end { fill: #57606a; stroke: #ffffff; stroke-width: 3; paint-order: stroke }
 @media (prefers-color-scheme: dark) {
 .paper { fill: #0d1117 } text { fill: #e6edf3 } .note { fill: #8b949e } .grid { stroke: #30363d }
-.moving { fill: #388bfd } .missed { fill: #d29922 } .unknown { fill: #6e7681 } .down { fill: #ff7b72 }
+.moving { fill: #388bfd } .planned { fill: #6e7681 } .missed { fill: #d29922 }
+.unknown { fill: #6e7681 } .down { fill: #ff7b72 }
 .round { stroke: #0d1117 } .limit { stroke: #ff7b72 } .end { fill: #8b949e; stroke: #0d1117 }
 }
 </style>"""
@@ -27,12 +30,6 @@ KEYS = {
     "unknown": ("its record is too short", 155),
     "down": ("downtime, drawn at least two dots wide", 0),
 }
-
-
-def step_of(seconds: float) -> float:
-    """A round length of time, of which at most ten go into these seconds: 1, 2 or 5 times a power of ten."""
-    power = 10.0 ** math.floor(math.log10(max(seconds, 1e-3) / 10))
-    return next(times * power for times in (1, 2, 5, 10) if times * power * 10 >= seconds * (1 - 1e-9))
 
 
 def ellipsis(name: str, most: int = 22) -> str:
@@ -47,13 +44,13 @@ def kind_of(move: Placed) -> str:
 
 
 class Rows:
-    """Where things are: the times of all rows, which end with the last move, and their height."""
+    """Where things are: the times of so many rows, of which the last one ends then, and their height."""
 
-    def __init__(self, moves: list[Placed]):
-        self.end = max(move.end for move in moves) or 1
-        self.height = min(ROW, max(LEAST_ROW, ROWS / len(moves)))
+    def __init__(self, end: int, count: int, height: int = ROW):
+        self.end = end or 1
+        self.height = min(height, max(LEAST_ROW, ROWS / count))
         self.bar = max(1, self.height * 0.62 if self.height >= LEAST_TEXT else self.height - 1)
-        self.bottom = TOP + self.height * len(moves)
+        self.bottom = TOP + self.height * count
 
     def x_of(self, at: float) -> float:
         return LEFT + at / self.end * (WIDTH - LEFT - RIGHT)
@@ -85,17 +82,24 @@ def bar(move: Placed, ends: list[int], rows: Rows, y: float) -> list[str]:
         *(upright("round", rows.x_of(at), y, y + rows.bar) for at in ends if begin < rows.x_of(at) < stop),
         rectangle("down", down, y, end - down, rows.bar),
     ]
-    if rows.height >= LEAST_TEXT:
-        at = y + rows.bar / 2 + 4
-        lines.append(f'<text x="{LEFT - 8}" y="{at:.1f}" text-anchor="end">{html.escape(ellipsis(name))}</text>')
-        lines.append(f'<text class="end" x="{end + 5:.1f}" y="{at:.1f}">{moment_text(move.end)}</text>')
-    return [*lines, "</g>"]
+    return [*lines, *names(name, end, moment_text(move.end), rows, y), "</g>"]
 
 
-def keys(kinds: set[str]) -> list[str]:
+def names(name: str, end: float, told: str, rows: Rows, y: float) -> list[str]:
+    """The name before the bar of a guest, and what is told behind it."""
+    if rows.height < LEAST_TEXT:
+        return []
+    at = y + rows.bar / 2 + 4
+    return [
+        f'<text x="{LEFT - 8}" y="{at:.1f}" text-anchor="end">{html.escape(ellipsis(name))}</text>',
+        f'<text class="end" x="{end + 5:.1f}" y="{at:.1f}">{told}</text>',
+    ]
+
+
+def keys(kinds: set[str], known: dict[str, tuple[str, int]]) -> list[str]:
     """What the colors mean, of those that are there."""
     lines, x = [], float(LEFT)
-    for kind, (told, width) in KEYS.items():
+    for kind, (told, width) in known.items():
         if kind in kinds:
             lines += [rectangle(kind, x, 36, 10, 10), f'<text class="note" x="{x + 15:g}" y="45">{told}</text>']
             x += width
@@ -103,8 +107,8 @@ def keys(kinds: set[str]) -> list[str]:
 
 
 def axis(rows: Rows) -> list[str]:
-    """A line for each round number of seconds."""
-    lines, step, at = [], step_of(rows.end / 1e6), 0.0
+    """A line for each round number of seconds, of which at most ten go into the picture."""
+    lines, step, at = [], round_above(max(rows.end / 1e6, 1e-3) / 10), 0.0
     while at <= rows.end / 1e6 * (1 + 1e-9):
         x = rows.x_of(at * 1e6)
         lines.append(upright("grid", x, TOP - 6, rows.bottom))
@@ -123,27 +127,18 @@ def limit(rows: Rows, deadline: int) -> list[str]:
     return [upright("limit", x, TOP - 6, rows.bottom), told]
 
 
+def page(rows: Rows, title: str, parts: list[str]) -> str:
+    """A whole picture."""
+    height = math.ceil(rows.bottom + BELOW)
+    head = [STYLE, '<rect class="paper" width="100%" height="100%"/>']
+    text = f'<text x="{LEFT}" y="24" font-size="15">{html.escape(title)}</text>'
+    return picture(WIDTH, height, [*head, text, *parts])
+
+
 def drawn(moves: list[Placed], ends: dict[str, list[int]], title: str, deadline: int) -> str:
     """The picture of some moves: at least one. `ends` are those of each guest's rounds, in microseconds; a deadline of
     0 is none."""
-    rows = Rows(moves)
+    rows = Rows(max(move.end for move in moves), len(moves))
     bars = [bar(move, ends.get(move.guest.name, []), rows, rows.y_of(number)) for number, move in enumerate(moves)]
-    height = math.ceil(rows.bottom + BELOW)
-    head = (
-        f'<svg xmlns="http://www.w3.org/2000/svg" width="{WIDTH}" height="{height}" '
-        f'viewBox="0 0 {WIDTH} {height}" font-family="sans-serif" font-size="12">'
-    )
-    return "\n".join(
-        [
-            head,
-            STYLE,
-            '<rect class="paper" width="100%" height="100%"/>',
-            f'<text x="{LEFT}" y="24" font-size="15">{html.escape(title)}</text>',
-            *keys({"down", *map(kind_of, moves)}),
-            *axis(rows),
-            *limit(rows, deadline),
-            *(line for each in bars for line in each),
-            "</svg>",
-            "",
-        ]
-    )
+    parts = [*keys({"down", *map(kind_of, moves)}, KEYS), *axis(rows), *limit(rows, deadline)]
+    return page(rows, title, [*parts, *(line for each in bars for line in each)])

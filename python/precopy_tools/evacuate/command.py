@@ -14,6 +14,9 @@ prints nothing but the script, and --run performs the schedule itself. It shows 
 one after a failure, and cancels those under way on SIGINT and SIGTERM. It never touches a migration that it did not
 begin.
 
+--at plans guests of series by their records of an hour, in UTC, and --window also holds them back until a calm: as if
+today is as the day of the records. What each move costs at its hour on each day is told beside it.
+
 --settings FILE has limits of single guests, guests that never move at once, a reserve of the link, copies at the
 destination, and monitors and destinations of single guests. --costs prints what each guest costs, one line of JSON for
 each, and no schedule; such a file is taken in place of records, so other hosts can do that part.
@@ -26,16 +29,20 @@ same), and 2 if the words are. With --run it is 0 if all guests have moved, and 
 import argparse
 import concurrent.futures
 import json
+import math
 import sys
+import time
 
 from precopy_tools import printed, version
-from precopy_tools.evacuate import chart
+from precopy_tools.evacuate import calm, chart
 from precopy_tools.evacuate import costs as host_costs
-from precopy_tools.evacuate import documents, gathering, lines, records, run
+from precopy_tools.evacuate import days, documents, gathering, hours, lines, records, report_chart, run
 from precopy_tools.evacuate import schedules as host_schedules
 from precopy_tools.evacuate import settings as host_settings
 from precopy_tools.evacuate import texts, ways
+from precopy_tools.evacuate.costs import Wanted
 from precopy_tools.evacuate.gathering import Gathered, NoSchedule
+from precopy_tools.evacuate.hours import Chosen, Hour
 from precopy_tools.evacuate.options import options_of
 from precopy_tools.evacuate.schedules import Answer, Limits, Placed
 from precopy_tools.evacuate.settings import Settings
@@ -52,16 +59,30 @@ def settings_of(options: argparse.Namespace) -> Settings:
     return settings
 
 
-def gather(options: argparse.Namespace, settings: Settings) -> Gathered:
-    """The guests and their costs; the refused files are told."""
-    paths, told = records.chosen(options.records)
+def gather(options: argparse.Namespace, settings: Settings, hour: Hour) -> tuple[Gathered, Chosen]:
+    """The guests and their costs, and their series if an hour is asked for; the refused files are told."""
+    if hour.opens:
+        chosen = hours.chosen(options.records, hour.of(0))
+    else:
+        paths, told = records.chosen(options.records)
+        chosen = Chosen(paths, {}, {}, told)
     if not (options.costs or options.dry_run or options.json == "-"):
-        print("\n".join([*told, ""]), end="")
+        print("\n".join([*chosen.told, ""]), end="")
     asked = host_costs.Asked(options.program, options.link - settings.reserve, options.at_once or (), options.tick)
-    found = gathering.gathered(paths, asked, settings.limits_of(options.downtime), options.jobs)
+    of_settings = settings.limits_of(options.downtime)
+
+    def limits_of(name: str) -> Wanted:
+        limits = of_settings(name)
+        if name not in chosen.fits:
+            return limits
+        if limits.age is not None:
+            raise Refused(f"{options.settings}: guests: {name}: a copy of some age goes without --at and --window")
+        return limits._replace(start=chosen.fits[name].start)
+
+    found = gathering.gathered(chosen.paths, asked, limits_of, options.jobs)
     found.told()
     gathering.expect_once(found.guests)
-    return found
+    return found, chosen
 
 
 def expect_known(options: argparse.Namespace, settings: Settings, found: Gathered) -> None:
@@ -84,7 +105,7 @@ def write(path: str, text: str) -> None:
 
 def rounds_of(options: argparse.Namespace, found: Gathered, moves: list[Placed]) -> dict[str, list[int]]:
     """When the rounds of each guest end, in microseconds of the whole."""
-    rows = [(move.guest.record, found.asked, move.cost.share, move.guest.limits) for move in moves]
+    rows = [(move.cost.record or move.guest.record, found.asked, move.cost, move.guest.limits) for move in moves]
     ends_of = host_costs.side_by_side(options.jobs, host_costs.rounds_of, rows)
     return {move.guest.name: [move.start + end for end in ends] for move, ends in zip(moves, ends_of)}
 
@@ -95,14 +116,22 @@ def draw(options: argparse.Namespace, found: Gathered, answer: Answer) -> None:
     write(options.picture, chart.drawn(answer.moves, rounds_of(options, found, answer.moves), title, deadline))
 
 
-def answered(options: argparse.Namespace, settings: Settings, found: Gathered) -> Answer:
-    """All schedules, and the best of them."""
+def answered(
+    options: argparse.Namespace, settings: Settings, found: Gathered, starts: dict[str, calm.Starts], hour: Hour
+) -> Answer:
+    """All schedules, and the best of them; in a window by the starts of each guest."""
     gathering.expect_planned(found.guests)
     deadline = micros_of(options.deadline) if options.deadline else 0
     # Of more numbers than guests only those make sense that were asked for.
     numbers = [number for number in found.asked.numbers if options.at_once or number <= len(found.guests)]
-    schedules = gathering.schedules_of(found.guests, numbers)
-    answer = host_schedules.answered(options.scheduler, schedules, deadline, settings.groups())
+    if hour.window:
+        numbers = gathering.numbers_of(found.guests, numbers)
+        held = calm.Held(found.guests, starts, settings.groups(), micros_of(hour.window.length))
+        answer = calm.planned(options.scheduler, held, numbers, deadline)
+        deadline = min(deadline or held.end, held.end)
+    else:
+        schedules = gathering.schedules_of(found.guests, numbers)
+        answer = host_schedules.answered(options.scheduler, schedules, deadline, settings.groups())
     shortest = min(schedule.time for schedule in answer.schedules)
     if deadline and shortest > deadline:
         told = f"no schedule ends within {time_text(deadline)}: the shortest takes {time_text(shortest)}"
@@ -110,32 +139,46 @@ def answered(options: argparse.Namespace, settings: Settings, found: Gathered) -
     return answer
 
 
-def performing(options: argparse.Namespace, settings: Settings, found: Gathered, answer: Answer):
+def performing(options: argparse.Namespace, settings: Settings, names: list[str], answer: Answer, opens: float):
     """The moves of the best schedule in order, and how each guest is reached."""
-    names = [guest.name for guest in found.guests]
     found_ways = ways.ways_of(names, options.way, settings.ways, options.port)
     if options.lines == "qmp":
         ways.expect_apart(found_ways, answer.best.at_once)
-    return lines.steps_of(answer.moves, settings.groups()), found_ways
+    return lines.steps_of(answer.moves, settings.groups(), opens), found_ways
 
 
-def show(options: argparse.Namespace, settings: Settings, found: Gathered, answer: Answer) -> int:
+def days_of(options: argparse.Namespace, found: Gathered, chosen: Chosen, answer: Answer, hour: Hour):
+    """What each move costs on each day that has a record of its hour."""
+    fits = days.fits_of(chosen.series, answer.moves, lambda move: hour.of(move.start))
+    return days.of_moves(answer.moves, fits, found.asked, options.jobs)
+
+
+def show(
+    options: argparse.Namespace, settings: Settings, found: Gathered, chosen: Chosen, answer: Answer, hour: Hour
+) -> int:
     """Prints and writes what was asked for, and performs it if asked. Returns the status."""
-    limits = Limits(found.asked.link, options.downtime, options.deadline)
-    steps, found_ways = performing(options, settings, found, answer)
-    status = 1 if found.refused else texts.status_of(answer.best, options.deadline)
-    told = documents.document(limits, found.guests, answer, found.refused)
+    length = float(hour.window.length) if hour.window else math.inf
+    deadline = min(options.deadline or math.inf, length)
+    limits = Limits(found.asked.link, options.downtime, None if math.isinf(deadline) else deadline)
+    names = [guest.name for guest in found.guests]
+    steps, found_ways = performing(options, settings, names, answer, hour.opens)
+    status = 1 if found.refused else texts.status_of(answer.best, limits.deadline)
+    spread = days_of(options, found, chosen, answer, hour)
+    told = documents.document(limits, found.guests, answer, found.refused, hour, spread)
     if options.dry_run:
         print(lines.script(options.lines, steps, found_ways), end="")
     elif options.json != "-":
-        print("\n".join(texts.of_all(found.guests, answer, found.asked, limits)))
+        print("\n".join(texts.of_all(found.guests, answer, found.asked, limits, hour)))
+        print("".join(f"{line}\n" for line in days.lines(spread)), end="")
         print("" if options.run else f"\n{lines.printed(options.lines, steps, found_ways)}".rstrip("\n"), flush=True)
     if options.picture:
         draw(options, found, answer)
     if options.run:
         run.expect_ready(options, steps, found_ways, status)
-        outcome = run.performed(options, steps, found_ways)
+        outcome = run.performed(options, steps, found_ways, hour.opens)
         told["run"], status = outcome.document(), outcome.status()
+        if options.picture:
+            write(options.picture, report_chart.drawn(outcome, outcome.title()))
     if options.json:
         write(options.json, json.dumps(told, indent=1) + "\n")
     return status
@@ -143,7 +186,8 @@ def show(options: argparse.Namespace, settings: Settings, found: Gathered, answe
 
 def evacuate(options: argparse.Namespace) -> int:
     settings = settings_of(options)
-    found = gather(options, settings)
+    hour = hours.hour_of(options.at, options.window, time.time())
+    found, chosen = gather(options, settings, hour)
     if options.costs:
         for guest in found.guests:
             print(host_costs.line(guest, found.asked))
@@ -151,12 +195,15 @@ def evacuate(options: argparse.Namespace) -> int:
     if not found.guests:
         raise Refused("there is no guest to schedule")
     expect_known(options, settings, found)
+    starts: dict[str, calm.Starts] = {}
+    if hour.window:
+        found, starts = calm.gathered(found, chosen.series, hour.window, options.jobs)
     try:
-        answer = answered(options, settings, found)
+        answer = answered(options, settings, found, starts, hour)
     except NoSchedule as fault:
         version.complain("evacuate", fault)
         return 1 if found.refused else 3
-    return show(options, settings, found, answer)
+    return show(options, settings, found, chosen, answer, hour)
 
 
 def main(given: list[str]) -> int:

@@ -10,6 +10,7 @@ import concurrent.futures
 import json
 import math
 import os
+from collections.abc import Callable
 from typing import NamedTuple
 
 from precopy_tools import refusals
@@ -22,13 +23,14 @@ from precopy_tools.refusals import Refused
 
 FORMAT = "precopy costs 1"
 MOST_MICROS = 1 << 53
-STOOD = "the guest stood still for"
+STOOD, TOO_SHORT = "the guest stood still for", "the recording ends before the migration"
 VERDICTS = ("yes", "no", "unknown")
 
 
 class Wanted(NamedTuple):
     """What one guest may take: its limits, and its copy at the destination, if there is one: the tick of the record
-    from which on it differs, or how old it is when the migration begins, in seconds."""
+    from which on it differs, or how old it is when the migration begins, in seconds. Its plans begin at `start`,
+    so long after the first look."""
 
     downtime: float
     link: float | None = None
@@ -36,11 +38,12 @@ class Wanted(NamedTuple):
     base: int | None = None
     domain: str | None = None
     age: float | None = None
+    start: float = 0.0
 
 
 class Cost(NamedTuple):
-    """What the migration of one guest costs at one share, if it begins where its recording does. The share is at most
-    what a plan of its record can have.
+    """What the migration of one guest costs at one share, if it begins at `start` of its recording, or of `record`. The
+    share is at most what a plan of its record can have.
 
     `least` and `most` are the shortest and the longest time over all starts whose migration ends within the recording,
     and `quiet` is the least bytes of them. `converges` is yes, no, or unknown if the recording ends before the
@@ -59,6 +62,9 @@ class Cost(NamedTuple):
     converges: str
     kept: bool
     why: str
+    hold: int = 0
+    record: str = ""
+    start: float = 0.0
 
 
 class Guest(NamedTuple):
@@ -90,32 +96,6 @@ def is_name(name: object) -> bool:
     return isinstance(name, str) and name != "" and name.isprintable()
 
 
-def whole(path: str, trace: traces.Trace, written: list[tuple[int, int]], tick: float) -> samples.Sample:
-    """The sample of all pages of a trace that has no file beside it."""
-    last = written[-1][0] if written else 0
-    return samples.Sample(
-        format=samples.FORMAT,
-        trace_sha256=samples.digest(trace.text),
-        trace_pages=trace.pages,
-        trace_writes=trace.writes,
-        first_tick=0,
-        last_tick=last,
-        tick_seconds=tick,
-        interval_seconds=tick,
-        guest_pages=trace.pages,
-        guest_nonzero=trace.pages,
-        counted_pages=trace.pages,
-        sampled_pages=trace.pages,
-        sampled_nonzero=trace.pages,
-        seed=0,
-        method="trace",
-        samples=1,
-        late=0,
-        taken_at=samples.now(),
-        taken_of=f"trace {os.path.basename(path)}",
-    )
-
-
 def planner_of(path: str, asked: Asked, limits: Wanted) -> Forecast:
     """The plans of one record, to a destination with a copy if there is one. With an old copy they begin as long after
     the first look as the copy is old, and it differs by all that was written since the first look."""
@@ -125,7 +105,7 @@ def planner_of(path: str, asked: Asked, limits: Wanted) -> Forecast:
     if path.endswith(LIGHT) or os.path.exists(samples.path_beside(path)):
         sample = samples.read(path, trace, written)
     else:
-        sample = whole(path, trace, written, asked.tick)
+        sample = samples.of_all_pages(path, trace, (0, written[-1][0] if written else 0), asked.tick)
     if base is not None and base > sample.first_tick:
         begins = f"which begins at tick {sample.first_tick:,}"
         raise Refused(f"{path}: a copy of tick {base:,} is newer than the record, {begins}")
@@ -133,6 +113,8 @@ def planner_of(path: str, asked: Asked, limits: Wanted) -> Forecast:
     forecast.begin_with(base)
     if limits.age is not None:
         begin_with_old_copy(path, forecast, limits.age)
+    elif limits.start:
+        forecast.begin_after(limits.start)
     return forecast
 
 
@@ -157,7 +139,7 @@ def missed(told: dict, limits: Wanted, sample: samples.Sample) -> str:
     if sample.stood_still:
         return f"{STOOD} {sample.still_text()} of its recording"
     if told["converges"] == "unknown":
-        return "the recording ends before the migration"
+        return TOO_SHORT
     migration, found = told["migration"], []
     if told["kept"] == "no":
         found.append(over("downtime", migration["down_seconds"], limits.downtime))
@@ -181,13 +163,18 @@ def numbers_of_plan(told: dict) -> tuple[int, int, int]:
 def cost_of(planner: Forecast, asked: Asked, limits: Wanted, at_once: int) -> Cost:
     share = asked.link / at_once
     link = Link(min(share, limits.link or share, planner.most_link()), limits.downtime)
-    told = planner.told(link)
+    told, start = planner.told(link), limits.start
+    if told["converges"] == "unknown" and start:
+        planner.begin_after(0.0)
+        told, start = planner.told(link), 0.0
     cost = numbers(told["migration"]) if "migration" in told else numbers_of_plan(planner.plan(link))
+    if start != limits.start:
+        planner.begin_after(limits.start)
     ranges = told.get("starts")
     least, most = (numbers(ranges[end]) if ranges else cost for end in ("least", "greatest"))
     why = missed(told, limits, planner.sample)
     verdict = "unknown" if planner.sample.stood_still else told["converges"]
-    return Cost(at_once, link.bandwidth, *cost, least[0], most[0], least[1], verdict, not why, why)
+    return Cost(at_once, link.bandwidth, *cost, least[0], most[0], least[1], verdict, not why, why, start=start)
 
 
 def guest_of(path: str, asked: Asked, limits: Wanted) -> Guest:
@@ -205,10 +192,10 @@ def guest_of(path: str, asked: Asked, limits: Wanted) -> Guest:
     return Guest(name, path, sample.taken_of, sample.trace_sha256, limits, costs, unplanned)
 
 
-def try_guest(path: str, asked: Asked, limits: Wanted) -> Guest | str:
-    """The costs of one record, or why it is refused."""
+def tried(function: Callable, path: str, asked: Asked, limits: Wanted):
+    """What a function tells of one record, or why the record is refused."""
     try:
-        return guest_of(path, asked, limits)
+        return function(path, asked, limits)
     except plans.Failed as fault:
         return f"{path}: {fault}"
     except (OSError, Refused) as fault:
@@ -226,14 +213,15 @@ def side_by_side(jobs: int, function, rows: list[tuple]) -> list:
 
 def guests_of(paths: list[str], asked: Asked, limits_of, jobs: int) -> list[Guest | str]:
     """The costs of each record, or why it is refused."""
-    return side_by_side(jobs, try_guest, [(path, asked, limits_of(name_of(path))) for path in paths])
+    return side_by_side(jobs, tried, [(guest_of, path, asked, limits_of(name_of(path))) for path in paths])
 
 
-def rounds_of(path: str, asked: Asked, share: float, limits: Wanted) -> list[int]:
+def rounds_of(path: str, asked: Asked, cost: Cost, limits: Wanted) -> list[int]:
     """When the rounds of one guest end, in microseconds from its start on. A record that is elsewhere has none."""
     if not os.path.exists(path):
         return []
-    rounds = planner_of(path, asked, limits).plan(Link(share, limits.downtime))["rounds"]
+    planner = planner_of(path, asked, limits._replace(start=cost.start))
+    rounds = planner.plan(Link(cost.share, limits.downtime))["rounds"]
     return [micros(each["to_seconds"] - rounds[0]["from_seconds"]) for each in rounds]
 
 
@@ -293,7 +281,7 @@ def expect_kinds(cost: Cost) -> None:
 def expect_same(where: str, guest: Guest, rate: float, asked: Asked, limits_of) -> None:
     if rate != asked.link:
         raise Refused(f"{where}: its link is {rate:g} bytes a second, and not {asked.link:g}")
-    if guest.limits != limits_of(guest.name):
+    if guest.limits._replace(start=0.0) != limits_of(guest.name)._replace(start=0.0):
         raise Refused(f"{where}: the limits of {guest.name} were other ones")
     left = [at_once for at_once in asked.numbers if at_once not in guest.costs and at_once not in guest.unplanned]
     if left:

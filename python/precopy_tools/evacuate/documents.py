@@ -1,6 +1,8 @@
 """What tools/evacuate answers as JSON, as docs/evacuation.schema.json has it."""
 
 from precopy_tools.evacuate.costs import Cost, Guest
+from precopy_tools.evacuate.days import Day
+from precopy_tools.evacuate.hours import Hour, iso_text
 from precopy_tools.evacuate.schedules import Answer, Limits, Placed, Schedule
 from precopy_tools.evacuate.texts import misses
 
@@ -36,23 +38,37 @@ def schedule_document(schedule: Schedule, deadline: float | None) -> dict:
     }
 
 
-def move_document(move: Placed) -> dict:
-    return {
-        "guest": move.guest.name,
+def move_document(move: Placed, hour: Hour, days: dict[str, list[Day]]) -> dict:
+    name, cost = move.guest.name, move.cost
+    told = {
+        "guest": name,
         "start_seconds": move.start / 1e6,
         "end_seconds": move.end / 1e6,
         "slot": move.slot,
     }
+    if hour.opens:
+        told |= {
+            "begin": iso_text(hour.opens + move.start / 1e6),
+            "held_seconds": cost.hold / 1e6,
+            "record": cost.record or move.guest.record,
+            "record_seconds": cost.start,
+            "cost": cost_document(cost),
+            "days": [day.document() for day in days.get(name, [])],
+        }
+    return told
 
 
-def document(limits: Limits, guests: list[Guest], answer: Answer, refused: list[Refusal]) -> dict:
-    """All answers."""
+def document(
+    limits: Limits, guests: list[Guest], answer: Answer, refused: list[Refusal], hour: Hour, days: dict[str, list[Day]]
+) -> dict:
+    """All answers. Of a schedule of an hour there is when it opens, and of each move what it costs on each day."""
     deadline = limits.deadline
     return {
         "format": FORMAT,
         "link_bytes_per_second": limits.link,
         "downtime_seconds": limits.downtime,
         **({"deadline_seconds": deadline} if deadline else {}),
+        **({"opens": iso_text(hour.opens)} if hour.opens else {}),
         "guests": [
             {
                 "name": guest.name,
@@ -65,7 +81,7 @@ def document(limits: Limits, guests: list[Guest], answer: Answer, refused: list[
         "schedules": [schedule_document(each, deadline) for each in answer.schedules],
         "best": {
             "schedule": answer.schedules.index(answer.best),
-            "moves": [move_document(each) for each in answer.moves],
+            "moves": [move_document(each, hour, days) for each in answer.moves],
         },
         "refused": [{"record": path, "why": why} for path, why in refused],
     }

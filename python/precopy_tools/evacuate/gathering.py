@@ -119,8 +119,8 @@ def expect_planned(guests: list[Guest]) -> None:
             version.complain("evacuate", f"{guest.name} keeps its limits {told}")
 
 
-def schedules_of(guests: list[Guest], numbers: Iterable[int]) -> list[host_schedules.Schedule]:
-    """The schedules of those numbers at which each guest has a plan."""
+def numbers_of(guests: list[Guest], numbers: Iterable[int]) -> list[int]:
+    """Those numbers at which each guest has a plan."""
     found = []
     for at_once in numbers:
         without = next((guest for guest in guests if at_once not in guest.costs), None)
@@ -128,7 +128,12 @@ def schedules_of(guests: list[Guest], numbers: Iterable[int]) -> list[host_sched
             told = without.unplanned.get(at_once, "its file of costs has none")
             version.complain("evacuate", f"{at_once} at once: no plan of {without.name}: {told}")
         else:
-            found += host_schedules.orders_of(guests, at_once)
+            found.append(at_once)
     if not found:
         raise NoSchedule("there is no number at once at which each guest has a plan")
     return found
+
+
+def schedules_of(guests: list[Guest], numbers: Iterable[int]) -> list[host_schedules.Schedule]:
+    """The schedules of those numbers."""
+    return [each for at_once in numbers_of(guests, numbers) for each in host_schedules.orders_of(guests, at_once)]

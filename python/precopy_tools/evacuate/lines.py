@@ -1,10 +1,12 @@
 """What performs a schedule: lines for QEMU's monitors, and scripts for `sh` with virsh or for `python3` with QMP."""
 
 import json
+import math
 import os
 import shlex
 from typing import NamedTuple
 
+from precopy_tools.evacuate import hours
 from precopy_tools.evacuate.schedules import Placed
 from precopy_tools.evacuate.ways import Way
 from precopy_tools.quantities import time_text
@@ -20,9 +22,11 @@ state=$(mktemp -d) || exit 1
 trap 'rm -r "$state"' EXIT
 trap ': > "$state/stop"' INT TERM HUP
 
-# move NUMBER BEFORE DOMAIN DOWNTIME SPEED URI: moves a guest as soon as that of number BEFORE has moved.
+# move NUMBER BEFORE DOMAIN DOWNTIME SPEED URI [TIME]: moves a guest as soon as that of number BEFORE has moved, and not
+# before a time in Unix seconds.
 move() {{
     until [ "$2" = 0 ] || [ -e "$state/$2" ] || [ -e "$state/stop" ]; do sleep 0.1; done
+    until [ "$(date +%s)" -ge "${{7:-0}}" ] || [ -e "$state/stop" ]; do sleep 1; done
     [ ! -e "$state/stop" ] || return 1
     echo "$3 begins"
     if virsh migrate-setmaxdowntime --domain "$3" --downtime "$4" &&
@@ -44,13 +48,14 @@ until wait; do :; done
 
 class Step(NamedTuple):
     """The move of a guest, in a script: its number from 1 on; those that have to have moved before, that of its slot
-    and that of its group, with 0 for none; and when it begins."""
+    and that of its group, with 0 for none; and when it begins, which is not before a time in Unix seconds."""
 
     number: int
     move: Placed
     of_slot: int
     of_group: int
     when: str
+    not_before: int = 0
 
 
 def milliseconds(limit: float) -> int:
@@ -62,17 +67,30 @@ def mebibytes(rate: float) -> int:
     return max(1, int(rate) >> 20)
 
 
-def steps_of(moves: list[Placed], groups: dict[str, int]) -> list[Step]:
-    """The moves in their order, each with those that it waits for."""
+def steps_of(moves: list[Placed], groups: dict[str, int], opens: float = 0.0) -> list[Step]:
+    """The moves in their order, each with those that it waits for. The schedule opens at a time in Unix seconds, or at
+    any time: then no guest is held back."""
     found: list[Step] = []
     for number, move in enumerate(moves, 1):
         group = groups.get(move.guest.name, 0)
         slot = [step for step in found if step.move.slot == move.slot]
         same = [step for step in found if group and groups.get(step.move.guest.name, 0) == group]
         before = max([*slot[-1:], *same[-1:]], key=lambda step: step.move.end, default=None)
-        when = f"when {before.move.guest.name} has moved, after about {time_text(move.start)}" if before else "at once"
-        found.append(Step(number, move, slot[-1].number if slot else 0, same[-1].number if same else 0, when))
+        is_timed = opens and (move.cost.hold or not before)
+        not_before = math.ceil(opens + move.start / 1e6) if is_timed else 0
+        when = when_text(move, before, not_before)
+        of_slot, of_group = (steps[-1].number if steps else 0 for steps in (slot, same))
+        found.append(Step(number, move, of_slot, of_group, when, not_before))
     return found
+
+
+def when_text(move: Placed, before: Step | None, not_before: int) -> str:
+    """When a guest begins, in words."""
+    hour = f"not before {hours.day_text(not_before)} {hours.clock_text(not_before)} UTC" if not_before else ""
+    if before is None:
+        return hour or "at once"
+    moved = f"when {before.move.guest.name} has moved"
+    return f"{moved}, and {hour}" if hour else f"{moved}, after about {time_text(move.start)}"
 
 
 def slots_of(steps: list[Step]) -> list[list[Step]]:
@@ -92,6 +110,7 @@ def virsh_line(step: Step, to: str) -> str:
     limits, before = step.move.guest.limits, 0 if step.of_group == step.of_slot else step.of_group
     words = [step.number, before, limits.domain or step.move.guest.name]
     words += [milliseconds(limits.downtime), mebibytes(step.move.cost.share), to]
+    words += [step.not_before] if step.not_before else []
     return f"move {' '.join(shlex.quote(str(word)) for word in words)}"
 
 
@@ -136,6 +155,7 @@ def qmp_script(steps: list[Step], ways: dict[str, Way]) -> str:
             "guest": step.move.guest.name,
             "slot": step.move.slot,
             "before": step.of_group,
+            "not_before": step.not_before,
             "monitor": ways[step.move.guest.name].monitor,
             "commands": qmp_commands(step.move, ways[step.move.guest.name].to)[1:],
         }

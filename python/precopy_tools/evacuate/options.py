@@ -4,7 +4,7 @@ import argparse
 import os
 
 from precopy_tools import places, version, words
-from precopy_tools.evacuate import ways
+from precopy_tools.evacuate import hours, ways
 from precopy_tools.evacuate.ways import Way
 
 PROGRAM, SCHEDULER = places.program("precopy-view"), places.helper("precopy-schedule")
@@ -29,6 +29,8 @@ def add_plan(parser: argparse.ArgumentParser) -> None:
     add("--downtime", metavar="TIME", type=words.seconds, default=0.3, help="limit of each guest (300ms)")
     add("--at-once", metavar="K", type=numbers, help="how many at once, and no other numbers; several with commas")
     add("--deadline", metavar="TIME", type=words.seconds, help="limit of the whole, as 20m")
+    add("--at", metavar="HH:MM", type=hours.clock, help="of series, by the records of this hour in UTC, or of now")
+    add("--window", metavar="HH:MM-HH:MM", type=hours.window, help="move within it, and hold guests back until a calm")
     add("--settings", metavar="FILE", help="limits of single guests, in JSON")
     add("--jobs", metavar="N", type=words.count, default=PROCESSORS, help="processes at a time (one a processor)")
     add("--tick", metavar="TIME", type=words.seconds, default=0.001, help="of traces without NAME.json (1ms)")
@@ -40,7 +42,7 @@ def add_answers(parser: argparse.ArgumentParser) -> None:
     add = parser.add_argument
     add("--costs", action="store_true", help="print the costs of each guest, one line of JSON for each")
     add("--json", metavar="PATH", help="write all answers as JSON; - is standard output, in place of the table")
-    add("--picture", metavar="PATH", help="write the best schedule as SVG")
+    add("--picture", metavar="PATH", help="write the best schedule as SVG, and with --run what was beside it")
     add("--lines", choices=KINDS, default="virsh", help="what performs it: libvirt's virsh, or QEMU's monitors (virsh)")
     add("--to", metavar="URI", type=ways.template, help="the destination; {name}, {n} and {port} are each guest's own")
     add("--monitor", metavar="SOCKET", type=ways.template, help="QEMU's monitor of each guest, with the same parts")
@@ -56,13 +58,7 @@ def add_run(parser: argparse.ArgumentParser) -> None:
 
 
 def options_of(given: list[str], description: str | None) -> argparse.Namespace:
-    parser = argparse.ArgumentParser(
-        prog="evacuate",
-        description=description,
-        formatter_class=argparse.RawDescriptionHelpFormatter,
-        allow_abbrev=False,
-    )
-    version.add_to(parser)
+    parser = version.parser("evacuate", description)
     for add in (add_plan, add_answers, add_run):
         add(parser)
     options = parser.parse_args(given)
@@ -78,6 +74,10 @@ def expect_fitting(parser: argparse.ArgumentParser, options: argparse.Namespace)
     """Refuses words that do not go together."""
     if options.costs and not options.at_once:
         parser.error("--costs needs --at-once: the numbers at once whose costs are wanted")
+    if options.at is not None and options.window:
+        parser.error("--at and --window are two things: take one")
+    if options.costs and options.window:
+        parser.error("--costs goes without --window: what is held back is not known of costs alone")
     if options.costs + options.dry_run + options.run > 1:
         parser.error("--costs, --dry-run and --run are three things: take one")
     if options.run and options.json == "-":

@@ -60,6 +60,13 @@ class Outcome(NamedTuple):
     def status(self) -> int:
         return 0 if all(move.is_moved for move in self.moves) else NOT_ALL
 
+    def title(self) -> str:
+        """How many have moved, and how long the whole took, beside what was planned."""
+        moved = sum(move.is_moved for move in self.moves)
+        planned = max(move.planned.end for move in self.moves)
+        counted = f"{moved} of {len(self.moves)} guests have moved"
+        return f"{counted}, in {time_text(self.time)}; planned {time_text(planned)}"
+
     def faults(self) -> list[str]:
         """A line for each guest that has not moved."""
         return [
@@ -83,7 +90,7 @@ class Outcome(NamedTuple):
             cells += (size_text(sent), size_text(real), apart(sent, real))
             lines.append(f"{'the whole':<{width}}" + "".join(f"{cell:>13}" for cell in cells))
         else:
-            lines.append(f"{len(done)} of {len(self.moves)} guests have moved, in {time_text(self.time)}")
+            lines.append(self.title().partition(";")[0])
         return lines
 
     @staticmethod

@@ -61,9 +61,11 @@ def move(row):
 
 
 def move_slot(rows):
-    """Moves the guests of a slot, each when that of its group before it has moved."""
+    """Moves the guests of a slot, each when that of its group before it has moved, and not before its time."""
     for row in rows:
         while row["before"] and not MOVED[row["before"]].wait(LOOK) and not NO_MORE.is_set():
+            pass
+        while time.time() < row["not_before"] and not NO_MORE.wait(LOOK):
             pass
         if NO_MORE.is_set():
             return

@@ -45,17 +45,23 @@ def last_of(paths: list[str]) -> str:
     )
 
 
-def chosen(given: list[str]) -> tuple[list[str], list[str]]:
+def groups_of(given: list[str]) -> list[list[str]]:
     """The records and the files of costs among some words, in their order: the name of a series is that of its
-    segments, and the segments of one series are one record. Lines say which segment stands for a guest."""
+    segments, and the segments of one series are one group."""
     groups: dict[str, list[str]] = {}
     for path in series.named(given):
         folder = os.path.dirname(os.path.abspath(path))
         groups.setdefault(os.path.join(folder, name_of(path)) if is_segment(path) else path, []).append(path)
-    found = [last_of(list(dict.fromkeys(paths))) for paths in groups.values()]
+    return [list(dict.fromkeys(paths)) for paths in groups.values()]
+
+
+def chosen(given: list[str]) -> tuple[list[str], list[str]]:
+    """One record of each guest. Lines say which segment stands for a guest."""
+    groups = groups_of(given)
+    found = list(map(last_of, groups))
     told = [
-        f"{name_of(path)}: {os.path.basename(path)} stands for {len(set(paths)):,} segments"
-        for path, paths in zip(found, groups.values())
-        if len(set(paths)) > 1
+        f"{name_of(path)}: {os.path.basename(path)} stands for {len(paths):,} segments"
+        for path, paths in zip(found, groups)
+        if len(paths) > 1
     ]
     return found, told

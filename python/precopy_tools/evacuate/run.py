@@ -100,14 +100,16 @@ class Moving:
 class Run:
     """All moves of a schedule."""
 
-    def __init__(self, moves: list[Moving], stopping: Stopping):
+    def __init__(self, moves: list[Moving], stopping: Stopping, opens: float):
+        """Times count from when the schedule opens, in Unix seconds; 0 is now."""
         self.moves, self.stopping = moves, stopping
         self.by_number = {move.step.number: move for move in moves}
-        self.begun, self.shown, self.lines = time.monotonic(), 0.0, 0
+        self.begun = time.monotonic() + max(0.0, opens - time.time())
+        self.shown, self.lines = 0.0, 0
         self.is_stopped = False
 
     def perform(self) -> None:
-        while self._begin_due() or any(move.is_under_way for move in self.moves):
+        while self._begin_due() or any(move.is_under_way for move in self.moves) or self._holds():
             self.stopping.sleep(time.monotonic() + LOOK)
             if self.stopping.by:
                 self._cancel()
@@ -127,9 +129,17 @@ class Run:
             if move.is_under_way:
                 move.mover.cancel()
 
-    def _is_due(self, move: Moving) -> bool:
+    def _is_next(self, move: Moving) -> bool:
+        """Whether a guest waits for no other one."""
         before = [self.by_number[number] for number in (move.step.of_slot, move.step.of_group) if number]
         return move.seen.state == "waiting" and all(each.seen.state == "moved" for each in before)
+
+    def _is_due(self, move: Moving) -> bool:
+        return self._is_next(move) and time.time() >= move.step.not_before
+
+    def _holds(self) -> bool:
+        """Whether a guest waits for its time alone."""
+        return not self.is_stopped and any(self._is_next(move) for move in self.moves)
 
     def _begin_due(self) -> bool:
         """Begins what is due. Returns whether something was begun."""
@@ -198,11 +208,14 @@ def expect_ready(options: argparse.Namespace, steps: list[Step], ways: dict[str,
         raise Unready("\n".join(["nothing was begun", *found]))
 
 
-def performed(options: argparse.Namespace, steps: list[Step], ways: dict[str, Way]) -> Outcome:
-    """Performs the schedule, and prints what was beside what was planned."""
+def performed(options: argparse.Namespace, steps: list[Step], ways: dict[str, Way], opens: float) -> Outcome:
+    """Performs the schedule, which opens at a time in Unix seconds, and prints what was beside what was planned."""
     kind = host_movers.MOVERS[options.lines]
     moves = [Moving(step, kind(step, ways[step.move.guest.name]), options.patience) for step in steps]
-    run = Run(moves, Stopping())
+    run = Run(moves, Stopping(), opens)
+    for move in moves:
+        if move.step.not_before > time.time():
+            print(f"{move.name} begins {move.step.when}", flush=True)
     try:
         run.perform()
         outcome = run.outcome()

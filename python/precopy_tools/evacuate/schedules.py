@@ -31,7 +31,8 @@ class Placed(NamedTuple):
 
 
 class Schedule(NamedTuple):
-    """One order with one number at once: what it costs, in microseconds and bytes."""
+    """One order with one number at once: what it costs, in microseconds and bytes. It may have costs of its own, as
+    those of other starts."""
 
     at_once: int
     order: str
@@ -40,9 +41,11 @@ class Schedule(NamedTuple):
     sent: int = 0
     downtime: int = 0
     kept: bool = False
+    own: tuple[Cost, ...] = ()
 
     def costs(self) -> list[Cost]:
-        return [guest.costs[self.at_once] for guest in self.guests]
+        """Those of its own, or those of the guests at its number at once."""
+        return list(self.own) or [guest.costs[self.at_once] for guest in self.guests]
 
 
 class Answer(NamedTuple):
@@ -75,10 +78,10 @@ def orders_of(guests: list[Guest], at_once: int) -> list[Schedule]:
 
 
 def line(schedule: Schedule, deadline: int, groups: dict[str, int]) -> str:
-    """A plan as precopy-schedule reads it."""
+    """A plan as precopy-schedule reads it. A guest that is held back has its slot meanwhile."""
     numbers = [schedule.at_once, deadline]
     for guest, cost in zip(schedule.guests, schedule.costs()):
-        numbers += [cost.time, cost.sent, cost.downtime, int(cost.kept), groups.get(guest.name, 0)]
+        numbers += [cost.hold + cost.time, cost.sent, cost.downtime, int(cost.kept), groups.get(guest.name, 0)]
     return " ".join(map(str, numbers)) + "\n"
 
 
@@ -94,7 +97,8 @@ def parsed(schedules: list[Schedule], text: str) -> Answer:
         told.append(schedule._replace(time=time, sent=sent, downtime=downtime, kept=words.endswith(" kept")))
     best = told[numbers_in(lines[len(schedules)])[0]]
     rows = [numbers_in(words) for words in lines[len(schedules) + 1 :]]
-    moves = [Placed(guest, cost, *row) for guest, cost, row in zip(best.guests, best.costs(), rows, strict=True)]
+    held = zip(best.guests, best.costs(), rows, strict=True)
+    moves = [Placed(guest, cost, start + cost.hold, end, slot) for guest, cost, (start, end, slot) in held]
     return Answer(told, best, moves)
 
 

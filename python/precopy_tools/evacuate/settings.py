@@ -9,7 +9,6 @@ own limits; a copy at the destination, by how old it is when the migration begin
 record from which on it differs; another name as a domain; and its own monitor and destination.
 """
 
-import argparse
 from collections.abc import Callable
 from typing import NamedTuple
 
@@ -43,12 +42,7 @@ def quantity(path: str, name: str, value: object, parse: Callable[[str], float])
 
 def text(path: str, name: str, value: object, parse: Callable):
     """What a word of the settings says."""
-    if not isinstance(value, str):
-        raise Refused(f"{path}: {name} is no text: {value!r}")
-    try:
-        return parse(value)
-    except argparse.ArgumentTypeError as fault:
-        raise Refused(f"{path}: {name}: {fault}") from fault
+    return refusals.expect_word(f"{path}: {name}", value, parse)
 
 
 def guest_of(path: str, name: str, value: object) -> dict:

@@ -4,6 +4,7 @@ import math
 from collections.abc import Iterable
 
 from precopy_tools.evacuate.costs import STOOD, Asked, Guest
+from precopy_tools.evacuate.hours import Hour, clock_text, day_text
 from precopy_tools.evacuate.schedules import Answer, Limits, Placed, Schedule
 from precopy_tools.quantities import micros_of, moment_text, size_text, time_text
 
@@ -61,12 +62,14 @@ def doubts(guests: list[Guest], numbers: Iterable[int]) -> list[str]:
 
 
 def table(answer: Answer, deadline: float | None) -> list[str]:
-    """A line for each schedule."""
-    lines = [f"{'at once':>7}  {'order':<18}{'time':>13}{'sent':>13}{'downtime':>13}  limits"]
+    """A line for each schedule. Its time is that of the last move, with all that guests are held back."""
+    names = {id(each): f"{each.order}{', held' * any(cost.hold for cost in each.costs())}" for each in answer.schedules}
+    width = max(18, *(len(name) + 1 for name in names.values()))
+    lines = [f"{'at once':>7}  {'order':<{width}}{'time':>13}{'sent':>13}{'downtime':>13}  limits"]
     for each in answer.schedules:
         mark = "  <- best" if each is answer.best else ""
         lines.append(
-            f"{each.at_once:>7}  {each.order:<18}{time_text(each.time):>13}{size_text(each.sent):>13}"
+            f"{each.at_once:>7}  {names[id(each)]:<{width}}{time_text(each.time):>13}{size_text(each.sent):>13}"
             f"{time_text(each.downtime):>13}  {misses(each, deadline)}{mark}"
         )
     return lines
@@ -78,14 +81,20 @@ def slowed(move: Placed, asked: Asked) -> str:
     return "  the most that a plan of its record has" if move.cost.share < share else ""
 
 
-def best(answer: Answer, asked: Asked) -> list[str]:
+def held(move: Placed, hour: Hour) -> str:
+    """A note of when a guest begins, and for how long it was held back for that."""
+    at = f"  at {clock_text(hour.opens + move.start / 1e6)} UTC" if hour.opens else ""
+    return f"{at}, held back for {time_text(move.cost.hold)}" if move.cost.hold else at
+
+
+def best(answer: Answer, asked: Asked, hour: Hour) -> list[str]:
     """The best schedule: a line for each guest."""
     width = max(len("guest"), *(len(move.guest.name) for move in answer.moves))
     head = f"{'guest':<{width}}{'start':>15}{'end':>15}{'share, Gbit/s':>15}{'sent':>13}{'downtime':>13}"
     lines = [f"best: {answer.best.at_once} at once, {answer.best.order}", f"{head}  time by start"]
     for move in answer.moves:
         cost = move.cost
-        note = f"  {cost.why}" if cost.why else ""
+        note = held(move, hour) + (f"  {cost.why}" if cost.why else "")
         lines.append(
             f"{move.guest.name:<{width}}{moment_text(move.start):>15}{moment_text(move.end):>15}"
             f"{gigabits(cost.share):>15}{size_text(cost.sent):>13}{time_text(cost.downtime):>13}"
@@ -94,14 +103,15 @@ def best(answer: Answer, asked: Asked) -> list[str]:
     return lines
 
 
-def of_all(guests: list[Guest], answer: Answer, asked: Asked, limits: Limits) -> list[str]:
+def of_all(guests: list[Guest], answer: Answer, asked: Asked, limits: Limits, hour: Hour) -> list[str]:
     """All of it."""
     within = f"; all within {time_text(micros_of(limits.deadline))}" if limits.deadline else ""
     limit = time_text(micros_of(limits.downtime))
+    opens = f"; begins at {day_text(hour.opens)} {clock_text(hour.opens)} UTC" if hour.opens else ""
     return [
-        f"{counted(guests)}; link {gigabits(limits.link)} Gbit/s; downtime limit {limit}{within}",
+        f"{counted(guests)}; link {gigabits(limits.link)} Gbit/s; downtime limit {limit}{within}{opens}",
         *table(answer, limits.deadline),
         *doubts(guests, dict.fromkeys(each.at_once for each in answer.schedules)),
         "",
-        *best(answer, asked),
+        *best(answer, asked, hour),
     ]

@@ -92,6 +92,27 @@ class Sample:
         return (json.dumps(told, indent=2) + "\n").encode()
 
 
+def of_all_pages(path: str, trace: traces.Trace, ticks: tuple[int, int], length: float, seed: int = 0) -> Sample:
+    """The sample of all pages of a trace that no file describes: its first and last tick, and the length of a tick."""
+    pages = ("trace_pages", "guest_pages", "guest_nonzero", "counted_pages", "sampled_pages", "sampled_nonzero")
+    return Sample(
+        format=FORMAT,
+        trace_sha256=digest(trace.text),
+        trace_writes=trace.writes,
+        first_tick=ticks[0],
+        last_tick=ticks[1],
+        tick_seconds=length,
+        interval_seconds=length,
+        seed=seed,
+        method="trace",
+        samples=1,
+        late=0,
+        taken_at=now(),
+        taken_of=f"trace {os.path.basename(path)}",
+        **dict.fromkeys(pages, trace.pages),
+    )
+
+
 def is_number(value: object, least: int) -> bool:
     return type(value) is int and least <= value < MOST
 

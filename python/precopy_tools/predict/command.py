@@ -35,10 +35,7 @@ STATUSES = {"yes": 0, "no": 3, "unknown": UNKNOWN}
 
 
 def options_of(given: list[str]) -> argparse.Namespace:
-    parser = argparse.ArgumentParser(
-        prog="predict", description=__doc__, formatter_class=argparse.RawDescriptionHelpFormatter, allow_abbrev=False
-    )
-    version.add_to(parser)
+    parser = version.parser("predict", __doc__)
     add = parser.add_argument
     add("traces", metavar="TRACE", nargs="+", help="a trace of drawn pages, or the name of a series")
     add("--link", metavar="RATE", type=words.link, required=True, help="a second: 10Gbit, 1250MB, 128MiB")

@@ -5,6 +5,8 @@ import html
 import math
 from typing import NamedTuple
 
+from precopy_tools.pictures import picture, round_above
+
 WIDTH, LEFT, RIGHT, TOP = 900, 90, 20, 50
 HEIGHT, GAP, BELOW = 150, 45, 40
 KEPT, NOT_KEPT, AXIS = "#2166ac", "#b2182b", "#666"
@@ -63,18 +65,9 @@ def axis_of(starts: list[Start]) -> Axis:
     return Axis(begin, max(end, begin + datetime.timedelta(seconds=1)), False)
 
 
-def top_of(values: list[float]) -> float:
-    """A round number that is not below any of them: 1, 2 or 5 times a power of ten."""
-    most = max(values)
-    if most <= 0:
-        return 1.0
-    power = 10.0 ** math.floor(math.log10(most))
-    return next(times * power for times in (1, 2, 5, 10) if times * power >= most * (1 - 1e-12))
-
-
 def panel(title: str, places: list[float], values: list[float], starts: list[Start], y: int) -> list[str]:
     """One value by time: a dot for each start, and a scale."""
-    top, right = top_of(values), WIDTH - RIGHT
+    top, right = round_above(max(values)) if max(values) > 0 else 1.0, WIDTH - RIGHT
     lines = [f'<text x="{LEFT}" y="{y - 8}" font-weight="bold">{html.escape(title)}</text>']
     for part in (0, 0.5, 1):
         at = y + HEIGHT * (1 - part)
@@ -102,6 +95,4 @@ def drawn(starts: list[Start], title: str) -> str:
     for place, text in axis.labels():
         lines.append(f'<line x1="{place:.1f}" x2="{place:.1f}" y1="{TOP + 20}" y2="{bottom}" stroke="#eee"/>')
         lines.append(f'<text x="{place:.1f}" y="{bottom + 18}" text-anchor="middle" fill="{AXIS}">{text}</text>')
-    size = f'width="{WIDTH}" height="{bottom + BELOW}" viewBox="0 0 {WIDTH} {bottom + BELOW}"'
-    head = f'<svg xmlns="http://www.w3.org/2000/svg" {size} font-family="sans-serif" font-size="12">'
-    return "\n".join([head, '<rect width="100%" height="100%" fill="white"/>', *lines, "</svg>", ""])
+    return picture(WIDTH, bottom + BELOW, ['<rect width="100%" height="100%" fill="white"/>', *lines])

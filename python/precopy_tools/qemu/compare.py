@@ -29,7 +29,6 @@ The status is 0 if the migration ended and both memories are equal, 3 if it did 
 something failed, and 2 if the words are refused.
 """
 
-import argparse
 import dataclasses
 import os
 import re
@@ -320,13 +319,7 @@ def compare(options, folder, memory_folder, guests):
 
 
 def parser_of():
-    parser = argparse.ArgumentParser(
-        prog="compare-qemu",
-        description=__doc__,
-        formatter_class=argparse.RawDescriptionHelpFormatter,
-        allow_abbrev=False,
-    )
-    version.add_to(parser)
+    parser = version.parser("compare-qemu", __doc__)
     add = parser.add_argument
     add("workload", metavar="WORKLOAD", choices=WORKLOADS, nargs="?", help=", ".join(WORKLOADS))
     add("--workload", metavar="SCRIPT", dest="script", help="a workload of your own: a shell script")

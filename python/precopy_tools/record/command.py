@@ -134,10 +134,7 @@ def tell_plan(recorder, options):
 
 
 def parser_of():
-    parser = argparse.ArgumentParser(
-        prog="record", description=__doc__, formatter_class=argparse.RawDescriptionHelpFormatter, allow_abbrev=False
-    )
-    version.add_to(parser)
+    parser = version.parser("record", __doc__)
     source = parser.add_mutually_exclusive_group()
     source.add_argument("--file", metavar="PATH", help="record this file, a guest's shared memory")
     source.add_argument("--pid", metavar="PID", type=words.process, help="record this process")

@@ -5,6 +5,7 @@ import os
 import select
 import signal
 import sys
+import threading
 import time
 
 from precopy_tools import version
@@ -33,9 +34,14 @@ class Stopping:
             select.select([self.woken], [], [], left)
 
 
+def is_shown():
+    """Whether there is a terminal, and one recording in this process, which its main thread makes."""
+    return sys.stderr.isatty() and threading.current_thread() is threading.main_thread()
+
+
 def show(recorder, begun):
     """Shows on a terminal how far the recording is."""
-    if sys.stderr.isatty():
+    if is_shown():
         writer = recorder.writer
         part = max(writer.writes / writer.limits.writes, writer.size / writer.limits.bytes)
         told = f"{time.monotonic() - begun:.1f} s, {recorder.samples} samples, {writer.writes:,} writes"
@@ -43,7 +49,7 @@ def show(recorder, begun):
 
 
 def hide():
-    if sys.stderr.isatty():
+    if is_shown():
         print("\r\033[K", end="", file=sys.stderr, flush=True)
 
 

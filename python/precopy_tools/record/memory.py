@@ -1,5 +1,6 @@
 """The memory of a running guest, read from outside: sources of pages, and a copy that finds what has changed."""
 
+import bisect
 import os
 from typing import NamedTuple
 
@@ -144,10 +145,6 @@ class Copy:
 
     def page(self, number):
         """Where a page is in the source, and its bytes."""
-        low, high = 0, len(self.chunks)
-        while high - low > 1:
-            middle = (low + high) // 2
-            low, high = (middle, high) if self.chunks[middle].first <= number else (low, middle)
-        chunk = self.chunks[low]
+        chunk = self.chunks[bisect.bisect_right(self.chunks, number, key=lambda it: it.first) - 1]
         at = (number - chunk.first) * PAGE
         return chunk.place + at, chunk.seen[at : at + PAGE]

@@ -60,6 +60,9 @@ class FilePages:
         except OSError:
             return False
 
+    def close(self) -> None:
+        os.close(self.descriptor)
+
 
 class ProcessPages:
     """The pages of a process. A place is an address. What cannot be read counts as zeros."""
@@ -97,6 +100,10 @@ class ProcessPages:
         if not entry:
             raise Gone("the process ended, or runs another program")
         return bool(entry[7] & PRESENT_OR_SWAPPED)
+
+    def close(self) -> None:
+        for descriptor in (self.descriptor, self.pagemap, self.stat):
+            os.close(descriptor)
 
 
 class Block:

@@ -16,6 +16,7 @@ class SampledGuest:
 
     def __init__(self, options, source):
         self.options, self.source, self.process, self.of = options, source, source.process, source.of
+        self.most_counted = samples.MOST_COUNTED
         self.seed = options.seed if options.seed is not None else int.from_bytes(os.urandom(4), "little")
         if source.path:
             self._open_file(source.path)
@@ -64,7 +65,7 @@ class SampledGuest:
 
     def nonzero(self):
         """About how many pages of the guest are not zero, and of how many pages that is known."""
-        counted = samples.draw(self.count, samples.MOST_COUNTED, self.seed + 1)
+        counted = samples.draw(self.count, max(self.most_counted, len(self.numbers)), self.seed + 1)
         found = sum(map(self.is_set, mappings.places_of(self.ranges, counted)))
         return round(self.count * found / len(counted)), len(counted)
 
@@ -72,19 +73,24 @@ class SampledGuest:
 class SampleRecorder:
     """Takes samples of the drawn pages into a writer. Pages are numbered by their first write."""
 
-    def __init__(self, guest, writer, options):
+    def __init__(self, guest, writer, options, watch=None):
+        """`watch` says whether the guest runs, if that is asked elsewhere."""
         self.guest, self.options = guest, options
         self.tracker, self.method, self.cause = guest.tracker()
-        self.nonzero, self.counted = guest.nonzero()
+        try:
+            self.nonzero, self.counted = guest.nonzero()
+        except BaseException:
+            self.tracker.close()
+            raise
         self.first_nonzero, self.is_later = 0, False
         self.unwritten, self.carried = [], []
         self.looked_at = time.monotonic()
-        self.watch = watching.Watch(guest.process, options.qmp, options.domain)
+        self.watch = watch or watching.Watch(guest.process, watching.asking(options.qmp, options.domain))
         self._begin(writer)
 
     def _begin(self, writer):
-        self.writer, self.numbers, self.times = writer, {}, []
         self.samples = self.last = self.late = 0
+        self.writer, self.numbers, self.times = writer, {}, []
         self.taken_at, self.still, self.ran = samples.now(), "", None
         self.watch.begin_anew()
 
@@ -187,3 +193,4 @@ class SampleRecorder:
     def close(self):
         self.watch.end()
         self.tracker.close()
+        self.guest.pages.close()

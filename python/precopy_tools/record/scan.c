@@ -1,5 +1,5 @@
 /* A look at a process, in machine code: which of some pages were written since the last one, by calls of PAGEMAP_SCAN.
- * python/precopy_tools/record/scans.py says which pages are of one call; without this file's library it makes the calls itself. */
+ * scans.py beside it says which pages are of one call; without this file's library it makes the calls itself. */
 
 #include <errno.h>
 #include <stddef.h>

@@ -7,6 +7,7 @@ away. If nothing can be asked, nothing is known of that moment.
 import contextlib
 import threading
 import time
+from collections.abc import Callable
 
 from precopy_tools.qemu import qmp
 from precopy_tools.quantities import micros_of, time_text
@@ -25,6 +26,12 @@ def state_of(process: int) -> str:
         return "X"
 
 
+def runs_by(client: qmp.Client) -> bool | None:
+    """Whether QEMU says that the guest runs."""
+    status = client.ask("query-status")
+    return status.get("running") is True if qmp.is_object(status) else None
+
+
 def told_by(socket: str | None, domain: str | None) -> bool | None:
     """Whether QEMU or libvirt says that the guest runs; None if neither is asked or answers."""
     with contextlib.suppress(qmp.Fault):
@@ -32,16 +39,20 @@ def told_by(socket: str | None, domain: str | None) -> bool | None:
             return domains.virsh("domstate", "--domain", domain).strip() == "running"
         if socket:
             with qmp.Client(socket, SECONDS) as client:
-                status = client.ask("query-status")
-                return status.get("running") is True if qmp.is_object(status) else None
+                return runs_by(client)
     return None
+
+
+def asking(socket: str | None, domain: str | None) -> Callable[[], bool | None] | None:
+    """What asks QEMU or libvirt; None if there is neither."""
+    return (lambda: told_by(socket, domain)) if socket or domain else None
 
 
 class Watch:
     """Asks from when it is made until `end`. `share` is what it found since it was made or begun anew."""
 
-    def __init__(self, process: int | None, socket: str | None = None, domain: str | None = None):
-        self.process, self.socket, self.domain = process, socket, domain
+    def __init__(self, process: int | None, ask: Callable[[], bool | None] | None, every: float = EVERY):
+        self.process, self.ask, self.every = process, ask, every
         self.ran = self.stood = 0.0
         self.lock, self.is_over = threading.Lock(), threading.Event()
         self.at, self.running = time.monotonic(), self._runs()
@@ -53,8 +64,8 @@ class Watch:
         state = state_of(self.process) if self.process is not None else "X"
         if state in STOPPED:
             return False
-        if self.socket or self.domain:
-            return told_by(self.socket, self.domain)
+        if self.ask:
+            return self.ask()
         return None if state in ENDED else True
 
     def _look(self) -> None:
@@ -69,7 +80,7 @@ class Watch:
             self.at, self.running = now, running
 
     def _go_on(self) -> None:
-        while not self.is_over.wait(EVERY):
+        while not self.is_over.wait(self.every):
             self._look()
 
     def share(self) -> float | None:

@@ -1,6 +1,6 @@
 //! Worked examples.
 
-use page_message::is_zero;
+use zero_pages::is_zero;
 
 #[test]
 fn no_bytes(rt: HostRuntime) {

@@ -3,7 +3,7 @@
 use super::{sink, whole};
 use byte_sinks::TestSink;
 use live_engine::{Gate, LiveError, OpenGate, Point};
-use migration_jobs::{Job, Remains, RunError, Show, run};
+use migration_jobs::{Job, RunError, Show, run};
 use rate_limit::{Asked, Settings};
 use std::alloc::{AllocError, Global};
 use std::sync::Wait;
@@ -26,8 +26,7 @@ pub(crate) fn shown<R: Threads + Wait + Sync, G: Gate>(
     let job = Job::Live(Settings::new(asked)?, show);
     let mut source = TestSource::new(bytes, 102, None);
     let mut output = sink(alloc);
-    let remains = Remains::Freed;
-    run(rt, alloc, &job, &mut source, &mut output, gate, remains)?;
+    run(rt, alloc, &job, &mut source, &mut output, gate)?;
     Ok(output)
 }
 

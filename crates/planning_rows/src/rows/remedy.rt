@@ -1,10 +1,11 @@
-//! What keeps limits. The results come from `bench/remedies.py`, which shares no code with the crate.
+//! What keeps limits. The results come from `python/precopy_dev/models/remedies.py`, which shares no code with the
+//! crate.
 
 use super::plan::guest;
 use super::redrawn::WRITES;
 use guest_log::Timeline;
 use page_bitmap::word_count;
-use predictions::remedies::{Remedies, Trial, push_remedies, remedies_of};
+use predictions::remedies::{Ending, Remedies, Trial, push_remedies, remedies_of};
 use predictions::units::{Limits, Scale};
 use rate_limit::Asked;
 use round_planner::RoundRow;
@@ -34,8 +35,16 @@ type Tried = (
     Others,
 );
 
-/// What is found: whether the limit is kept, and the link, the downtime and the speed that keep it.
-type Found = (bool, Option<u64>, Option<u64>, Option<u64>);
+/// Whether a migration ends within the trace, and the link and the start that end it there.
+type Ends = (bool, Option<u64>, Option<u64>);
+
+/// It does as it is, or nothing that was tried does.
+const SOON: Ends = (true, None, None);
+
+const NEVER: Ends = (false, None, None);
+
+/// What is found: whether the limit is kept, and the link, the downtime and the speed that keep it; and its end.
+type Found = (bool, Option<u64>, Option<u64>, Option<u64>, Ends);
 
 /// The settings that limits do not make.
 #[derive(Clone, Copy)]
@@ -50,6 +59,9 @@ enum Others {
     Skipping,
     Late,
     Many,
+    /// Three rounds that skip pages, from a tick near the last one, which may go back to an earlier one.
+    Latest,
+    Based,
 }
 
 impl Others {
@@ -80,6 +92,15 @@ impl Others {
             },
             Others::Many => Asked {
                 rounds: 30,
+                ..skipping
+            },
+            Others::Latest => Asked {
+                start: 3900,
+                ..skipping
+            },
+            Others::Based => Asked {
+                start: 3900,
+                base: Some(1500),
                 ..skipping
             },
         }
@@ -117,18 +138,24 @@ fn both_remedies(alloc: Global, trace: &Trace, trial: &Trial) -> Result<[Remedie
     Ok([owned, lent(alloc, trace, trial)?])
 }
 
-fn remedies((is_kept, link, downtime, speed): Found) -> Remedies {
+fn remedies((is_kept, link, downtime, speed, ends): Found) -> Remedies {
+    let (ends, ending_link, start) = ends;
     Remedies {
         is_kept,
         link,
         downtime,
         speed,
+        ending: Ending {
+            ends,
+            link: ending_link,
+            start,
+        },
     }
 }
 
 #[test]
 fn remedies_of_migrations(rt: HostRuntime) -> Result<(), Fail> {
-    const CASES: [(Tried, Found); 9] = [
+    const CASES: [(Tried, Found); 11] = [
         // the rate is too high after a round; it is not from 11 Kbit a second on
         (
             (
@@ -139,12 +166,18 @@ fn remedies_of_migrations(rt: HostRuntime) -> Result<(), Fail> {
                 Some(2),
                 Others::Long,
             ),
-            (false, Some(11), Some(761_274), Some(50)),
+            (false, Some(11), Some(761_274), Some(50), SOON),
         ),
         // the stop comes after the last tick
         (
             (333, 60, (1175, None), (28_963, 0), None, Others::Skipping),
-            (false, Some(39), Some(832_686), Some(15)),
+            (
+                false,
+                Some(39),
+                Some(832_686),
+                Some(15),
+                (false, Some(16), None),
+            ),
         ),
         (
             (
@@ -155,7 +188,7 @@ fn remedies_of_migrations(rt: HostRuntime) -> Result<(), Fail> {
                 Some(2),
                 Others::Short,
             ),
-            (false, Some(12), None, Some(15)),
+            (false, Some(12), None, Some(15), (false, Some(8), Some(500))),
         ),
         // the first round has so little of the link that more of it or a longer downtime does not help
         (
@@ -167,7 +200,7 @@ fn remedies_of_migrations(rt: HostRuntime) -> Result<(), Fail> {
                 None,
                 Others::Skipping,
             ),
-            (false, None, None, Some(50)),
+            (false, None, None, Some(50), NEVER),
         ),
         (
             (
@@ -178,7 +211,7 @@ fn remedies_of_migrations(rt: HostRuntime) -> Result<(), Fail> {
                 Some(2),
                 Others::Late,
             ),
-            (false, None, None, None),
+            (false, None, None, None, NEVER),
         ),
         (
             (
@@ -189,7 +222,7 @@ fn remedies_of_migrations(rt: HostRuntime) -> Result<(), Fail> {
                 Some(2),
                 Others::Many,
             ),
-            (true, Some(6), Some(22_502), None),
+            (true, Some(6), Some(22_502), None, SOON),
         ),
         // a 64th of either is enough
         (
@@ -201,12 +234,33 @@ fn remedies_of_migrations(rt: HostRuntime) -> Result<(), Fail> {
                 Some(2),
                 Others::AtOnce,
             ),
-            (true, Some(51), Some(22_314), None),
+            (true, Some(51), Some(22_314), None, SOON),
+        ),
+        // an earlier start is enough, though no longer downtime is; it goes back to the copy at the destination
+        (
+            (333, 60, (11_750, None), (28_963, 0), None, Others::Latest),
+            (
+                false,
+                Some(231),
+                None,
+                Some(40),
+                (false, Some(231), Some(3750)),
+            ),
+        ),
+        (
+            (333, 60, (5000, None), (0, 0), None, Others::Based),
+            (
+                false,
+                Some(154),
+                None,
+                Some(25),
+                (false, Some(154), Some(3500)),
+            ),
         ),
         // no settings
         (
             (1000, 60, (0, None), (0, 0), None, Others::Worked),
-            (false, None, None, None),
+            (false, None, None, None, NEVER),
         ),
         (
             (
@@ -217,7 +271,7 @@ fn remedies_of_migrations(rt: HostRuntime) -> Result<(), Fail> {
                 None,
                 Others::Worked,
             ),
-            (false, None, None, None),
+            (false, None, None, None, NEVER),
         ),
     ];
     let alloc = rt.alloc();
@@ -228,21 +282,27 @@ fn remedies_of_migrations(rt: HostRuntime) -> Result<(), Fail> {
     Ok(())
 }
 
-/// The lines on the first of these, on a limit that is kept, and on one that nothing keeps.
+/// The lines on the first of these, on a migration that ends after the trace, on a limit that is kept, and on one that
+/// nothing keeps.
 #[test]
 fn lines_of_remedies(rt: HostRuntime) -> Result<(), Fail> {
     let alloc = rt.alloc();
-    const CASES: [(Found, &str); 3] = [
+    const CASES: [(Found, &str); 4] = [
         (
-            (false, Some(11), Some(761_274), Some(50)),
+            (false, Some(11), Some(761_274), Some(50), SOON),
             "enough: --link 11Kbit\nenough: --downtime 761274us\n\
              enough: the guest slowed to 50 per cent of its speed\n",
         ),
         (
-            (true, Some(6), Some(22_502), None),
+            (false, Some(12), None, Some(15), (false, Some(8), Some(500))),
+            "enough: --link 12Kbit\nenough: the guest slowed to 15 per cent of its speed\n\
+             enough to end within the trace: --link 8Kbit\nenough to end within the trace: --start 500\n",
+        ),
+        (
+            (true, Some(6), Some(22_502), None, SOON),
             "enough: --link 6Kbit\nenough: --downtime 22502us\n",
         ),
-        ((false, None, None, None), ""),
+        ((false, None, None, None, NEVER), ""),
     ];
     for &(found, expected) in &CASES {
         let mut text = Vec::new(alloc);

@@ -15,14 +15,19 @@ trial_in q = record {
   others = settings_of q;
 }
 
--- what was found, with the link in bytes a second: a Kbit is 125 bytes
+-- what was found, with links in bytes a second: a Kbit is 125 bytes
 abbrev pub remedy_numbers : Remedies → RemedyNumbers
 remedy_numbers r = record {
   link = min (unwrap_or r.link 0 * 125) (2 ^ 64 - 1);
   downtime = unwrap_or r.downtime 0;
   speed = unwrap_or r.speed 0;
+  ending_link = min (unwrap_or r.ending.link 0 * 125) (2 ^ 64 - 1);
+  ending_start = unwrap_or r.ending.start 0;
   has_link = if is_some r.link then 1 else 0;
   has_downtime = if is_some r.downtime then 1 else 0;
   has_speed = if is_some r.speed then 1 else 0;
+  has_ending_link = if is_some r.ending.link then 1 else 0;
+  has_ending_start = if is_some r.ending.start then 1 else 0;
   is_kept = if r.is_kept then 1 else 0;
+  ends = if r.ending.ends then 1 else 0;
 }

@@ -1,9 +1,11 @@
 -- Migrations that are tried, and what may be changed of one. To slow the guest is what QEMU's auto-converge does; that
 -- its writes then keep their order, and each tick only lasts longer, is this project's own.
-use Rattle.std.specs.Prelude.{◌≡◌, ℕ, ◌*◌, ◌/◌, ◌^◌, ◌<◌, true, List, Option, None}
+use Rattle.std.specs.Prelude.{◌≡◌, ℕ, ◌*◌, ◌/◌, ◌^◌, ◌<◌, ◌≤◌, true, List, Option, None}
 use Rattle.predictions.specs.Units.Limits.{limits_refusal, settings_in}
 use Rattle.predictions.specs.Units.Scales.{TraceScale, scale_refusal}
 use Rattle.predictions.specs.declared.units.limits.Limits.{Limits}
+use Rattle.predictions.specs.declared.remedies.aim.Aim.{Aim}
+use Rattle.predictions.specs.declared.remedies.aim.Aim.TheVariants as aims
 use Rattle.predictions.specs.declared.remedies.change.Change.{Change}
 use Rattle.predictions.specs.declared.remedies.change.Change.TheVariants as changes
 use Rattle.migration_model.specs.Rates.{AreSettings, MigrationSettings}
@@ -37,29 +39,52 @@ pub record EndsWell (trial : MigrationTrial) (outcome : PlanOutcome) (last_tick 
   pub converges : ends_with_few outcome.reason ≡ true
   pub kept : kept_of (trial_cost trial outcome last_tick) ≡ verdicts.Yes
 
--- a trial keeps its limit: its limits make settings, and the plan of these ends well
-pub record KeepsLimit (pages : ℕ) (touches : List GuestTouch) (trial : MigrationTrial) : Type 0 where
+-- a trial whose plan has this result comes to what is aimed at: it ends well, or at least within the trace
+abbrev pub ComesTo : Aim → MigrationTrial → PlanOutcome → ℕ → Type 0
+ComesTo aims.Limit trial outcome last_tick = EndsWell trial outcome last_tick
+ComesTo aims.End trial outcome last_tick = outcome.stop ≤ last_tick
+
+-- a trial reaches an aim: its limits make settings, and the plan of these comes to it
+pub record Reaches (aim : Aim) (pages : ℕ) (touches : List GuestTouch) (trial : MigrationTrial) : Type 0 where
   pub makes : MakesSettings trial
   pub outcome : PlanOutcome
   pub is_outcome : IsOutcome pages touches (settings_of trial) outcome
-  pub well : EndsWell trial outcome (last_tick_of touches)
+  pub comes : ComesTo aim trial outcome (last_tick_of touches)
 
--- a trial with another amount: of the link in Kbit a second, of the downtime in microseconds, or of the guest's speed
--- in per cent: a tick of a slower guest lasts longer
+-- a trial keeps its limit
+abbrev pub KeepsLimit : ℕ → List GuestTouch → MigrationTrial → Type 0
+KeepsLimit = Reaches aims.Limit
+
+-- a trial ends within the trace
+abbrev pub EndsWithin : ℕ → List GuestTouch → MigrationTrial → Type 0
+EndsWithin = Reaches aims.End
+
+-- a trial with another amount: of the link in Kbit a second, of the downtime in microseconds, of the guest's speed in
+-- per cent (a tick of a slower guest lasts longer), or with another tick at which it begins
 abbrev pub changed : MigrationTrial → Change → ℕ → MigrationTrial
 changed trial changes.Link kbit = record trial { limits = record trial.limits { link = kbit * 125 } }
 changed trial changes.Downtime micros = record trial { limits = record trial.limits { downtime = micros } }
 changed trial changes.Speed percent =
     record trial { scale = record trial.scale { tick = trial.scale.tick * 100 / percent } }
+changed trial changes.Start tick = record trial { others = record trial.others { start = tick } }
 
 -- there is such a trial: its link fits 64 bits, and its scale is accepted
 abbrev pub CanChange : MigrationTrial → Change → ℕ → Type 0
 CanChange trial changes.Link kbit = kbit * 125 < 2 ^ 64
 CanChange trial changes.Downtime micros = micros < 2 ^ 64
 CanChange trial changes.Speed percent = scale_refusal (changed trial changes.Speed percent).scale ≡ None
+CanChange trial changes.Start tick = tick < 2 ^ 64
+
+-- an aim is reached with another amount
+pub record ReachesWith (aim : Aim) (pages : ℕ) (touches : List GuestTouch) (trial : MigrationTrial) (change : Change)
+    (amount : ℕ) : Type 0 where
+  pub can : CanChange trial change amount
+  pub reaches : Reaches aim pages touches (changed trial change amount)
 
 -- the limit is kept with another amount
-pub record KeepsWith (pages : ℕ) (touches : List GuestTouch) (trial : MigrationTrial) (change : Change) (amount : ℕ)
-    : Type 0 where
-  pub can : CanChange trial change amount
-  pub keeps : KeepsLimit pages touches (changed trial change amount)
+abbrev pub KeepsWith : ℕ → List GuestTouch → MigrationTrial → Change → ℕ → Type 0
+KeepsWith = ReachesWith aims.Limit
+
+-- the migration ends within the trace with another amount
+abbrev pub EndsWith : ℕ → List GuestTouch → MigrationTrial → Change → ℕ → Type 0
+EndsWith = ReachesWith aims.End

@@ -1,5 +1,7 @@
 //! How far chance moves a plan, if pages were sampled.
 
+// `AreErrors` holds of one value alone: `one_errors`.
+
 ghost use Rattle.std.specs.Prelude.{◌≡◌, ◌↔◌, ◌≤◌, ◌*◌, ◌-◌, ◌^◌, ℕ, IfOk, IsTrue, List, length};
 ghost use Rattle.predictions.specs.Units.Scales.{IsScale};
 ghost use Rattle.page_bitmap.specs.Listing.{word_count};

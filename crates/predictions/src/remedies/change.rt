@@ -6,6 +6,7 @@ ghost use Rattle.predictions.specs.declared.remedies.change.Change.TheVariants a
 
 use crate::remedies::trial::Trial;
 use crate::units::{Limits, Scale};
+use rate_limit::Asked;
 
 /// How many bytes a second a Kbit a second is.
 pub(crate) const KBIT: u64 = 125;
@@ -20,6 +21,8 @@ pub enum Change {
     /// The speed of the guest, in per cent. A slower guest writes the same in ticks that last longer, rounded down to
     /// whole microseconds.
     Speed,
+    /// The tick at which the first round begins.
+    Start,
 }
 
 /// Returns a trial with another link, if that fits.
@@ -46,6 +49,19 @@ fn with_downtime(trial: &Trial, micros: u64) -> Trial
         limits: Limits {
             downtime: micros,
             ..trial.limits
+        },
+        ..*trial
+    }
+}
+
+/// Returns a trial that begins at another tick.
+fn started(trial: &Trial, tick: u64) -> Trial
+    ensures { result ≡ changed trial.now changes.Start tick }
+{
+    Trial {
+        others: Asked {
+            start: tick,
+            ..trial.others
         },
         ..*trial
     }
@@ -88,6 +104,7 @@ impl Change {
             Change::Link => with_link(trial, amount),
             Change::Downtime => Some(with_downtime(trial, amount)),
             Change::Speed => slowed(trial, amount),
+            Change::Start => Some(started(trial, amount)),
         }
     }
 }

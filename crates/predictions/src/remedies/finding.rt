@@ -2,18 +2,18 @@
 
 ghost use Rattle.std.specs.Prelude.{◌≡◌, ◌≤◌, IfOk, length};
 ghost use Rattle.predictions.specs.Remedies.{AreRemedies};
+ghost use Rattle.predictions.specs.declared.remedies.aim.Aim.TheVariants as aims;
 ghost use Rattle.page_bitmap.specs.Listing.{word_count};
 
-use crate::remedies::change::Change;
-use crate::remedies::search::{least, slowed};
+use crate::remedies::aim::Aim;
+use crate::remedies::change::{Change, KBIT};
+use crate::remedies::ending::{Ending, ending_of};
+use crate::remedies::search::{Goal, least, slowed};
 use crate::remedies::trial::{Trial, keeps_limit};
 use guest_log::Timeline;
 use page_bitmap::word_count;
 use round_planner::RoundRow;
 use std::alloc::{AllocError, Global};
-
-/// How many bytes a second a Kbit a second is.
-const KBIT: u64 = 125;
 
 /// The most rounds.
 const MOST_ROUNDS: usize = 64;
@@ -29,12 +29,25 @@ pub struct Remedies {
     pub downtime: Option<u64>,
     /// To how many per cent of its speed the guest has to be slowed, if the limit is not kept.
     pub speed: Option<u64>,
+    /// Whether the migration ends within the trace, and what ends it there if it does not.
+    pub ending: Ending,
 }
 
-/// Returns whether a trial keeps its limit, over a timeline, and what does.
+/// Returns the goal to keep the limit, by some change.
+fn kept_by(change: Change) -> Goal
+    ensures { result ≡ (record { change = change; aim = aims.Limit }) }
+{
+    Goal {
+        change,
+        aim: Aim::Limit,
+    }
+}
+
+/// Returns whether a trial keeps its limit, over a timeline, and what does; and what ends it within the timeline.
 ///
 /// It allocates nothing: the caller lends a bit of `marks` and a slot of `list` for each page, and 64 slots of `rows`.
-/// What they hold does not matter. It costs as much as some 35 plans, and at most 98.
+/// What they hold does not matter. It costs as much as some 35 plans, and at most 99; of a trial that does not end
+/// within the timeline at most 187.
 pub fn remedies_of<T: Timeline>(
     timeline: &T,
     trial: &Trial,
@@ -52,9 +65,26 @@ pub fn remedies_of<T: Timeline>(
     let micros = trial.limits.downtime;
     Remedies {
         is_kept,
-        link: least(timeline, trial, Change::Link, kbit, marks, list, rows),
-        downtime: least(timeline, trial, Change::Downtime, micros, marks, list, rows),
+        link: least(
+            timeline,
+            trial,
+            kept_by(Change::Link),
+            kbit,
+            marks,
+            list,
+            rows,
+        ),
+        downtime: least(
+            timeline,
+            trial,
+            kept_by(Change::Downtime),
+            micros,
+            marks,
+            list,
+            rows,
+        ),
         speed: slowed(timeline, trial, is_kept, marks, list, rows),
+        ending: ending_of(timeline, trial, marks, list, rows),
     }
 }
 

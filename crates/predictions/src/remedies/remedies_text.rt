@@ -1,9 +1,10 @@
-//! What keeps a limit, as lines.
+//! What keeps a limit, and what ends a migration within the trace, as lines.
 
 ghost use Rattle.std.specs.Prelude.{◌≡◌, ◌++◌, ◌∷◌, [], OnOk};
-ghost use Rattle.predictions.specs.Remedies.Texts.{amount_line, remedies_text};
+ghost use Rattle.predictions.specs.Remedies.Texts.{amount_line, ending_text, remedies_text};
 ghost use Rattle.sweep_report.specs.Lines.{field, line};
 
+use crate::remedies::ending::Ending;
 use crate::remedies::finding::Remedies;
 use std::alloc::AllocError;
 use sweep_report::{end_line, push_field};
@@ -33,8 +34,28 @@ fn push_amount(
     }
 }
 
+/// Appends what ends a migration within the trace.
+#[tactic(auto, unfolding(crate::specs::Remedies::Texts::ending_text))]
+fn push_ending(text: &mut Vec<u8>, ending: &Ending) -> Result<(), AllocError>
+    ensures { OnOk result (text.new.items ≡ text.old.items ++ ending_text ending.now) }
+{
+    push_amount(
+        text,
+        "enough to end within the trace: --link ",
+        ending.link,
+        "Kbit",
+    )?;
+    push_amount(
+        text,
+        "enough to end within the trace: --start ",
+        ending.start,
+        "",
+    )?;
+    Ok(())
+}
+
 /// Appends what keeps a limit as lines, in ASCII, each an alternative: the link and the downtime in words of options,
-/// and the guest's speed. What was not found has no line.
+/// and the guest's speed; and what ends the migration within the trace. What was not found has no line.
 pub fn push_remedies(text: &mut Vec<u8>, remedies: &Remedies) -> Result<(), AllocError>
     ensures { OnOk result (text.new.items ≡ text.old.items ++ remedies_text remedies.now) }
 {
@@ -46,5 +67,6 @@ pub fn push_remedies(text: &mut Vec<u8>, remedies: &Remedies) -> Result<(), Allo
         remedies.speed,
         " per cent of its speed",
     )?;
+    push_ending(text, &remedies.ending)?;
     Ok(())
 }

@@ -1,23 +1,31 @@
-//! The search for the amount at which a limit begins to be kept.
+//! The search for the amount at which an aim begins to be reached.
 
 ghost use Rattle.std.specs.Prelude.{◌≡◌, ◌↔◌, ◌≤◌, ◌/◌, ◌^◌, not, if◌then◌else◌, IfSome, IsTrue, None, Some, length};
-ghost use Rattle.predictions.specs.Remedies.{IsLeast, IsSlowed, TurnsAt, TurnsNowhere, far_way};
-ghost use Rattle.predictions.specs.Remedies.Trials.{KeepsWith};
+ghost use Rattle.predictions.specs.Remedies.{IsFirst, IsLeast, IsSlowed, TurnsAt, TurnsNear, TurnsNowhere, far_way};
+ghost use Rattle.predictions.specs.Remedies.Trials.{KeepsWith, ReachesWith};
 ghost use Rattle.predictions.specs.declared.remedies.change.Change.TheVariants as changes;
 ghost use Rattle.predictions.specs.declared.remedies.way.Way.TheVariants as ways;
 ghost use Rattle.page_bitmap.specs.Listing.{word_count};
 
+use crate::remedies::aim::Aim;
 use crate::remedies::change::Change;
-use crate::remedies::trial::{Trial, keeps_limit};
+use crate::remedies::trial::{Trial, reaches};
 use crate::remedies::way::Way;
 use guest_log::Timeline;
 use round_planner::RoundRow;
 
-/// What is changed, and whether the limit is kept where the search begins.
+/// What is changed, and what is to be reached by that.
+#[derive(Clone, Copy)]
+pub(crate) struct Goal {
+    pub(crate) change: Change,
+    pub(crate) aim: Aim,
+}
+
+/// A goal, and whether it is reached where the search begins.
 #[derive(Clone, Copy)]
 pub(crate) struct Search {
-    pub(crate) change: Change,
-    pub(crate) is_kept: bool,
+    pub(crate) goal: Goal,
+    pub(crate) is_reached: bool,
 }
 
 /// Where the answer turns: the first amount with the other answer, and the amount before it.
@@ -27,11 +35,11 @@ pub(crate) struct Turn {
     pub(crate) at: u64,
 }
 
-/// Returns whether a trial keeps its limit with another amount.
-fn keeps_with<T: Timeline>(
+/// Returns whether a trial reaches a goal with another amount.
+fn reaches_with<T: Timeline>(
     timeline: &T,
     trial: &Trial,
-    change: Change,
+    goal: Goal,
     amount: u64,
     marks: &mut [u64],
     list: &mut [u32],
@@ -40,10 +48,11 @@ fn keeps_with<T: Timeline>(
     requires marks { length marks.old ≡ word_count (T.pages timeline.now) }
     requires list { length list.old ≡ T.pages timeline.now }
     requires rows { 64 ≤ length rows.old }
-    ensures { IsTrue result ↔ KeepsWith (T.pages timeline.now) (T.touches timeline.now) trial.now change amount }
+    ensures { IsTrue result ↔ ReachesWith goal.aim (T.pages timeline.now) (T.touches timeline.now) trial.now goal.change
+        amount }
 {
-    match change.made(trial, amount) {
-        Some(made) => keeps_limit(timeline, &made, marks, list, rows),
+    match goal.change.made(trial, amount) {
+        Some(made) => reaches(timeline, &made, goal.aim, marks, list, rows),
         None => false,
     }
 }
@@ -61,14 +70,14 @@ fn turn_on<T: Timeline>(
     requires marks { length marks.old ≡ word_count (T.pages timeline.now) }
     requires list { length list.old ≡ T.pages timeline.now }
     requires rows { 64 ≤ length rows.old }
-    ensures some { IfSome result (λ turn. TurnsAt (KeepsWith (T.pages timeline.now) (T.touches timeline.now)
-        trial.now search.change) search.is_kept way turn.before turn.at) }
-    ensures none { result ≡ None → TurnsNowhere (KeepsWith (T.pages timeline.now) (T.touches timeline.now)
-        trial.now search.change) search.is_kept way }
+    ensures some { IfSome result (λ turn. TurnsAt (ReachesWith search.goal.aim (T.pages timeline.now)
+        (T.touches timeline.now) trial.now search.goal.change) search.is_reached way turn.before turn.at) }
+    ensures none { result ≡ None → TurnsNowhere (ReachesWith search.goal.aim (T.pages timeline.now)
+        (T.touches timeline.now) trial.now search.goal.change) search.is_reached way }
 {
     for n in 0..way.count() {
         let at = way.amount(n + 1);
-        if keeps_with(timeline, trial, search.change, at, marks, list, rows) != search.is_kept {
+        if reaches_with(timeline, trial, search.goal, at, marks, list, rows) != search.is_reached {
             let before = way.amount(n);
             return Some(Turn { before, at });
         }
@@ -89,10 +98,10 @@ fn closer<T: Timeline>(
     requires marks { length marks.old ≡ word_count (T.pages timeline.now) }
     requires list { length list.old ≡ T.pages timeline.now }
     requires rows { 64 ≤ length rows.old }
-    requires turned { IsTrue (not search.is_kept) ↔ KeepsWith (T.pages timeline.now) (T.touches timeline.now)
-        trial.now search.change turn.at }
-    ensures { TurnsAt (KeepsWith (T.pages timeline.now) (T.touches timeline.now) trial.now search.change)
-        search.is_kept (ways.Between turn.before turn.at) result.before result.at }
+    requires turned { IsTrue (not search.is_reached) ↔ ReachesWith search.goal.aim (T.pages timeline.now)
+        (T.touches timeline.now) trial.now search.goal.change turn.at }
+    ensures { TurnsAt (ReachesWith search.goal.aim (T.pages timeline.now) (T.touches timeline.now) trial.now
+        search.goal.change) search.is_reached (ways.Between turn.before turn.at) result.before result.at }
 {
     let way = Way::Between(turn.before, turn.at);
     match turn_on(timeline, trial, search, way, marks, list, rows) {
@@ -119,11 +128,60 @@ fn kept_side(turn: Turn, is_kept: bool) -> u64
     if is_kept { turn.before } else { turn.at }
 }
 
-/// Returns the least amount that keeps the limit, near a start.
+/// Returns where the answer turns nearest on a way, if it does.
+fn near_turn<T: Timeline>(
+    timeline: &T,
+    trial: &Trial,
+    search: Search,
+    way: Way,
+    marks: &mut [u64],
+    list: &mut [u32],
+    rows: &mut [RoundRow],
+) -> Option<Turn>
+    requires marks { length marks.old ≡ word_count (T.pages timeline.now) }
+    requires list { length list.old ≡ T.pages timeline.now }
+    requires rows { 64 ≤ length rows.old }
+    ensures some { IfSome result (λ turn. TurnsNear (ReachesWith search.goal.aim (T.pages timeline.now)
+        (T.touches timeline.now) trial.now search.goal.change) search.is_reached way turn.before turn.at) }
+    ensures none { result ≡ None → TurnsNowhere (ReachesWith search.goal.aim (T.pages timeline.now)
+        (T.touches timeline.now) trial.now search.goal.change) search.is_reached way }
+{
+    let far = turn_on(timeline, trial, search, way, marks, list, rows)?;
+    let near = closer(timeline, trial, search, far, marks, list, rows);
+    Some(closer(timeline, trial, search, near, marks, list, rows))
+}
+
+/// Returns the first amount of a way that reaches a goal, if that with which it begins does not.
+pub(crate) fn first_on<T: Timeline>(
+    timeline: &T,
+    trial: &Trial,
+    goal: Goal,
+    way: Way,
+    marks: &mut [u64],
+    list: &mut [u32],
+    rows: &mut [RoundRow],
+) -> Option<u64>
+    requires marks { length marks.old ≡ word_count (T.pages timeline.now) }
+    requires list { length list.old ≡ T.pages timeline.now }
+    requires rows { 64 ≤ length rows.old }
+    ensures { IsFirst (ReachesWith goal.aim (T.pages timeline.now) (T.touches timeline.now) trial.now goal.change) way
+        result }
+{
+    let search = Search {
+        goal,
+        is_reached: false,
+    };
+    match near_turn(timeline, trial, search, way, marks, list, rows) {
+        Some(turn) => Some(turn.at),
+        None => None,
+    }
+}
+
+/// Returns the least amount that reaches a goal, near a start.
 pub(crate) fn least<T: Timeline>(
     timeline: &T,
     trial: &Trial,
-    change: Change,
+    goal: Goal,
     start: u64,
     marks: &mut [u64],
     list: &mut [u32],
@@ -132,18 +190,15 @@ pub(crate) fn least<T: Timeline>(
     requires marks { length marks.old ≡ word_count (T.pages timeline.now) }
     requires list { length list.old ≡ T.pages timeline.now }
     requires rows { 64 ≤ length rows.old }
-    ensures { IsLeast (KeepsWith (T.pages timeline.now) (T.touches timeline.now) trial.now change) start result }
+    ensures { IsLeast (ReachesWith goal.aim (T.pages timeline.now) (T.touches timeline.now) trial.now goal.change) start
+        result }
 {
-    let is_kept = keeps_with(timeline, trial, change, start, marks, list, rows);
-    let search = Search { change, is_kept };
-    let way = far_way(start, is_kept);
-    match turn_on(timeline, trial, search, way, marks, list, rows) {
-        Some(far) => {
-            let near = closer(timeline, trial, search, far, marks, list, rows);
-            let nearest = closer(timeline, trial, search, near, marks, list, rows);
-            Some(kept_side(nearest, is_kept))
-        }
-        None => unturned(start, is_kept),
+    let is_reached = reaches_with(timeline, trial, goal, start, marks, list, rows);
+    let search = Search { goal, is_reached };
+    let way = far_way(start, is_reached);
+    match near_turn(timeline, trial, search, way, marks, list, rows) {
+        Some(turn) => Some(kept_side(turn, is_reached)),
+        None => unturned(start, is_reached),
     }
 }
 
@@ -172,9 +227,13 @@ pub(crate) fn slowed<T: Timeline>(
     if is_kept {
         return None;
     }
-    let search = Search {
+    let goal = Goal {
         change: Change::Speed,
-        is_kept,
+        aim: Aim::Limit,
+    };
+    let search = Search {
+        goal,
+        is_reached: is_kept,
     };
     match turn_on(timeline, trial, search, Way::Slower, marks, list, rows) {
         Some(turn) => Some(turn.at),

@@ -1,10 +1,11 @@
 //! Migrations that are tried.
 
 ghost use Rattle.std.specs.Prelude.{◌≡◌, ◌↔◌, ◌≤◌, IfSome, IsTrue, None, length};
-ghost use Rattle.predictions.specs.Remedies.Trials.{EndsWell, KeepsLimit, MakesSettings, settings_of};
+ghost use Rattle.predictions.specs.Remedies.Trials.{ComesTo, EndsWell, KeepsLimit, MakesSettings, Reaches, settings_of};
 ghost use Rattle.page_bitmap.specs.Listing.{word_count};
 
 use crate::cost::Cost;
+use crate::remedies::aim::Aim;
 use crate::units::{Limits, Scale};
 use crate::verdict::Verdict;
 use guest_log::{Timeline, last_tick};
@@ -70,6 +71,40 @@ impl Trial {
         let cost = Cost::new(&self.scale, &self.limits, start, outcome, last_tick);
         matches!(outcome.reason, Reason::Few) && matches!(cost.kept(), Verdict::Yes)
     }
+
+    /// Returns whether the trial comes to what is aimed at if its plan has these sums, over a trace with this last
+    /// tick.
+    fn comes_to(&self, aim: Aim, outcome: &Outcome, last_tick: u64) -> bool
+        ensures { IsTrue result ↔ ComesTo aim self.now outcome.now last_tick }
+    {
+        match aim {
+            Aim::Limit => self.ends_well(outcome, last_tick),
+            Aim::End => outcome.stop <= last_tick,
+        }
+    }
+}
+
+/// Returns whether a trial reaches an aim, over a timeline. It costs as much as a plan.
+pub(crate) fn reaches<T: Timeline>(
+    timeline: &T,
+    trial: &Trial,
+    aim: Aim,
+    marks: &mut [u64],
+    list: &mut [u32],
+    rows: &mut [RoundRow],
+) -> bool
+    requires marks { length marks.old ≡ word_count (T.pages timeline.now) }
+    requires list { length list.old ≡ T.pages timeline.now }
+    requires rows { 64 ≤ length rows.old }
+    ensures { IsTrue result ↔ Reaches aim (T.pages timeline.now) (T.touches timeline.now) trial.now }
+{
+    match trial.settings() {
+        Some(settings) => {
+            let outcome = plan_rows(timeline, &settings, marks, list, rows);
+            trial.comes_to(aim, &outcome, last_tick(timeline))
+        }
+        None => false,
+    }
 }
 
 /// Returns whether a trial keeps its limit, over a timeline.
@@ -88,11 +123,5 @@ pub fn keeps_limit<T: Timeline>(
     requires rows { 64 ≤ length rows.old }
     ensures { IsTrue result ↔ KeepsLimit (T.pages timeline.now) (T.touches timeline.now) trial.now }
 {
-    match trial.settings() {
-        Some(settings) => {
-            let outcome = plan_rows(timeline, &settings, marks, list, rows);
-            trial.ends_well(&outcome, last_tick(timeline))
-        }
-        None => false,
-    }
+    reaches(timeline, trial, Aim::Limit, marks, list, rows)
 }

@@ -1,11 +1,13 @@
-//! The choice of the best and of the worst start.
+//! The order of starts, and the choice of the worst.
 
-ghost use Rattle.std.specs.Prelude.{◌≡◌, ◌≤◌, ◌<◌, ◌&&◌, ◌||◌, ◌==◌, nat_lt, if◌then◌else◌, IfOk, length};
+ghost use Rattle.std.specs.Prelude.{◌≡◌, ◌≤◌, ◌<◌, ◌&&◌, ◌||◌, ◌==◌, nat_lt, IfOk, length};
 ghost use Rattle.std.specs.List.{IsFirstBest};
-ghost use Rattle.predictions.specs.Starts.Choices.{IsChosen, first_price, is_better_start, is_worse_start};
-ghost use Rattle.predictions.specs.Starts.Choices.{is_better_known, is_worse_known, known_of, lateness, misses};
-ghost use Rattle.predictions.specs.Starts.Choices.{second_price};
+ghost use Rattle.predictions.specs.Starts.Choices.{IsChosen, down_error, is_better_known, is_better_start, is_likely};
+ghost use Rattle.predictions.specs.Starts.Choices.{is_worse_known, is_worse_start, known_of, lateness};
+ghost use Rattle.predictions.specs.Starts.Choices.{likely_downtime, overrun};
+ghost use Rattle.predictions.specs.Starts.Costs.{plain_of};
 
+use crate::redrawn::Errors;
 use crate::starts::starting::StartCost;
 use std::alloc::{AllocError, Global};
 
@@ -29,43 +31,67 @@ fn is_less_then(a: u128, b: u128, rest: bool) -> bool
     a < b || a == b && rest
 }
 
-/// Returns 0 if a start keeps the limit, and else 1.
-fn misses_of(at: &StartCost) -> u128
-    ensures { result ≡ misses at.now }
+/// Returns the standard error of a downtime, if one is counted.
+fn down_error_of(errors: &Option<Errors>) -> u128
+    ensures { result ≡ down_error errors.now }
 {
-    if at.cost.is_kept { 0 } else { 1 }
-}
-
-/// Returns what counts first of a start: what it sends if it keeps the limit, and else its downtime.
-fn first_price_of(at: &StartCost) -> u128
-    ensures { result ≡ first_price at.now }
-{
-    if at.cost.is_kept {
-        at.cost.bytes
-    } else {
-        at.cost.downtime
+    match errors {
+        Some(errors) => errors.downtime,
+        None => 0,
     }
 }
 
-/// Returns what counts next of a start.
-fn second_price_of(at: &StartCost) -> u128
-    ensures { result ≡ second_price at.now }
+/// Returns the downtime from a start and two standard errors, as 128 bits hold it.
+fn likely_downtime_of(at: &StartCost) -> u128
+    ensures { result ≡ likely_downtime at.now }
 {
-    if at.cost.is_kept {
-        at.cost.downtime
+    let error = down_error_of(&at.errors);
+    at.cost.downtime.saturating_add(error.saturating_mul(2))
+}
+
+/// Returns whether the limit is likely to be kept from a start: its downtime and two standard errors are within it.
+pub fn is_likely(limit: u64, at: &StartCost) -> bool
+    ensures { result ≡ is_likely limit at.now }
+{
+    likely_downtime_of(at) <= limit as u128
+}
+
+/// Returns what counts first of a start: nothing if the limit is likely to be kept, and else how long the downtime is
+/// likely to be.
+fn overrun_of(limit: u64, at: &StartCost) -> u128
+    ensures { result ≡ overrun limit at.now }
+{
+    if is_likely(limit, at) {
+        0
     } else {
-        at.cost.bytes
+        likely_downtime_of(at)
     }
 }
 
 /// Returns whether a start is better than another.
-fn is_better(at: &StartCost, other: &StartCost) -> bool
-    ensures { result ≡ is_better_start at.now other.now }
+pub(crate) fn is_better(limit: u64, at: &StartCost, other: &StartCost) -> bool
+    ensures { result ≡ is_better_start limit at.now other.now }
 {
     let by_time = at.cost.time < other.cost.time;
-    let by_second = is_less_then(second_price_of(at), second_price_of(other), by_time);
-    let by_first = is_less_then(first_price_of(at), first_price_of(other), by_second);
-    is_less_then(misses_of(at), misses_of(other), by_first)
+    let by_bytes = is_less_then(at.cost.bytes, other.cost.bytes, by_time);
+    is_less_then(overrun_of(limit, at), overrun_of(limit, other), by_bytes)
+}
+
+/// Returns a start without its errors.
+fn plain(at: &StartCost) -> StartCost
+    ensures { result ≡ plain_of at.now }
+{
+    StartCost {
+        errors: None,
+        ..*at
+    }
+}
+
+/// Returns whether a start is worse than another, by the plans alone.
+fn is_worse(limit: u64, at: &StartCost, other: &StartCost) -> bool
+    ensures { result ≡ is_worse_start limit at.now other.now }
+{
+    is_better(limit, &plain(other), &plain(at))
 }
 
 /// Returns 0 if a migration ends within the trace, and else 1.
@@ -76,63 +102,47 @@ fn lateness_of(at: &StartCost) -> u128
 }
 
 /// Returns whether a start is better than another. If nothing is known of one, the other is better.
-pub fn is_better_known(at: &StartCost, other: &StartCost) -> bool
-    ensures { result ≡ is_better_known at.now other.now }
+pub fn is_better_known(limit: u64, at: &StartCost, other: &StartCost) -> bool
+    ensures { result ≡ is_better_known limit at.now other.now }
 {
-    is_less_then(lateness_of(at), lateness_of(other), is_better(at, other))
+    is_less_then(
+        lateness_of(at),
+        lateness_of(other),
+        is_better(limit, at, other),
+    )
 }
 
 /// Returns whether a start is worse than another. If nothing is known of one, the other is worse: it is chosen first.
-pub fn is_worse_known(at: &StartCost, other: &StartCost) -> bool
-    ensures { result ≡ is_worse_known at.now other.now }
+pub fn is_worse_known(limit: u64, at: &StartCost, other: &StartCost) -> bool
+    ensures { result ≡ is_worse_known limit at.now other.now }
 {
-    is_less_then(lateness_of(at), lateness_of(other), is_better(other, at))
-}
-
-/// Returns the place of the first start that no other is better than.
-fn best_place(costs: &[StartCost]) -> usize
-    requires { 1 ≤ length costs.now }
-    ensures { IsFirstBest is_better_start costs.now (length costs.now) result }
-{
-    let mut best = 0;
-    for number in 1..costs.len() {
-        if is_better(&costs[number], &costs[best]) {
-            best = number;
-        }
-    }
-    best
+    is_less_then(
+        lateness_of(at),
+        lateness_of(other),
+        is_worse(limit, at, other),
+    )
 }
 
 /// Returns the place of the first start that no other is worse than.
-fn worst_place(costs: &[StartCost]) -> usize
+fn worst_place(limit: u64, costs: &[StartCost]) -> usize
     requires { 1 ≤ length costs.now }
-    ensures { IsFirstBest is_worse_start costs.now (length costs.now) result }
+    ensures { IsFirstBest (is_worse_start limit) costs.now (length costs.now) result }
 {
     let mut worst = 0;
     for number in 1..costs.len() {
-        if is_better(&costs[worst], &costs[number]) {
+        if is_worse(limit, &costs[number], &costs[worst]) {
             worst = number;
         }
     }
     worst
 }
 
-/// Returns the best of some starts, the first of equals.
-pub fn best_start(costs: &[StartCost]) -> Option<StartCost>
-    ensures { IsChosen is_better_start costs.now result }
+/// Returns the worst of some starts by the plans alone, the first of equals.
+pub fn worst_start(limit: u64, costs: &[StartCost]) -> Option<StartCost>
+    ensures { IsChosen (is_worse_start limit) costs.now result }
 {
     if costs.is_empty() {
         return None;
     }
-    Some(costs[best_place(costs)])
-}
-
-/// Returns the worst of some starts, the first of equals.
-pub fn worst_start(costs: &[StartCost]) -> Option<StartCost>
-    ensures { IsChosen is_worse_start costs.now result }
-{
-    if costs.is_empty() {
-        return None;
-    }
-    Some(costs[worst_place(costs)])
+    Some(costs[worst_place(limit, costs)])
 }

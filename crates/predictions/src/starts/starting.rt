@@ -4,6 +4,7 @@ ghost use Rattle.std.specs.Prelude.{◌≡◌, IfOk};
 ghost use Rattle.predictions.specs.Starts.Costs.{cost_at_start, costs_at_starts};
 
 use crate::cost::Cost;
+use crate::redrawn::Errors;
 use crate::units::{Limits, Scale};
 use std::alloc::{AllocError, Global};
 use std::marker::Model;
@@ -16,6 +17,8 @@ pub struct StartCost {
     pub start: u64,
     /// What the migration costs.
     pub cost: Cost,
+    /// The standard errors of that, if they are counted.
+    pub errors: Option<Errors>,
 }
 
 impl Model for StartCost {
@@ -23,22 +26,24 @@ impl Model for StartCost {
 
     ghost Value = { CostAtStart };
 
-    ghost view = { λ s. record { start = s.start; cost = s.cost } };
+    ghost view = { λ s. record { start = s.start; cost = s.cost; errors = s.errors } };
 
-    ghost inverse = { λ s. record { start = s.start; cost = s.cost } };
+    ghost inverse = { λ s. record { start = s.start; cost = s.cost; errors = s.errors } };
 }
 
-/// Returns what the migration of a case of a sweep costs.
-fn start_cost(scale: &Scale, limits: &Limits, line: &Line, last_tick: u64) -> StartCost
+/// Returns what the migration of a case of a sweep costs, by its plan alone.
+pub(crate) fn start_cost(scale: &Scale, limits: &Limits, line: &Line, last_tick: u64) -> StartCost
     ensures { result ≡ cost_at_start scale.now limits.now last_tick line.now }
 {
     StartCost {
         start: line.settings.asked().start,
         cost: Cost::of_line(scale, limits, line, last_tick),
+        errors: None,
     }
 }
 
-/// Returns what the migration of each case of a sweep costs, over a trace of this scale and with this last tick.
+/// Returns what the migration of each case of a sweep costs by its plan alone, over a trace of this scale and with this
+/// last tick.
 pub fn start_costs(
     alloc: Global,
     scale: &Scale,

@@ -1,14 +1,17 @@
 //! The starts as a table.
 
-ghost use Rattle.std.specs.Prelude.{◌≡◌, ◌++◌, ◌<◌, ◌^◌, IfOk, OnOk};
+ghost use Rattle.std.specs.Prelude.{◌≡◌, ◌++◌, ◌<◌, ◌^◌, IfOk, OnOk, codes};
 ghost use Rattle.std.specs.Fmt.{decimal};
 ghost use Rattle.predictions.specs.Predictions.{kept_of};
-ghost use Rattle.predictions.specs.Quantities.{bytes_text, moment_text, time_text};
-ghost use Rattle.predictions.specs.Starts.Texts.{cell_in, choice_line, chosen_cost, chosen_text, cost_cells, mark_of};
-ghost use Rattle.predictions.specs.Starts.Texts.{right_in, start_row, start_rows, starts_text_of};
+ghost use Rattle.predictions.specs.Quantities.{bytes_text, error_text, moment_text, time_text};
+ghost use Rattle.predictions.specs.Starts.Texts.{cell_in, choice_line, chosen_cost, chosen_downtime, chosen_text};
+ghost use Rattle.predictions.specs.Starts.Texts.{cost_cells, doubt_words, down_spread, mark_of, right_in, start_row};
+ghost use Rattle.predictions.specs.Starts.Texts.{start_rows, starts_text_of};
 
 use crate::cost::Cost;
-use crate::quantities::{push_bytes, push_moment, push_time, push_wide};
+use crate::quantities::{push_bytes, push_error, push_moment, push_time, push_wide};
+use crate::redrawn::Errors;
+use crate::starts::choosing::is_likely;
 use crate::starts::starting::StartCost;
 use crate::units::Scale;
 use crate::verdict::Verdict;
@@ -132,6 +135,51 @@ fn push_rows(
     Ok(())
 }
 
+/// Appends one standard error of a downtime beside it, if one is counted.
+pub fn push_spread(text: &mut Vec<u8>, errors: &Option<Errors>) -> Result<(), AllocError>
+    ensures { OnOk result (text.new.items ≡ text.old.items ++ down_spread errors.now) }
+{
+    match errors {
+        Some(errors) => push_error_of(text, errors.downtime),
+        None => Ok(()),
+    }
+}
+
+/// Appends a standard error, in microseconds, behind its number.
+fn push_error_of(text: &mut Vec<u8>, error: u128) -> Result<(), AllocError>
+    ensures { OnOk result (text.new.items ≡ text.old.items ++ (codes " +- " ++ error_text error)) }
+{
+    text.extend_from_slice(" +- ".as_bytes())?;
+    push_error(text, error)?;
+    Ok(())
+}
+
+/// Returns a word on a limit that is kept, but not likely so.
+fn doubt(limit: u64, at: &StartCost) -> &'static str
+    ensures { result.now ≡ doubt_words limit at.now }
+{
+    if at.cost.is_kept && !is_likely(limit, at) {
+        " by less than two standard errors"
+    } else {
+        ""
+    }
+}
+
+/// Appends how long the guest stands still from a chosen start, and whether the limit is kept.
+#[tactic(auto, unfolding(crate::specs::Starts::Texts::chosen_downtime))]
+fn push_chosen_downtime(text: &mut Vec<u8>, limit: u64, at: &StartCost) -> Result<(), AllocError>
+    ensures { OnOk result (text.new.items ≡ text.old.items ++ chosen_downtime limit at.now) }
+{
+    text.extend_from_slice(", downtime ".as_bytes())?;
+    push_time(text, at.cost.downtime)?;
+    push_spread(text, &at.errors)?;
+    text.extend_from_slice(", ".as_bytes())?;
+    text.extend_from_slice(mark_words(&at.cost).as_bytes())?;
+    text.extend_from_slice(doubt(limit, at).as_bytes())?;
+    end_line(text)?;
+    Ok(())
+}
+
 /// Appends what a migration costs from a chosen start.
 #[tactic(auto, unfolding(crate::specs::Starts::Texts::chosen_cost))]
 fn push_chosen_cost(text: &mut Vec<u8>, cost: &Cost) -> Result<(), AllocError>
@@ -141,36 +189,39 @@ fn push_chosen_cost(text: &mut Vec<u8>, cost: &Cost) -> Result<(), AllocError>
     push_time(text, cost.time)?;
     text.extend_from_slice(", sent ".as_bytes())?;
     push_bytes(text, cost.bytes)?;
-    text.extend_from_slice(", downtime ".as_bytes())?;
-    push_time(text, cost.downtime)?;
-    text.extend_from_slice(", ".as_bytes())?;
-    text.extend_from_slice(mark_words(cost).as_bytes())?;
-    end_line(text)?;
     Ok(())
 }
 
 /// Appends a chosen start.
 #[tactic(auto, unfolding(crate::specs::Starts::Texts::chosen_text))]
-fn push_chosen(text: &mut Vec<u8>, scale: &Scale, at: &StartCost) -> Result<(), AllocError>
-    ensures { OnOk result (text.new.items ≡ text.old.items ++ chosen_text scale.now at.now) }
+fn push_chosen(
+    text: &mut Vec<u8>,
+    scale: &Scale,
+    limit: u64,
+    at: &StartCost,
+) -> Result<(), AllocError>
+    ensures { OnOk result (text.new.items ≡ text.old.items ++ chosen_text scale.now limit at.now) }
 {
     push_moment(text, scale.micros(at.start))?;
     push_field(text, ", --start ", at.start)?;
-    push_chosen_cost(text, &at.cost)
+    push_chosen_cost(text, &at.cost)?;
+    push_chosen_downtime(text, limit, at)
 }
 
 /// Appends the line of a chosen start, or of none.
 fn push_choice(
     text: &mut Vec<u8>,
     scale: &Scale,
+    limit: u64,
     name: &str,
     chosen: &Option<StartCost>,
 ) -> Result<(), AllocError>
-    ensures { OnOk result (text.new.items ≡ text.old.items ++ choice_line scale.now name.now chosen.now) }
+    ensures { OnOk result (text.new.items
+        ≡ text.old.items ++ choice_line scale.now limit name.now chosen.now) }
 {
     text.extend_from_slice(name.as_bytes())?;
     match chosen {
-        Some(at) => push_chosen(text, scale, at),
+        Some(at) => push_chosen(text, scale, limit, at),
         None => text.extend_from_slice(NONE.as_bytes()),
     }
 }
@@ -178,20 +229,23 @@ fn push_choice(
 /// What is printed if no start is known.
 const NONE: &str = "none, since no migration ends within the trace; record longer\n";
 
-/// Returns starts as a table, in ASCII: what a migration costs from each, and which is the best and which the worst.
+/// Returns starts as a table, in ASCII: what a migration costs from each, and which is the best and which the worst,
+/// beside the limit of the downtime.
 pub fn starts_text(
     alloc: Global,
     scale: &Scale,
+    limit: u64,
     costs: &[StartCost],
     best: &Option<StartCost>,
     worst: &Option<StartCost>,
 ) -> Result<Vec<u8>, AllocError>
-    ensures { IfOk result (λ text. text.items ≡ starts_text_of scale.now costs.now best.now worst.now) }
+    ensures { IfOk result (λ text. text.items ≡ starts_text_of scale.now limit costs.now best.now
+        worst.now) }
 {
     let mut text = Vec::new(alloc);
     text.extend_from_slice(HEADING.as_bytes())?;
     push_rows(alloc, &mut text, scale, costs)?;
-    push_choice(&mut text, scale, "best:  ", best)?;
-    push_choice(&mut text, scale, "worst: ", worst)?;
+    push_choice(&mut text, scale, limit, "best:  ", best)?;
+    push_choice(&mut text, scale, limit, "worst: ", worst)?;
     Ok(text)
 }

@@ -1,22 +1,22 @@
 use Rattle.std.proofs.Common.{ℕ, ◌+◌, sym, subst, ◌∙◌, arith}
 use Rattle.std.specs.List.{IsFirstBest}
-use Rattle.browser_planner.specs.Starts.{is_better_answer}
-use Rattle.browser_planner.proofs.Choices.{better_answers, keeps, takes}
+use Rattle.browser_planner.specs.Starts.{is_better_lent}
+use Rattle.browser_planner.proofs.Choices.{better_lents, keeps, takes}
 use Rattle.browser_planner.proofs.starts.best_place.Goals as goal
 use Rattle.browser_planner.proofs.starts.best_place.Goals.{then-is_better_at, else-is_better_at}
 
 pub loop-number-preserved : goal.loop-number-preserved
 loop-number-preserved c =
-    let answers = c.args.answers.now in
+    let starts = c.args.starts.now in
     let i = c.loop-number.number in
-    let P : ℕ → Type 0 = λ b. IsFirstBest is_better_answer answers (i + 1) b in
+    let P : ℕ → Type 0 = λ b. IsFirstBest (is_better_lent c.args.limit) starts (i + 1) b in
     elim c.if-is_better_at.branch [
       | then-is_better_at w ↦
           subst P (sym w.best-is)
-          (takes better_answers answers i c.loop-number.best c.loop-number.invariant (omega arith)
+          (takes (better_lents c.args.limit) starts i c.loop-number.best c.loop-number.invariant (omega arith)
           (λ d. sym (c.is_better_at.ensures d) ∙ w.if-is_better_at.true))
       | else-is_better_at w ↦
           subst P (sym w.best-is)
-          (keeps better_answers answers i c.loop-number.best c.loop-number.invariant (omega arith)
+          (keeps (better_lents c.args.limit) starts i c.loop-number.best c.loop-number.invariant (omega arith)
           (λ d. sym (c.is_better_at.ensures d) ∙ w.if-is_better_at.false))
     ]

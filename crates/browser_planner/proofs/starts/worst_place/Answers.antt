@@ -1,22 +1,22 @@
 use Rattle.std.proofs.Common.{ℕ, ◌+◌, sym, subst, ◌∙◌, arith}
 use Rattle.std.specs.List.{IsFirstBest}
-use Rattle.browser_planner.specs.Starts.{is_worse_answer}
-use Rattle.browser_planner.proofs.Choices.{worse_answers, keeps, takes}
+use Rattle.browser_planner.specs.Starts.{is_worse_lent}
+use Rattle.browser_planner.proofs.Choices.{worse_lents, keeps, takes}
 use Rattle.browser_planner.proofs.starts.worst_place.Goals as goal
 use Rattle.browser_planner.proofs.starts.worst_place.Goals.{then-is_worse_at, else-is_worse_at}
 
 pub loop-number-preserved : goal.loop-number-preserved
 loop-number-preserved c =
-    let answers = c.args.answers.now in
+    let starts = c.args.starts.now in
     let i = c.loop-number.number in
-    let P : ℕ → Type 0 = λ b. IsFirstBest is_worse_answer answers (i + 1) b in
+    let P : ℕ → Type 0 = λ b. IsFirstBest (is_worse_lent c.args.limit) starts (i + 1) b in
     elim c.if-is_worse_at.branch [
       | then-is_worse_at w ↦
           subst P (sym w.worst-is)
-          (takes worse_answers answers i c.loop-number.worst c.loop-number.invariant (omega arith)
+          (takes (worse_lents c.args.limit) starts i c.loop-number.worst c.loop-number.invariant (omega arith)
           (λ d. sym (c.is_worse_at.ensures d) ∙ w.if-is_worse_at.true))
       | else-is_worse_at w ↦
           subst P (sym w.worst-is)
-          (keeps worse_answers answers i c.loop-number.worst c.loop-number.invariant (omega arith)
+          (keeps (worse_lents c.args.limit) starts i c.loop-number.worst c.loop-number.invariant (omega arith)
           (λ d. sym (c.is_worse_at.ensures d) ∙ w.if-is_worse_at.false))
     ]

@@ -1,5 +1,5 @@
 use Rattle.std.proofs.Common.{◌≡◌, ◌^◌, get_or, subst, ◌∙◌}
-use Rattle.page_message.specs.Framing.{IsFrameOf}
+use Rattle.migration_model.specs.Frames.{IsFrameOf}
 use Rattle.page_message.specs.Shapes.{shape_of}
 use Rattle.collector.proofs.Imaged.{page_at, page_more, front_page, behind_page}
 use Rattle.collector.proofs.of_image.table_of.Goals as goal

@@ -5,6 +5,7 @@ use Rattle.report_pictures.proofs.start_curves.push_start_words.Goals as goal
 pub returns : goal.returns
 unfolding start_words
 returns c = rw (
+  c.in_ok-push_spread.ensures,
   c.in_ok-push_time.ensures,
   c.in_ok-push_words-2.ensures,
   c.in_ok-push_moment.ensures,

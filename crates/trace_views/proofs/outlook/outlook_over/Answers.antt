@@ -1,8 +1,9 @@
-use Rattle.std.proofs.Common.{rules, ◌≡◌, ℕ, Bool, ap, subst, ◌∙◌}
+use Rattle.std.proofs.Common.{rules, ◌≡◌, ℕ, ap, subst, ◌∙◌}
 use Rattle.migration_model.specs.Rates.{MigrationSettings}
 use Rattle.migration_model.specs.Rounds.{IsPlan}
 use Rattle.predictions.specs.Predictions.{prediction_of}
-use Rattle.trace_views.specs.Outlooks.{AreEnough}
+use Rattle.predictions.specs.Remedies.{AreRemedies}
+use Rattle.predictions.specs.Remedies.Trials.{MigrationTrial}
 use Rattle.trace_views.proofs.outlook.outlook_over.Goals as goal
 
 pub returns-clause-made : goal.returns-clause-made
@@ -21,6 +22,6 @@ returns-clause-made g c =
           ∙ ap (λ (n : ℕ). prediction_of asked.scale asked.limits settings.start plan n) c.last_tick.ensures.value;
       are_errors = c.in_ok-errors.ensures;
       are_ranges = c.in_ok-ranges.ensures.made;
-      are_enough = subst (λ (late : Bool). AreEnough c.args.log.now asked late c.in_ok-remedies.remedies)
-          c.is_late.ensures c.in_ok-remedies.ensures;
+      are_remedies = subst (λ (trial : MigrationTrial). AreRemedies c.args.log.now.pages c.args.log.now.touches trial
+          c.in_ok-remedies.remedies) c.trial_of.ensures c.in_ok-remedies.ensures;
     }

@@ -1,10 +1,11 @@
-use Rattle.std.proofs.Common.{◌≡◌, ◌≤◌, ap, sym, subst, length, arith, ◌∙◌}
+use Rattle.std.proofs.Common.{◌≡◌, ◌≤◌, refl, ap, sym, subst, length, arith, ◌∙◌}
 use Rattle.std.proofs.lemmas.Result.{err_from_is_err_and}
 use Rattle.migration_model.specs.Frames.{GuestShape, PageFrame, IsFrame}
 use Rattle.migration_model.specs.Parts.{part_with, GuestPart}
 use Rattle.page_message.specs.Shapes.{shape_of}
 use Rattle.collector.proofs.Tabled.{Grows-nothing, taken_new, taken_newer, same_part-grown}
 use Rattle.collector.proofs.Tabled.{tabled_grown, tabled_new}
+use Rattle.collector.proofs.Fated.{returned-table, swapped-table}
 use Rattle.collector.proofs.part.Part.exchange.Goals as goal
 
 pub returns-in_err-make_place-in-None-clause-unchanged :
@@ -71,3 +72,19 @@ invariant_of-self-then-stamp-frame c =
     tabled_new (shape_of c.self.inside.shape) old old c.swap_frame.new.table.items c.args.frame c.frame.inside.page
     c.self.invariant (Grows-nothing old c.frame.inside.page) c.self.invariant.few own
     (subst (λ (s : GuestShape). IsFrame s c.args.frame) (sym shape) c.requires) c.swap_frame.ensures.put
+
+pub returns-in-Some-clause-gone_frame : goal.returns-in-Some-clause-gone_frame
+returns-in-Some-clause-gone_frame c =
+    let own : c.frame.inside.page ≡ c.args.frame.page = ap (λ (f : PageFrame). f.page) c.frame.view_is in
+    let stamp : c.frame.inside.stamp ≡ c.args.frame.stamp = ap (λ (f : PageFrame). f.stamp) c.frame.view_is in
+    c.swap_frame.ensures.was ∙ rw (← own) (swapped-table (shape_of c.self.inside.shape) c.self.inside.frames.items
+    c.frame.inside.page c.in-Some.stamp c.args.frame c.args.self.now c.self.invariant c.self.view_is
+    (rw c.deref.ensures.value at (sym c.in-Some.ensures.stamp)) (omega arith))
+
+pub returns-in-Some-2-clause-gone_frame : goal.returns-in-Some-2-clause-gone_frame
+returns-in-Some-2-clause-gone_frame c =
+    let own : c.frame.inside.page ≡ c.args.frame.page = ap (λ (f : PageFrame). f.page) c.frame.view_is in
+    let stamp : c.frame.inside.stamp ≡ c.args.frame.stamp = ap (λ (f : PageFrame). f.stamp) c.frame.view_is in
+    returned-table (shape_of c.self.inside.shape) c.self.inside.frames.items c.args.frame.page c.in-Some.stamp
+    c.args.frame c.args.self.now c.self.view_is refl c.requires
+    (rw (own, c.deref.ensures.value) at (sym c.in-Some.ensures.stamp)) (omega arith)

@@ -17,8 +17,9 @@ greatest_before-requires-clause-order c =
     rw (c.part.ensures, same) (ticks_rise c.self.inside.pages c.args.self.now.touches c.args.page
     (rw view at c.self.invariant.fits))
 
-pub returns : goal.returns
-returns c = λ trace is.
+-- the places are those of the page
+own : goal.returns-clause-own
+own c =
     let view = ap (λ (i : GuestIndex). i.touches) c.self.view_is in
     let same : c.deref.result.now ≡ c.args.self.now.touches = c.deref.ensures.value ∙ view in
     c.greatest_before.ensures
@@ -26,4 +27,9 @@ returns c = λ trace is.
     same
     ∙ ap (λ (l : List ℕ). fold max 0 (filter (λ (v : ℕ). ltb (tick_at c.args.self.now.touches v) c.args.tick) l))
     c.part.ensures
-    ∙ version_is c.args.self.now trace c.args.page c.args.tick is
+
+pub returns-clause-own : goal.returns-clause-own
+returns-clause-own c = own c
+
+pub returns-clause-of_trace : goal.returns-clause-of_trace
+returns-clause-of_trace c = λ trace is. own c ∙ version_is c.args.self.now trace c.args.page c.args.tick is

@@ -1,7 +1,8 @@
-use Rattle.std.proofs.Common.{◌<◌, ap, arith}
+use Rattle.std.proofs.Common.{◌<◌, ap, arith, ◌∙◌}
 use Rattle.std.proofs.lemmas.Result.{err_from_is_err_and}
+use Rattle.migration_model.specs.TraceReading.{write_in}
 use Rattle.trace_codec.specs.Reading.{ReaderState}
-use Rattle.trace_codec.proofs.Readers.{read_count, reads_on, read_refused, state_more}
+use Rattle.trace_codec.proofs.Readers.{read_count, reads_on, read_refused, refusal_is, rest_is, state_more}
 use Rattle.trace_codec.proofs.Steps.{IsRight-from_none}
 use Rattle.trace_codec.proofs.reader.TraceReader.read_record.Goals as goal
 
@@ -50,3 +51,17 @@ returns-clause-order c =
     c.self.view_is c.in_ok-write.ensures.write) in
     rw (← writes, ← version, ← shift, ← pages) (reads_on _ _ _ _ _ _ _ _ c.self.invariant more
     c.in_ok-write.ensures.accepted).reads.fit
+
+pub returns-in_err-write-clause-first : goal.returns-in_err-write-clause-first
+returns-in_err-write-clause-first c =
+    let p = err_from_is_err_and c.from_residual.result c.from_residual.ensures.1 in
+    rw (p.1, p.2) (refusal_is c.args.self.now _ _ _ _ _ _ _ _ c.self.invariant c.self.view_is
+    ∙ c.in_err-write.ensures.refused)
+
+pub returns-clause-front : goal.returns-clause-front
+returns-clause-front c = c.in_ok-write.ensures.write
+    ∙ ap write_in (rest_is c.args.self.now _ _ _ _ _ _ _ _ c.self.invariant c.self.view_is)
+
+pub returns-clause-accepted : goal.returns-clause-accepted
+returns-clause-accepted c = refusal_is c.args.self.now _ _ _ _ _ _ _ _ c.self.invariant c.self.view_is
+    ∙ c.in_ok-write.ensures.accepted

@@ -1,0 +1,112 @@
+"""Cases of checks/harness about the gate: what .ci/run makes of what its steps say, and of their statuses."""
+
+import os
+import shutil
+
+from checks.lib.harness import Run, cases_of, expect, run
+from precopy_dev.tree import TOP
+
+# Says what a case wants of a step, or that it passed.
+STEP = """\
+#!/bin/sh
+name=$1
+[ -f "said/$name" ] || { echo "1 passed, 0 failed"; exit 0; }
+cat "said/$name"
+exit "$(cat "said/$name.status")"
+"""
+WELL = "#!/bin/sh\nexit 0\n"
+
+
+def gate(folder: str, *words: str, **said: tuple[int, str]) -> Run:
+    """Runs the gate with steps that have a status and say something."""
+    top = os.path.join(folder, "tree")
+    shutil.rmtree(top, ignore_errors=True)
+    scripts = {
+        "checks/run": STEP,
+        "dev/measured": STEP.replace("$1", "gate"),
+        "dev/build": WELL,
+        "dev/page-module": WELL,
+    }
+    for path, text in scripts.items():
+        put(os.path.join(top, path), text)
+    put(os.path.join(top, "Makefile"), "lib:\n\ttrue\n")
+    put(os.path.join(top, ".ci", "run"), "")
+    shutil.copy(os.path.join(TOP, ".ci", "run"), os.path.join(top, ".ci", "run"))
+    for name, (status, text) in said.items():
+        put(os.path.join(top, "said", name), text)
+        put(os.path.join(top, "said", f"{name}.status"), f"{status}")
+    return run([os.path.join(top, ".ci", "run"), *words])
+
+
+def put(path: str, text: str) -> None:
+    os.makedirs(os.path.dirname(path), exist_ok=True)
+    with open(path, "w", encoding="utf-8") as file:
+        file.write(text)
+    os.chmod(path, 0o755)
+
+
+def counts_of(done: Run) -> list[int]:
+    """What the last line says passed, failed, and was left out."""
+    last = done.output.decode().splitlines()[-1]
+    words = last.split()
+    expect(words[1::2] == ["passed,", "failed,", "skipped"], f"the last line is {last!r}: {done}")
+    return [int(word) for word in words[::2]]
+
+
+def expect_gate(done: Run, status: int, *counts: int, told: tuple[str, ...] = ()) -> None:
+    expect(
+        done.status == status and counts_of(done) == list(counts), f"{counts}, status {status} wanted: {done.output}"
+    )
+    for each in told:
+        expect(each in done.output.decode(), f"{each!r} is not told: {done.output.decode()}")
+
+
+def all_passed(folder: str) -> int:
+    """How many steps the gate has, each of which says that a case passed."""
+    done = gate(folder)
+    count = counts_of(done)[0]
+    expect(count > 15 and done.status == 0, f"{done.output}")
+    expect_gate(done, 0, count, 0, 0)
+    return count
+
+
+def failures(_, folder):
+    """Whatever a step says, it fails if its status is not 0, and if it says a failure, or no count at all."""
+    others = all_passed(folder) - 1
+    for name in ("view", "load", "edits"):
+        expect_gate(gate(folder, **{name: (1, "5 passed, 2 failed\n")}), 1, others + 5, 2, 0, told=(f"{name} failed:",))
+        expect_gate(gate(folder, **{name: (0, "5 passed, 2 failed\n")}), 1, others + 5, 2, 0, told=(f"{name} failed:",))
+        expect_gate(gate(folder, **{name: (1, "5 passed, 0 failed\n")}), 1, others + 5, 1, 0, told=(f"{name} failed:",))
+        expect_gate(gate(folder, **{name: (0, "well\n")}), 1, others, 1, 0, told=(f"{name} failed:",))
+    expect(gate(folder, gate=(3, "1 passed, 4 failed\n")).status == 3, "the status of the test command")
+    done = gate(folder, gate=(0, "well\n"))
+    expect(done.status == 1, f"a test command that tries nothing: {done.output}")
+
+
+def a_page_again(_, folder):
+    """The page is tried once more, alone; that it passed then is told."""
+    done = gate(folder, page=(1, "  FAILED a button\n5 passed, 1 failed\n"))
+    expect(done.status == 1 and done.output.count(b"checks/page is tried once more, alone\n") == 1, f"{done.output}")
+
+
+def left_out_and_flaky(_, folder):
+    """What was left out is counted, and told again with its reason, as is what passed when it was tried again."""
+    others = all_passed(folder) - 2
+    said = {"view": (0, "  SKIPPED a case: no tool\n0 passed, 0 failed, 2 skipped\n")}
+    said |= {"load": (0, "  FLAKY a run: it was late\n1 flaky: a run\n3 passed, 0 failed\n")}
+    told = "SKIPPED view: a case: no tool\n", "FLAKY load: a run: it was late\n"
+    done = gate(folder, **said)
+    expect_gate(done, 0, others + 3, 0, 2, told=told)
+    expect(
+        done.output.index(told[1].encode()) > done.output.rindex(b"checks/"), f"it is not told at last: {done.output}"
+    )
+    done = gate(folder, "--all", **said)
+    expect_gate(done, 1, others + 3, 0, 2, told=("with --all nothing may be left out",))
+
+
+def words(_, folder):
+    done = gate(folder, "--none")
+    expect(done.status == 2 and b"there is no option --none" in done.faults, f"{done}")
+
+
+CASES = cases_of(__name__)

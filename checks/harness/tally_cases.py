@@ -1,0 +1,122 @@
+"""Cases of checks/harness about what is counted and told."""
+
+import os
+import re
+import shutil
+import sys
+
+from checks.harness.small import small_check
+from checks.lib.harness import Run, cases_of, expect, run
+from precopy_dev.tree import TOP
+
+
+def expect_told(done: Run, status: int, last: str, *told: str) -> None:
+    text = done.output.decode()
+    expect(
+        done.status == status and text.splitlines()[-1:] == [last], f"{last!r}, status {status} wanted: {done}\n{text}"
+    )
+    for each in told:
+        expect(each in text, f"{each!r} is not told: {text}")
+
+
+def counts(_, folder):
+    body = 'def check(tally, given):\n    tally.add(True, "one")\n    tally.add({}, "two")\n'
+    expect_told(small_check(folder, body.format(True)), 0, "2 passed, 0 failed")
+    expect_told(small_check(folder, body.format(False)), 1, "1 passed, 1 failed", "  FAILED two\n")
+
+
+def nothing_tried(_, folder):
+    """A check and a case that try nothing fail."""
+    expect_told(small_check(folder, "def check(tally, given):\n    pass\n"), 1, "0 passed, 0 failed")
+    body = 'def check(tally, given):\n    tally.add(True, "one")\n    with tally.case("two"):\n        pass\n'
+    expect_told(small_check(folder, body), 1, "1 passed, 1 failed", "  FAILED two: nothing was tried")
+
+
+def several_expectations(_, folder):
+    """A case of several expectations is one case, and each that does not hold is told."""
+    body = """\
+def check(tally, given):
+    with tally.case("a case") as case:
+        for number in range(5):
+            case.add(number % 2, f"number {number}")
+"""
+    done = small_check(folder, body)
+    expect_told(done, 1, "0 passed, 1 failed", "  FAILED a case: number 0\n    number 2\n    number 4\n")
+
+
+EXCEPTIONS = (
+    "def check(tally, given):\n    1 / 0\n",
+    'def check(tally, given):\n    with tally.case("a case") as case:\n        case.add(True, "")\n        1 / 0\n',
+    'def check(tally, given):\n    tally.tries("a case", lambda: 1 / 0)\n',
+    "def a_case(_, folder):\n    1 / 0\n\n\ndef check(tally, given):\n    run_cases(tally, [a_case], None)\n",
+)
+
+
+def exceptions(_, folder):
+    """One that nobody expects fails its case, with its trace."""
+    for body in EXCEPTIONS:
+        told = "Traceback (most recent call last):", "ZeroDivisionError"
+        expect_told(small_check(folder, body), 1, "0 passed, 1 failed", "  FAILED ", *told)
+
+
+def cases_left_out(_, folder):
+    """What cannot be tried is counted, with its reason, and is no failure."""
+    body = """\
+def a_case(_, folder):
+    raise LeftOut("there is no\\nsuch tool")
+
+
+def check(tally, given):
+    run_cases(tally, [a_case], None)
+    with tally.case("another"):
+        raise LeftOut("nor this")
+    left_out("a third", "nor that")
+"""
+    told = "a_case: there is no such tool", "another: nor this", "a third: nor that"
+    done = small_check(folder, body)
+    expect_told(done, 0, "0 passed, 0 failed, 3 skipped", *(f"  SKIPPED {each}\n" for each in told))
+
+
+def tried_again(_, folder):
+    """Only what is late is tried again, once; if it is in time then, that is told with both outputs."""
+    body = """\
+tries = []
+
+
+def a_case(_, folder):
+    tries.append(1)
+    {}
+
+
+def check(tally, given):
+    run_cases(tally, [a_case], None)
+    print(len(tries), "tries")
+"""
+    done = small_check(folder, body.format('expect_in_time(len(tries) > 1, "it was late")'))
+    told = "1 flaky: a_case\n", "FLAKY a_case: it failed: it was late\n    and passed alone, in ", "2 tries\n"
+    expect_told(done, 0, "1 passed, 0 failed", *told)
+    done = small_check(folder, body.format('expect_in_time(False, "it was late")'))
+    expect_told(done, 1, "0 passed, 1 failed", "  FAILED a_case: it was late\n", "2 tries\n")
+    done = small_check(folder, body.format('expect(len(tries) > 1, "it is wrong")'))
+    expect_told(done, 1, "0 passed, 1 failed", "  FAILED a_case: it is wrong\n", "1 tries\n")
+    expect(not re.search(b"flaky|FLAKY", done.output), f"{done}")
+
+
+# Checks of which little can be tried without some tools: their words, and how much they try and leave out.
+WITHOUT_TOOLS = (("baselines", [sys.executable], 0, 1), ("qemu", [sys.executable], 0, 1), ("lint", [], 1, 7))
+FEW_TOOLS = ("sh", "dirname", "readlink", "git")
+
+
+def without_tools(_, folder):
+    """Where a check's tools are not there, and cannot be installed, it says how much it has not tried, and why."""
+    os.symlink(sys.executable, os.path.join(folder, "python3"))
+    for name in FEW_TOOLS:
+        os.symlink(shutil.which(name), os.path.join(folder, name))
+    for name, words, tried, count in WITHOUT_TOOLS:
+        done = run([os.path.join(TOP, "checks", "run"), name, *words], env={**os.environ, "PATH": folder})
+        expect_told(done, 0, f"{tried} passed, 0 failed, {count} skipped")
+        reasons = re.findall(rb"^  SKIPPED .*: there is no [\w-]+, and .* could not be installed$", done.output, re.M)
+        expect(len(reasons) == count, f"{name}: {done.output}")
+
+
+CASES = cases_of(__name__)

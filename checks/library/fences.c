@@ -1,0 +1,299 @@
+/*
+ * Guard pages on both sides of every buffer that a call of the library is given.
+ *
+ * A program that is linked with this file and -Wl,--wrap=precopy_NAME for each call makes its calls here. Each buffer
+ * of a call is copied into memory of its own, between two pages that nobody may touch, and what the call wrote is
+ * copied back. If the environment says FENCE=front, buffers begin where the page in front of them ends; otherwise they
+ * end where the page behind them begins. So a byte that is read or written beyond that end stops the program. Beyond
+ * the other end are bytes of one pattern, and one that is written stops it too. What a call only reads cannot be
+ * written.
+ */
+#define _GNU_SOURCE
+#include "precopy.h"
+
+#include <stdint.h>
+#include <stdio.h>
+#include <stdlib.h>
+#include <string.h>
+#include <sys/mman.h>
+#include <unistd.h>
+
+#define PATTERN 0xA5
+#define FRONT 64
+#define MOST_BUFFERS 8
+
+/* A buffer of a call, and the memory between two guard pages in which it lies meanwhile. */
+struct room {
+    void *of;    /* the caller's, if the call may write it */
+    uint8_t *at; /* where it lies meanwhile */
+    size_t length;
+    uint8_t *mapped; /* the page in front */
+    size_t inside;   /* how many bytes are between the pages */
+};
+
+struct fences {
+    struct room rooms[MOST_BUFFERS];
+    size_t count;
+};
+
+static size_t page_size(void) { return (size_t)sysconf(_SC_PAGESIZE); }
+
+static void stop(const char *what) {
+    fprintf(stderr, "FAILED fences: %s\n", what);
+    abort();
+}
+
+static struct room *fenced(struct fences *fences, const void *bytes, size_t length) {
+    size_t page = page_size(), inside = (length + FRONT + page - 1) / page * page;
+    const char *side = getenv("FENCE");
+    uint8_t *mapped = mmap(NULL, inside + 2 * page, PROT_NONE, MAP_PRIVATE | MAP_ANONYMOUS, -1, 0);
+    if (fences->count == MOST_BUFFERS || mapped == MAP_FAILED
+        || mprotect(mapped + page, inside, PROT_READ | PROT_WRITE)) {
+        stop("a buffer has no guard pages");
+    }
+    uint8_t *at = mapped + page + (side && !strcmp(side, "front") ? 0 : inside - length);
+    memset(mapped + page, PATTERN, inside);
+    memcpy(at, bytes, length);
+    fences->rooms[fences->count] = (struct room){NULL, at, length, mapped, inside};
+    return &fences->rooms[fences->count++];
+}
+
+/* A buffer that a call reads. A null pointer stays one. */
+static const void *read_only(struct fences *fences, const void *bytes, size_t length) {
+    if (!bytes) {
+        return NULL;
+    }
+    struct room *room = fenced(fences, bytes, length);
+    if (mprotect(room->mapped + page_size(), room->inside, PROT_READ)) {
+        stop("a buffer can be written");
+    }
+    return room->at;
+}
+
+/* A buffer that a call may write. */
+static void *writable(struct fences *fences, void *bytes, size_t length) {
+    if (!bytes) {
+        return NULL;
+    }
+    struct room *room = fenced(fences, bytes, length);
+    room->of = bytes;
+    return room->at;
+}
+
+static int is_pattern(const uint8_t *at, const uint8_t *end) {
+    while (at < end && *at == PATTERN) {
+        at++;
+    }
+    return at == end;
+}
+
+/* Gives the caller what a call wrote, and its status. */
+static uint32_t given_back(struct fences *fences, uint32_t status) {
+    for (struct room *room = fences->rooms; room < fences->rooms + fences->count; room++) {
+        const uint8_t *begin = room->mapped + page_size(), *end = room->at + room->length;
+        if (!is_pattern(begin, room->at) || !is_pattern(end, begin + room->inside)) {
+            stop("a call wrote beside a buffer");
+        }
+        if (room->of) {
+            memcpy(room->of, room->at, room->length);
+        }
+        munmap(room->mapped, room->inside + 2 * page_size());
+    }
+    return status;
+}
+
+/* The call itself, and the one that programs make in its place. */
+#define FENCED(name) extern __typeof__(precopy_##name) __real_precopy_##name, __wrap_precopy_##name
+/* Buffers of some elements, in a call whose fences are `all`. */
+#define IN(at, count) read_only(&all, at, (count) * sizeof *(at))
+#define OUT(at, count) writable(&all, at, (count) * sizeof *(at))
+
+FENCED(check_trace);
+uint32_t __wrap_precopy_check_trace(const uint8_t *trace, size_t length, struct precopy_sizes *sizes,
+                                    uint32_t *record) {
+    struct fences all = {.count = 0};
+    return given_back(&all, __real_precopy_check_trace(IN(trace, length), length, OUT(sizes, 1), OUT(record, 1)));
+}
+
+FENCED(writes_before);
+uint32_t __wrap_precopy_writes_before(const uint8_t *trace, size_t length, uint64_t tick, uint32_t *count,
+                                      uint32_t *record) {
+    struct fences all = {.count = 0};
+    return given_back(&all,
+                      __real_precopy_writes_before(IN(trace, length), length, tick, OUT(count, 1), OUT(record, 1)));
+}
+
+FENCED(check_settings);
+uint32_t __wrap_precopy_check_settings(const struct precopy_settings *settings) {
+    struct fences all = {.count = 0};
+    return given_back(&all, __real_precopy_check_settings(IN(settings, 1)));
+}
+
+FENCED(plan);
+uint32_t __wrap_precopy_plan(const uint8_t *trace, size_t length, const struct precopy_settings *settings,
+                             struct precopy_sums *sums, uint32_t *record) {
+    struct fences all = {.count = 0};
+    return given_back(&all,
+                      __real_precopy_plan(IN(trace, length), length, IN(settings, 1), OUT(sums, 1), OUT(record, 1)));
+}
+
+FENCED(rounds);
+uint32_t __wrap_precopy_rounds(const uint8_t *trace, size_t length, const struct precopy_settings *settings,
+                               struct precopy_round *rounds, size_t rounds_length, size_t *count, uint32_t *record) {
+    struct fences all = {.count = 0};
+    return given_back(&all,
+                      __real_precopy_rounds(IN(trace, length), length, IN(settings, 1), OUT(rounds, rounds_length),
+                                            rounds_length, OUT(count, 1), OUT(record, 1)));
+}
+
+FENCED(report);
+uint32_t __wrap_precopy_report(const uint8_t *trace, size_t length, const struct precopy_settings *settings,
+                               uint8_t *text, size_t text_length, size_t *needed, uint32_t *record) {
+    struct fences all = {.count = 0};
+    return given_back(&all, __real_precopy_report(IN(trace, length), length, IN(settings, 1), OUT(text, text_length),
+                                                  text_length, OUT(needed, 1), OUT(record, 1)));
+}
+
+FENCED(sweep);
+uint32_t __wrap_precopy_sweep(const uint8_t *trace, size_t length, const struct precopy_settings *cases,
+                              size_t cases_length, struct precopy_sums *sums, size_t sums_length, size_t *best,
+                              uint32_t *record) {
+    struct fences all = {.count = 0};
+    return given_back(&all, __real_precopy_sweep(IN(trace, length), length, IN(cases, cases_length), cases_length,
+                                                 OUT(sums, sums_length), sums_length, OUT(best, 1), OUT(record, 1)));
+}
+
+FENCED(predict);
+uint32_t __wrap_precopy_predict(const uint8_t *trace, size_t length, const struct precopy_question *question,
+                                struct precopy_prediction *prediction, struct precopy_errors *errors,
+                                uint32_t *record) {
+    struct fences all = {.count = 0};
+    return given_back(&all, __real_precopy_predict(IN(trace, length), length, IN(question, 1), OUT(prediction, 1),
+                                                   OUT(errors, 1), OUT(record, 1)));
+}
+
+FENCED(enough);
+uint32_t __wrap_precopy_enough(const uint8_t *trace, size_t length, const struct precopy_question *question,
+                               struct precopy_amounts *amounts, uint32_t *record) {
+    struct fences all = {.count = 0};
+    return given_back(
+        &all, __real_precopy_enough(IN(trace, length), length, IN(question, 1), OUT(amounts, 1), OUT(record, 1)));
+}
+
+FENCED(memory);
+uint32_t __wrap_precopy_memory(const uint8_t *trace, size_t length, uint8_t *memory, size_t memory_length,
+                               size_t *needed, uint32_t *record) {
+    struct fences all = {.count = 0};
+    return given_back(&all, __real_precopy_memory(IN(trace, length), length, OUT(memory, memory_length), memory_length,
+                                                  OUT(needed, 1), OUT(record, 1)));
+}
+
+FENCED(memory_before);
+uint32_t __wrap_precopy_memory_before(const uint8_t *trace, size_t length, uint64_t tick, uint8_t *memory,
+                                      size_t memory_length, size_t *needed, uint32_t *record) {
+    struct fences all = {.count = 0};
+    return given_back(&all, __real_precopy_memory_before(IN(trace, length), length, tick, OUT(memory, memory_length),
+                                                         memory_length, OUT(needed, 1), OUT(record, 1)));
+}
+
+FENCED(memory_step);
+uint32_t __wrap_precopy_memory_step(const uint8_t *trace, size_t length, uint32_t from, uint32_t to, uint8_t *memory,
+                                    size_t memory_length, uint32_t *record) {
+    struct fences all = {.count = 0};
+    return given_back(&all, __real_precopy_memory_step(IN(trace, length), length, from, to, OUT(memory, memory_length),
+                                                       memory_length, OUT(record, 1)));
+}
+
+FENCED(version_after);
+uint32_t __wrap_precopy_version_after(const uint8_t *trace, size_t length, uint32_t page, uint32_t count,
+                                      uint32_t *version, uint32_t *record) {
+    struct fences all = {.count = 0};
+    return given_back(
+        &all, __real_precopy_version_after(IN(trace, length), length, page, count, OUT(version, 1), OUT(record, 1)));
+}
+
+FENCED(page_at);
+uint32_t __wrap_precopy_page_at(const uint8_t *trace, size_t length, uint32_t page, uint32_t stamp, uint8_t *content,
+                                size_t content_length, uint32_t *record) {
+    struct fences all = {.count = 0};
+    return given_back(&all, __real_precopy_page_at(IN(trace, length), length, page, stamp, OUT(content, content_length),
+                                                   content_length, OUT(record, 1)));
+}
+
+FENCED(page_writes);
+uint32_t __wrap_precopy_page_writes(const uint8_t *trace, size_t length, uint32_t page, struct precopy_write *writes,
+                                    size_t writes_length, size_t *count, uint32_t *record) {
+    struct fences all = {.count = 0};
+    return given_back(&all, __real_precopy_page_writes(IN(trace, length), length, page, OUT(writes, writes_length),
+                                                       writes_length, OUT(count, 1), OUT(record, 1)));
+}
+
+FENCED(encode_frame);
+uint32_t __wrap_precopy_encode_frame(const struct precopy_sizes *sizes, uint32_t page, uint32_t stamp,
+                                     const uint8_t *bytes, size_t bytes_length, uint8_t *frame, size_t frame_length,
+                                     size_t *needed) {
+    struct fences all = {.count = 0};
+    return given_back(&all,
+                      __real_precopy_encode_frame(IN(sizes, 1), page, stamp, IN(bytes, bytes_length), bytes_length,
+                                                  OUT(frame, frame_length), frame_length, OUT(needed, 1)));
+}
+
+FENCED(decode_frame);
+uint32_t __wrap_precopy_decode_frame(const struct precopy_sizes *sizes, const uint8_t *bytes, size_t bytes_length,
+                                     struct precopy_frame *frame, uint8_t *content, size_t content_length) {
+    struct fences all = {.count = 0};
+    return given_back(&all, __real_precopy_decode_frame(IN(sizes, 1), IN(bytes, bytes_length), bytes_length,
+                                                        OUT(frame, 1), OUT(content, content_length), content_length));
+}
+
+FENCED(accept);
+uint32_t __wrap_precopy_accept(const struct precopy_sizes *sizes, const uint8_t *stream, size_t stream_length,
+                               uint8_t *memory, size_t memory_length, struct precopy_page *pages, size_t pages_length,
+                               struct precopy_taken *taken) {
+    struct fences all = {.count = 0};
+    return given_back(&all, __real_precopy_accept(IN(sizes, 1), IN(stream, stream_length), stream_length,
+                                                  OUT(memory, memory_length), memory_length, OUT(pages, pages_length),
+                                                  pages_length, OUT(taken, 1)));
+}
+
+FENCED(missing);
+uint32_t __wrap_precopy_missing(const struct precopy_page *pages, size_t pages_length, size_t *page) {
+    struct fences all = {.count = 0};
+    return given_back(&all, __real_precopy_missing(IN(pages, pages_length), pages_length, OUT(page, 1)));
+}
+
+FENCED(check_streams);
+uint32_t __wrap_precopy_check_streams(const uint8_t *trace, size_t length, uint32_t stop, const uint8_t *bytes,
+                                      size_t bytes_length, const size_t *sizes, size_t sizes_length,
+                                      struct precopy_finding *found, uint32_t *record) {
+    struct fences all = {.count = 0};
+    return given_back(&all, __real_precopy_check_streams(IN(trace, length), length, stop, IN(bytes, bytes_length),
+                                                         bytes_length, IN(sizes, sizes_length), sizes_length,
+                                                         OUT(found, 1), OUT(record, 1)));
+}
+
+FENCED(check_piece);
+uint32_t __wrap_precopy_check_piece(const uint8_t *trace, size_t length, const uint8_t *piece, size_t piece_length,
+                                    struct precopy_progress *progress, struct precopy_page *states,
+                                    size_t states_length, struct precopy_finding *found, uint32_t *record) {
+    struct fences all = {.count = 0};
+    return given_back(&all, __real_precopy_check_piece(IN(trace, length), length, IN(piece, piece_length), piece_length,
+                                                       OUT(progress, 1), OUT(states, states_length), states_length,
+                                                       OUT(found, 1), OUT(record, 1)));
+}
+
+FENCED(check_pages);
+uint32_t __wrap_precopy_check_pages(const uint8_t *trace, size_t length, const struct precopy_progress *progress,
+                                    const struct precopy_page *states, size_t states_length,
+                                    struct precopy_finding *found, uint32_t *record) {
+    struct fences all = {.count = 0};
+    return given_back(&all,
+                      __real_precopy_check_pages(IN(trace, length), length, IN(progress, 1), IN(states, states_length),
+                                                 states_length, OUT(found, 1), OUT(record, 1)));
+}
+
+FENCED(is_zero);
+bool __wrap_precopy_is_zero(const uint8_t *bytes, size_t length) {
+    struct fences all = {.count = 0};
+    return given_back(&all, __real_precopy_is_zero(IN(bytes, length), length));
+}

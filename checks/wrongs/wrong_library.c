@@ -1,0 +1,108 @@
+/* A wrong library round the right one. checks/wrongs compiles it with -DWRONG for each of the wrongs below, which
+ * stands for one call, and gives the call of the right library the name right_CALL.
+ */
+#include "precopy.h"
+
+#include <stdlib.h>
+
+#define READS_BEHIND 1   /* check_pages: a byte behind the states is read */
+#define READS_BEFORE 2   /* check_piece: a byte in front of the progress is read */
+#define WRITES_BEHIND 3  /* predict: a word behind the standard errors is written */
+#define WRITES_BEFORE 4  /* page_writes: a byte in front of the writes is written */
+#define WRITES_INPUT 5   /* check_pages: the progress, which it only reads, is written */
+#define KEEPS_MEMORY 6   /* plan: memory is not given back */
+#define WRITES_REFUSED 7 /* sweep: the best case is written of a trace that is refused */
+#define ALL_RIGHT 8      /* check_streams: nothing is ever wrong */
+#define ONE_MORE 9       /* plan: the downtime is a tick longer */
+
+static inline void touch(const void *at) { (void)*(const volatile uint8_t *)at; }
+
+#if WRONG == READS_BEHIND || WRONG == WRITES_INPUT
+__typeof__(precopy_check_pages) right_check_pages;
+
+uint32_t precopy_check_pages(const uint8_t *trace, size_t trace_length, const struct precopy_progress *progress,
+                             const struct precopy_page *states, size_t states_length, struct precopy_finding *found,
+                             uint32_t *record) {
+    if (WRONG == READS_BEHIND) {
+        touch(states + states_length);
+    } else {
+        ((volatile struct precopy_progress *)progress)->stop = progress->stop;
+    }
+    return right_check_pages(trace, trace_length, progress, states, states_length, found, record);
+}
+#endif
+
+#if WRONG == READS_BEFORE
+__typeof__(precopy_check_piece) right_check_piece;
+
+uint32_t precopy_check_piece(const uint8_t *trace, size_t trace_length, const uint8_t *piece, size_t piece_length,
+                             struct precopy_progress *progress, struct precopy_page *states, size_t states_length,
+                             struct precopy_finding *found, uint32_t *record) {
+    touch((const uint8_t *)progress - 1);
+    return right_check_piece(trace, trace_length, piece, piece_length, progress, states, states_length, found, record);
+}
+#endif
+
+#if WRONG == WRITES_BEHIND
+__typeof__(precopy_predict) right_predict;
+
+uint32_t precopy_predict(const uint8_t *trace, size_t trace_length, const struct precopy_question *question,
+                         struct precopy_prediction *prediction, struct precopy_errors *errors, uint32_t *record) {
+    *(volatile uint32_t *)(errors + 1) = 0;
+    return right_predict(trace, trace_length, question, prediction, errors, record);
+}
+#endif
+
+#if WRONG == WRITES_BEFORE
+__typeof__(precopy_page_writes) right_page_writes;
+
+uint32_t precopy_page_writes(const uint8_t *trace, size_t trace_length, uint32_t page, struct precopy_write *writes,
+                             size_t writes_length, size_t *count, uint32_t *record) {
+    if (writes_length) {
+        ((volatile uint8_t *)writes)[-1] = 0;
+    }
+    return right_page_writes(trace, trace_length, page, writes, writes_length, count, record);
+}
+#endif
+
+#if WRONG == KEEPS_MEMORY || WRONG == ONE_MORE
+__typeof__(precopy_plan) right_plan;
+
+uint32_t precopy_plan(const uint8_t *trace, size_t trace_length, const struct precopy_settings *settings,
+                      struct precopy_sums *sums, uint32_t *record) {
+    static void *volatile kept;
+    uint32_t status = right_plan(trace, trace_length, settings, sums, record);
+    if (status == PRECOPY_OK && WRONG == KEEPS_MEMORY) {
+        kept = malloc(1);
+        status = kept ? status : PRECOPY_NO_MEMORY;
+    }
+    if (status == PRECOPY_OK && WRONG == ONE_MORE) {
+        sums->down++;
+    }
+    return status;
+}
+#endif
+
+#if WRONG == WRITES_REFUSED
+__typeof__(precopy_sweep) right_sweep;
+
+uint32_t precopy_sweep(const uint8_t *trace, size_t trace_length, const struct precopy_settings *cases,
+                       size_t cases_length, struct precopy_sums *sums, size_t sums_length, size_t *best,
+                       uint32_t *record) {
+    uint32_t status = right_sweep(trace, trace_length, cases, cases_length, sums, sums_length, best, record);
+    if (status != PRECOPY_OK) {
+        *best = 0;
+    }
+    return status;
+}
+#endif
+
+#if WRONG == ALL_RIGHT
+uint32_t precopy_check_streams(const uint8_t *trace, size_t trace_length, uint32_t stop, const uint8_t *bytes,
+                               size_t bytes_length, const size_t *sizes, size_t sizes_length,
+                               struct precopy_finding *found, uint32_t *record) {
+    (void)stop, (void)bytes, (void)bytes_length, (void)sizes, (void)sizes_length, (void)found;
+    struct precopy_sizes of_trace;
+    return precopy_check_trace(trace, trace_length, &of_trace, record);
+}
+#endif

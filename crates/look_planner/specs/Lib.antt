@@ -1,0 +1,5 @@
+pub mod Refusals
+pub mod Pacing
+pub mod Bitmaps
+pub mod Plans
+pub mod Laws

@@ -1,0 +1,114 @@
+"""Plans of a hypervisor, as `crates/migration_model/specs/Looks.antt` defines them: page by page, question by question.
+
+It shares no code with the crate `look_planner`. The numbers in that crate's rows come from here.
+"""
+
+from typing import Iterator, NamedTuple, Optional
+
+Touches = list[tuple[int, int]]
+
+
+class Settings(NamedTuple):
+    """The rate in pages per 1,000 ticks, and the other settings of a plan."""
+
+    rate: int
+    window: int
+    threshold: int
+    end: int
+    start: int = 0
+    base: Optional[int] = None
+    looks: Optional[int] = None
+
+
+class Sent(NamedTuple):
+    """From one tick to another: pages of a list, how many of them are sent, and the pages that are left then."""
+
+    start: int
+    end: int
+    pages: list[int]
+    sent: int
+    left: list[int]
+
+
+class Plan(NamedTuple):
+    """The lists, why they end and at which tick, the pages that are left then, and the ticks of the downtime."""
+
+    lists: list[Sent]
+    reason: str
+    stop: int
+    last: list[int]
+    down: int
+
+    def sent(self) -> int:
+        return sum(sent.sent for sent in self.lists)
+
+
+def duration(pages: int, rate: int) -> int:
+    """How many ticks pages take, rounded up."""
+    return -(-1_000 * pages // rate)
+
+
+def sent_in(pages: int, ticks: int, rate: int) -> int:
+    """How many of some pages are sent in these ticks: a page counts when all of it is sent."""
+    return min(pages, rate * ticks // 1_000)
+
+
+def questions(pages: int, settings: Settings) -> Iterator[int]:
+    """The ticks after a list began at which the hypervisor asks, in order, until all pages are sent."""
+    whole = duration(pages, settings.rate)
+    if settings.window:
+        yield from range(settings.window, whole, settings.window)
+    yield whole
+
+
+def look_after(pages: int, settings: Settings) -> int:
+    """How many ticks after a list began the hypervisor looks: the first time that it asks and few are left."""
+    asked = questions(pages, settings)
+    return next(ticks for ticks in asked if pages - sent_in(pages, ticks, settings.rate) < settings.threshold)
+
+
+def written(touches: Touches, start: int, stop: int) -> set[int]:
+    return {page for tick, page in touches if start <= tick < stop}
+
+
+def first_pages(pages: int, touches: Touches, settings: Settings) -> list[int]:
+    if settings.base is None:
+        return list(range(pages))
+    return sorted(written(touches, settings.base, settings.start))
+
+
+def reason_of(look: int, left: int, looks: int, settings: Settings) -> Optional[str]:
+    """Why a plan ends with the look that is due at a tick, if it does."""
+    if look > settings.end:
+        return "record"
+    if left < settings.threshold:
+        return "few"
+    return "looks" if looks == settings.looks else None
+
+
+def plan(pages: int, touches: Touches, settings: Settings) -> Plan:
+    lists: list[Sent] = []
+    start, due = settings.start, first_pages(pages, touches, settings)
+    while True:
+        look = start + look_after(len(due), settings)
+        end = min(look, settings.end)
+        sent = sent_in(len(due), end - start, settings.rate)
+        left = sorted(set(due[sent:]) | written(touches, start, end))
+        lists.append(Sent(start, end, due, sent, left))
+        reason = reason_of(look, len(left), len(lists), settings)
+        if reason:
+            return Plan(lists, reason, end, left, duration(len(left), settings.rate))
+        start, due = end, left
+
+
+def pages_text(pages: list[int]) -> str:
+    """Pages as the crate's rows write them: their list, or how many they are if these are more than eight."""
+    return f"{len(pages)} pages" if len(pages) > 8 else str(pages)
+
+
+def text_of(made: Plan) -> str:
+    """A plan as the crate's rows write it."""
+    rows = (f"{it.start} {it.end} {len(it.pages)} {it.sent} {len(it.left)}; " for it in made.lists)
+    looks = len(made.lists) - (made.reason == "record")
+    total = made.sent() + len(made.last)
+    return f"{''.join(rows)}{made.reason} {made.stop} {pages_text(made.last)} {made.down} {made.sent()} {total} {looks}"

@@ -1,0 +1,76 @@
+"""A picture, in SVG, of a run: for each guest what was planned, and below it what was."""
+
+import html
+
+from precopy_tools.evacuate import chart
+from precopy_tools.evacuate.chart import Rows, rectangle
+from precopy_tools.evacuate.outcome import Moved, Outcome, apart
+from precopy_tools.quantities import moment_text, size_text, time_text
+
+ROW = 36
+KEYS = {
+    "planned": ("planned", 80),
+    "moving": ("moved", 75),
+    "missed": ("has not moved", 115),
+    "down": ("downtime, drawn at least two dots wide", 0),
+}
+
+
+def kind_of(move: Moved) -> str:
+    return "moving" if move.is_moved else "missed"
+
+
+def bar_of(kind: str, begin: float, end: float, y: float, height: float) -> str:
+    return rectangle(kind, begin, y, max(end - begin, chart.LEAST_DOWN), height)
+
+
+def downtime_of(rows: Rows, end: int, downtime: int, y: float, height: float) -> str:
+    """The downtime at the end of a bar."""
+    x = rows.x_of(end)
+    begin = min(rows.x_of(end - downtime), x - chart.LEAST_DOWN)
+    return rectangle("down", begin, y, x - begin, height)
+
+
+def told(move: Moved) -> str:
+    """What is told of a guest where it is pointed at."""
+    name, planned = move.planned.guest.name, move.planned
+    plan = f"planned {moment_text(planned.start)} to {moment_text(planned.end)}, {size_text(planned.cost.sent)}"
+    if move.state == "not begun":
+        return f"{name}: {plan}; not begun"
+    was = f"{moment_text(move.start)} to {moment_text(move.end)}, {size_text(move.sent)}"
+    down = "" if move.downtime is None else f", downtime {time_text(move.downtime)}"
+    return f"{name}: {plan}; {move.state}, {was}{down}" + (f"; {move.why}" if move.why else "")
+
+
+def behind(move: Moved) -> str:
+    """What stands behind the bars of a guest: by how much the plan is above what was, or how it ended."""
+    planned = move.planned
+    return f"plan {apart(planned.cost.time, move.end - move.start)}" if move.is_moved else move.state
+
+
+def pair(move: Moved, rows: Rows, y: float) -> list[str]:
+    """The two bars of a guest: the upper one is planned, and the lower one is what was."""
+    planned, half = move.planned, rows.bar / 2
+    begin, end = rows.x_of(planned.start), rows.x_of(planned.end)
+    lines = [
+        f"<g><title>{html.escape(told(move))}</title>",
+        bar_of("planned", begin, end, y, half),
+        downtime_of(rows, planned.end, planned.cost.downtime, y, half),
+    ]
+    if move.state != "not begun":
+        lines.append(bar_of(kind_of(move), rows.x_of(move.start), rows.x_of(move.end), y + half, half))
+        end = max(end, rows.x_of(move.end))
+    if move.is_moved and move.downtime is not None:
+        lines.append(downtime_of(rows, move.end, move.downtime, y + half, half))
+    return [*lines, *chart.names(planned.guest.name, end, behind(move), rows, y), "</g>"]
+
+
+def drawn(outcome: Outcome, title: str) -> str:
+    """The picture of a run."""
+    moves = outcome.moves
+    rows = Rows(max(max(move.planned.end, move.end) for move in moves), len(moves), ROW)
+    pairs = [pair(move, rows, rows.y_of(number)) for number, move in enumerate(moves)]
+    kinds = {"planned", "down", *(kind_of(move) for move in moves if move.state != "not begun")}
+    return chart.page(
+        rows, title, [*chart.keys(kinds, KEYS), *chart.axis(rows), *(line for each in pairs for line in each)]
+    )

@@ -1,0 +1,1 @@
+"""A service that records all guests of a host, and predicts their migrations."""

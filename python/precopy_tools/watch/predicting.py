@@ -1,0 +1,147 @@
+"""Predictions of the newest segments, by tools/predict: one at a time, in a process of its own, and with rests between
+them, so that they take no more than a share of a processor."""
+
+import json
+import os
+import resource
+import subprocess
+import sys
+import threading
+from collections.abc import Callable
+from typing import NamedTuple
+
+from precopy_tools import version, words
+from precopy_tools.watch.limits import Limits
+
+# Where the package of these tools is.
+FOLDER = os.path.dirname(os.path.dirname(os.path.dirname(os.path.realpath(__file__))))
+SECONDS = 600
+NICE = 10
+KEPT, MISSED, UNKNOWN = VERDICTS = ("kept", "missed", "unknown")
+
+
+class Prediction(NamedTuple):
+    """What is predicted of a migration that begins where a segment does: time, bytes and downtime, if it ends within
+    the segment; whether it keeps its limits; and of how many starts within the segment, of those known, it does."""
+
+    limits: Limits
+    verdict: str
+    seconds: float | None = None
+    sent: int | None = None
+    downtime: float | None = None
+    kept_starts: float | None = None
+
+
+def is_over(migration: dict, limits: Limits) -> bool:
+    return limits.time is not None and migration["time_seconds"] > limits.time
+
+
+def of_document(document: dict, limits: Limits) -> Prediction:
+    """What tools/predict tells of a trace. Nothing is known of a guest that stood still."""
+    told = document["prediction"]
+    migration, starts = told.get("migration"), told.get("starts")
+    if not document["certain"] or migration is None or told["kept"] == "unknown":
+        return Prediction(limits, UNKNOWN)
+    verdict = MISSED if told["kept"] == "no" or is_over(migration, limits) else KEPT
+    part = starts["kept"] / starts["known"] if starts else None
+    numbers = (migration[name] for name in ("time_seconds", "sent_bytes", "down_seconds"))
+    return Prediction(limits, verdict, *numbers, part)
+
+
+def command_of(program: str, path: str, limits: Limits) -> list[str]:
+    module = [sys.executable, "-B", "-m", "precopy_tools.predict.command"]
+    asked = ["--link", words.rate_word(limits.link), "--downtime", words.time_word(limits.downtime)]
+    return [*module, "--json", "--starts", "1", "--program", program, *asked, path]
+
+
+class Failed(Exception):
+    """A prediction could not be made; the text says why."""
+
+
+def predicted(program: str, path: str, limits: Limits) -> Prediction:
+    """What tools/predict tells of a segment, or Failed."""
+    environment = {**os.environ, "PYTHONPATH": FOLDER}
+    how = {"stdin": subprocess.DEVNULL, "stdout": subprocess.PIPE, "stderr": subprocess.PIPE, "text": True}
+    with subprocess.Popen(command_of(program, path, limits), env=environment, **how) as process:
+        os.setpriority(os.PRIO_PROCESS, process.pid, NICE)
+        try:
+            text, faults = process.communicate(timeout=SECONDS)
+        except subprocess.TimeoutExpired as fault:
+            process.kill()
+            raise Failed(f"{path}: no prediction within {SECONDS} s") from fault
+    if process.returncode not in (0, 3, 4):
+        raise Failed(faults.strip() or f"{path}: the prediction ended with status {process.returncode}")
+    try:
+        return of_document(json.loads(text), limits)
+    except (ValueError, KeyError, TypeError, ZeroDivisionError) as fault:
+        raise Failed(f"{path}: the prediction is no JSON as it should be: {text[:80]!r}") from fault
+
+
+def children_seconds() -> float:
+    """What the processes took that this one has begun, and that have ended."""
+    used = resource.getrusage(resource.RUSAGE_CHILDREN)
+    return used.ru_utime + used.ru_stime
+
+
+class Predictor:
+    """Predicts what is asked for, by name: if a guest has a newer segment before its turn, the older one is left out.
+    `share` is the most of a processor that it takes."""
+
+    def __init__(self, program: str, limits_of: Callable[[str], Limits], share: float):
+        self.program, self.limits_of, self.share = program, limits_of, share
+        self.waiting: dict[str, str] = {}
+        self.found: dict[str, Prediction] = {}
+        self.current: str | None = None
+        self.changed, self.is_over = threading.Condition(), threading.Event()
+        self.count = self.failures = 0
+        self.thread = threading.Thread(target=self._go_on, name="predictor", daemon=True)
+        self.thread.start()
+
+    def ask(self, name: str, path: str) -> None:
+        with self.changed:
+            self.waiting[name] = path
+            self.changed.notify()
+
+    def of(self, name: str) -> Prediction | None:
+        return self.found.get(name)
+
+    def forget(self, name: str) -> None:
+        """Nothing is told of a guest that has gone, not even what is predicted just now."""
+        with self.changed:
+            self.waiting.pop(name, None)
+            self.found.pop(name, None)
+            self.current = None if self.current == name else self.current
+
+    def end(self) -> None:
+        self.is_over.set()
+        with self.changed:
+            self.changed.notify()
+
+    def _next(self) -> tuple[str, str] | None:
+        with self.changed:
+            while not self.waiting and not self.is_over.is_set():
+                self.changed.wait()
+            if self.is_over.is_set():
+                return None
+            self.current = next(iter(self.waiting))
+            return self.current, self.waiting.pop(self.current)
+
+    def _go_on(self) -> None:
+        while (asked := self._next()) is not None:
+            spent = children_seconds()
+            self._predict(*asked)
+            # A rest as long as that took, and longer by the share.
+            self.is_over.wait((children_seconds() - spent) / self.share)
+
+    def _predict(self, name: str, path: str) -> None:
+        limits = self.limits_of(name)
+        try:
+            found = predicted(self.program, path, limits)
+        except (Failed, OSError) as fault:
+            found = Prediction(limits, UNKNOWN)
+            self.failures += 1
+            version.complain("watch", f"{name}: {fault}")
+        with self.changed:
+            self.count += 1
+            if self.current == name:
+                self.found[name] = found
