@@ -145,6 +145,29 @@ enum precopy_status {
 /* A line about a status, in English. It never returns null, and the text stays. */
 const char *precopy_strerror(uint32_t status);
 
+/* No sentence of precopy_refusal_text or precopy_finding_text is longer. */
+#define PRECOPY_TEXT_BOUND 320
+
+/*
+ * Writes the sentence about a call that is refused: the line about its status, `cause`, with the number of the record,
+ * if the trace is refused for one. It is ASCII, without a 0 at the end, and *needed is its length.
+ *
+ * If the buffer is shorter, it returns PRECOPY_SHORT_BUFFER and writes only *needed. It takes no memory.
+ */
+PRECOPY_ANSWERS PRECOPY_NOT_NULL(5)
+uint32_t precopy_refusal_text(uint32_t cause, uint32_t record, uint8_t *text, size_t text_length, size_t *needed);
+
+struct precopy_finding;
+
+/*
+ * Writes the sentence about what a check of streams has found: where it is, the page, its stamp and the one that was to
+ * be, the line about the status, and the write that is missing. With a status that is no finding of streams it is
+ * precopy_refusal_text without a record. Otherwise like that.
+ */
+PRECOPY_ANSWERS PRECOPY_NOT_NULL(2, 5)
+uint32_t precopy_finding_text(uint32_t status, const struct precopy_finding *found, uint8_t *text, size_t text_length,
+                              size_t *needed);
+
 /* The version of the library that is linked, as "1.2.3". The text stays. */
 const char *precopy_version(void);
 
@@ -371,6 +394,9 @@ uint32_t precopy_predict(const uint8_t *trace, size_t trace_length, const struct
  * If the trace ends before the migration does, the link is searched in the same way with which it ends within the
  * trace, and the start from the question's (or the last tick) back to its base, or to tick 0, by 4,096ths. The limit
  * may be missed there.
+ *
+ * Links are whole kilobits a second, which are multiples of 125 bytes; what is asked counts as rounded up. So if the
+ * limit is kept, the least link may be up to 124 bytes a second more than what is asked.
  */
 struct precopy_amounts {
     uint64_t link;             /* the least link, in bytes a second, if has_link isn't 0 */
@@ -440,6 +466,21 @@ uint32_t precopy_memory_step(const uint8_t *trace, size_t trace_length, uint32_t
 PRECOPY_ANSWERS PRECOPY_NOT_NULL(5, 6)
 uint32_t precopy_version_after(const uint8_t *trace, size_t trace_length, uint32_t page, uint32_t count,
                                uint32_t *version, uint32_t *record);
+
+/*
+ * Writes the versions of all pages after the first `count` writes into an array, page by page. *needed is the number of
+ * pages. A call takes at most twice as long as precopy_version_after does for one page.
+ *
+ * If the array has fewer elements, it returns PRECOPY_SHORT_BUFFER and writes only *needed. It takes no memory.
+ */
+PRECOPY_ANSWERS PRECOPY_NOT_NULL(6, 7)
+uint32_t precopy_versions_after(const uint8_t *trace, size_t trace_length, uint32_t count, uint32_t *versions,
+                                size_t versions_length, size_t *needed, uint32_t *record);
+
+/* Writes the versions of all pages after the writes before a tick; otherwise like precopy_versions_after. */
+PRECOPY_ANSWERS PRECOPY_NOT_NULL(6, 7)
+uint32_t precopy_versions_before(const uint8_t *trace, size_t trace_length, uint64_t tick, uint32_t *versions,
+                                 size_t versions_length, size_t *needed, uint32_t *record);
 
 /*
  * Writes the bytes of a page at a stamp: as the write to it with this place leaves them, or zeros for 0.

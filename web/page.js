@@ -164,10 +164,10 @@ class Page {
    * the record comes before the address, but the limits stay. An example has its own. Else they are fitted to the trace
    * and its record.
    */
-  settingsFor({ source: { example }, print, record, sizes }) {
-    const { settings } = this.state;
+  settingsFor(trace) {
+    const { source: { example }, record, sizes } = trace;
     if (this.isAddressed) {
-      return example || !record || this.addressed === print ? settings : withRecord(settings, record, sizes);
+      return this.addressedSettings(trace);
     }
     if (example) {
       return presetOf(example);
@@ -175,6 +175,11 @@ class Page {
     const found = fittedSettings(this.settingsToFit(), this.chosen, sizes, record);
     this.fitted = new Set(found.fitted);
     return found.settings;
+  }
+
+  addressedSettings({ print, record, sizes }) {
+    const { settings, example } = this.state;
+    return example || !record || this.addressed === print ? settings : withRecord(settings, record, sizes);
   }
 
   /** Settings for another trace, but with the limits of before if a plan is kept to compare, and they make a plan. */
@@ -292,6 +297,9 @@ class Page {
       this.desk.reopen(print, { isGiven: true });
       return;
     }
+    if (this.desk.trace) {
+      this.state.settings = this.addressedSettings(this.desk.trace);
+    }
     this.controls.unread = null;
     this.controls.show(this.state.settings);
     this.planAnew();
@@ -382,7 +390,7 @@ class Page {
     const { trace, found } = this.shown;
     const predictions = [...this.predictionsShown(this.shown), ...this.starts.chosen()];
     this.links.follow(found.value ?? null, trace.sizes);
-    this.late.follow(trace, found.value ?? null, predictions, this.links.questions());
+    this.late.follow(trace, found.value ?? null, predictions, () => this.links.questions());
     predictions.forEach((some) => { some.errors = this.late.errorsOf(trace, some); });
   }
 

@@ -1,21 +1,25 @@
 """Packs the module for pip, with nothing but Python: pyproject.toml names this as its build backend.
 
 Where `make lib` has built the library beside these sources, a wheel has it, and serves machines like this one. Without
-it the wheel serves any machine on which the system finds the library.
+it the wheel serves any machine on which the library is found, so it must be found here: by PRECOPY_LIBRARY, or by the
+system. Else no wheel is made.
 """
 
 import base64
+import ctypes
 import hashlib
 import io
 import os
 import re
+import sys
 import sysconfig
 import tarfile
 import zipfile
 
 HERE = os.path.dirname(os.path.abspath(__file__))
-LIBRARY = os.path.join(HERE, "..", "..", "out", "library", "libprecopy.so.3")
-PARTS = ("__init__.py", "_calls.py", "_interface.py", "_predictions.py", "_refusals.py", "py.typed")
+NAME = "libprecopy.so.3"
+LIBRARY = os.path.join(HERE, "..", "..", "out", "library", NAME)
+PARTS = ("__init__.py", "_calls.py", "_interface.py", "_predictions.py", "_refusals.py", "_streams.py", "py.typed")
 MOMENT = (1980, 1, 1, 0, 0, 0)
 
 
@@ -42,13 +46,23 @@ def record(files):
         yield f"{name},sha256={digest},{len(data)}\n"
 
 
+def need_library():
+    """Ends the process if there is no library that the module could load."""
+    try:
+        ctypes.CDLL(os.environ.get("PRECOPY_LIBRARY") or NAME)
+    except OSError as fault:
+        sys.exit(f"precopy: the library is not built: run `make lib` in the sources, or set PRECOPY_LIBRARY ({fault})")
+
+
 def build_wheel(wheel_directory, config_settings=None, metadata_directory=None):
     name = f"precopy-{told('version')}"
     files = {f"precopy/{part}": read("precopy", part) for part in PARTS}
     platform = "any"
     if os.path.exists(LIBRARY):
-        files["precopy/libprecopy.so.3"] = read(LIBRARY)
+        files[f"precopy/{NAME}"] = read(LIBRARY)
         platform = re.sub(r"\W", "_", sysconfig.get_platform())
+    else:
+        need_library()
     tag, pure = f"py3-none-{platform}", "true" if platform == "any" else "false"
     files[f"{name}.dist-info/METADATA"] = metadata()
     wheel = f"Wheel-Version: 1.0\nGenerator: precopy\nRoot-Is-Purelib: {pure}\nTag: {tag}\n"

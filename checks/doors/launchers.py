@@ -213,10 +213,15 @@ def least_milliseconds(path):
 
 
 def cost(tally, it):
-    """What a launcher adds to a start: the least of three measurements, since others work here too."""
-    found = min(least_milliseconds(it.launcher) - least_milliseconds(it.program) for _ in range(3))
-    print(f"  a launcher adds {found:.2f} ms", flush=True)
-    tally.add(found < MOST_MILLISECONDS, f"a launcher adds {found:.2f} ms")
+    """What a launcher adds to a start: the least of three measurements, since others work here too. On a slow machine
+    it is no more than a start of the program takes there."""
+    found = []
+    for _ in range(3):
+        alone = least_milliseconds(it.program)
+        found.append((least_milliseconds(it.launcher) - alone, alone))
+    added, alone = min(found)
+    print(f"  a launcher adds {added:.2f} ms to {alone:.2f}", flush=True)
+    tally.add(added < max(MOST_MILLISECONDS, alone), f"a launcher adds {added:.2f} ms to {alone:.2f}")
 
 
 def check(tally, folder):

@@ -127,7 +127,7 @@ def try_symbols(tally, files):
     """Programs that are linked with the library depend on it by its symbols: those are the calls of the header."""
     (package,) = (path for path in files if os.path.basename(path).startswith("libprecopy3_"))
     told = run("dpkg-deb", "--info", package, "symbols").stdout
-    listed = re.findall(r"^ (precopy_\w+)@PRECOPY_1 \d", told, re.M)
+    listed = re.findall(r"^ (precopy_\w+)@PRECOPY_3 \d", told, re.M)
     with open(os.path.join(TOP, "include", "precopy.h"), encoding="utf-8") as file:
         called = re.findall(r"^(?:uint32_t |bool |const char \*)(precopy_\w+)\(", file.read(), re.M)
     tally.add(called and set(listed) == set(called), f"the symbols of {package} are {listed}, and not {called}")

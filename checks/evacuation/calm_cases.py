@@ -14,6 +14,7 @@ from checks.evacuation import model, monitors
 from checks.evacuation.cases import Programs, document_of, expect, micros, run_tool, write_record
 from checks.evacuation.moving_cases import write_settings
 from checks.lib.harness import cases_of, draws
+from checks.lib.tally import expect_in_time
 from precopy_tools.evacuate import lines, movers, run
 from precopy_tools.evacuate.costs import Cost, Guest, Wanted
 from precopy_tools.evacuate.schedules import Placed
@@ -122,7 +123,7 @@ def without_that_hour(programs: Programs, folder: str) -> None:
     expect(moves["db"]["days"] == [] and "db: no record tells" not in text, text)
     told, text = told_at(programs, folder, f"{folder}/db.light.pcwt", "--at", "now")
     opens = datetime.datetime.fromisoformat(told["opens"]).timestamp()
-    expect(abs(opens - time.time()) < 20, f"{told['opens']}")
+    expect_in_time(abs(opens - time.time()) < 20, f"{told['opens']}")
 
 
 def nights(folder: str, begin: int) -> dict[str, dict[int, model.Guest]]:
@@ -265,7 +266,9 @@ def steps_in(seconds: float) -> tuple[list[lines.Step], float]:
 
 def expect_begun(begun: dict[str, float], opens: float, hold: float) -> None:
     expect(set(begun) == {"web", "db"}, f"{begun}")
-    expect(0 <= begun["web"] - opens < 4 and 0 <= begun["db"] - opens - 0.5 - hold < 4, f"{begun} after {opens}")
+    late = begun["web"] - opens, begun["db"] - opens - 0.5 - hold
+    expect(min(late) >= 0, f"{begun} after {opens}")
+    expect_in_time(max(late) < 4, f"{begun} after {opens}")
 
 
 def held_in_scripts(_: Programs, folder: str) -> None:
@@ -307,7 +310,9 @@ def expect_stopped(script: str, text: str, time_of_first: int, environment: dict
     time.sleep(0.7)
     process.send_signal(signal.SIGINT)
     told, fault = process.communicate(timeout=60)
-    expect(process.returncode == 1 and "begins" not in told, f"{process.returncode}, {told}, {fault}")
+    expect("begins" not in told, f"{told}, {fault}")
+    # A script that has not begun to wait yet is ended by the signal itself.
+    expect_in_time(process.returncode == 1, f"{process.returncode}, {told}, {fault}")
 
 
 def held_in_runs(_: Programs, folder: str) -> None:
@@ -332,7 +337,8 @@ def held_in_runs(_: Programs, folder: str) -> None:
         expect(states == ["moved"] * 2, f"{states}")
         expect_begun({event.guest: event.time for event in log if event.what == "begins"}, opens, 2)
         starts = [move.start / 1e6 for move in outcome.moves]
-        expect(-0.1 < starts[0] < 3 and 2.4 < starts[1] < 6, f"{starts}: not from the opening on")
+        expect(-0.1 < starts[0] and 2.4 < starts[1], f"{starts}: not from the opening on")
+        expect_in_time(starts[0] < 3 and starts[1] < 6, f"{starts}: not from the opening on")
 
 
 CASES = cases_of(__name__)

@@ -29,7 +29,7 @@ domjobinfo)
 migrate)
     tell begins
     case " {failing} " in
-    *" $domain "*) sleep 0.1; tell fails; echo 'error: operation failed: no such host' >&2; exit 1 ;;
+    *" $domain "*) sleep 0.5; tell fails; echo 'error: operation failed: no such host' >&2; exit 1 ;;
     esac
     sleep {seconds}
     tell ends ;;

@@ -21,6 +21,7 @@ from checks.evacuation.cases import (
     steady_guest,
     write_record,
 )
+from checks.lib.tally import expect_in_time
 
 SECONDS, LINK = 120, "64MiB"
 NAMES = ("web", "db", "idle", "cache")
@@ -105,6 +106,13 @@ def script_of(programs: Programs, folder: str, *words: str, status: int = 0) -> 
     return path
 
 
+def expect_two_at_once(events: list[monitors.Event]) -> None:
+    """Never more than two are under way, and, if the machine is not slower than the guests, two are once."""
+    most = monitors.most_at_once(events)
+    expect(most <= 2, f"{most} at once: {events}")
+    expect_in_time(most == 2, f"{most} at once: {events}")
+
+
 def expect_order(events: list[monitors.Event], apart: tuple[str, ...] = ()) -> None:
     """No guest of some begins before the one of these that began before has ended."""
     under_way = set()
@@ -128,17 +136,18 @@ def scripts_of_virsh(programs: Programs, folder: str) -> None:
         sorted(event.guest for event in events if event.what == "ends") == ["-db one", "cache", "idle", "web"],
         f"{events}",
     )
-    expect(monitors.most_at_once(events) == 2, f"{events}")
+    expect_two_at_once(events)
     expect_order(events, ("web", "cache"))
     with open(log, encoding="utf-8") as file:
         expect("migrate-setmaxdowntime --domain -db one --downtime 300" in file.read(), "another limit")
     text, _ = run_tool(programs, *words)
     with open(path, encoding="utf-8") as file:
         expect(text.endswith(file.read()), "the lines below the table are another script")
-    environment, log = monitors.virsh_in(folder, 0.6, ("web", "-db one"))
+    environment, log = monitors.virsh_in(folder, 2, ("web", "-db one"))
     done = subprocess.run([path], env=environment, capture_output=True, text=True, timeout=SECONDS)
     begun = [event.guest for event in monitors.events_in(log) if event.what == "begins"]
-    expect(done.returncode == 1 and len(begun) == 2 and "has not moved" in done.stderr, f"{done}, {begun}")
+    expect(done.returncode == 1 and len(begun) <= 2 and "has not moved" in done.stderr, f"{done}, {begun}")
+    expect_in_time(len(begun) == 2, f"{begun}")
 
 
 def four_monitors(folder: str, seconds: float = 0.5, **how) -> tuple[list[monitors.Event], dict[str, monitors.Monitor]]:
@@ -157,7 +166,7 @@ def scripts_of_qmp(programs: Programs, folder: str) -> None:
     path = script_of(programs, folder, *records, *by_qmp(folder), *apart)
     done = subprocess.run([path], cwd="/", capture_output=True, text=True, timeout=SECONDS)
     expect(done.returncode == 0 and done.stdout.count("has moved") == 4, f"{done}")
-    expect(monitors.most_at_once(log) == 2, f"{log}")
+    expect_two_at_once(log)
     expect_order(log, ("web", "cache"))
     for name, guest in guests.items():
         asked = [command for command, _ in guest.asked]
@@ -189,14 +198,16 @@ def runs_that_end_well(programs: Programs, folder: str) -> None:
     records, (log, guests) = four_guests(folder), four_monitors(folder)
     words = [*by_qmp(folder), "--json", f"{folder}/told.json", "--picture", f"{folder}/run.svg"]
     text, fault = run_of(programs, folder, *records, *words)
-    expect(not fault and monitors.most_at_once(log) == 2, f"{fault}, {log}")
+    expect(not fault, f"{fault}, {log}")
+    expect_two_at_once(log)
     expect(text.count(" has moved\n") == 4 and "the whole" in text, text)
     told = document_of(folder)
     states = {each["guest"]: each for each in told["run"]["guests"]}
     expect(told["run"]["is_complete"] and set(states) == set(NAMES), f"{told['run']}")
     for name, each in states.items():
         took = each["end_seconds"] - each["start_seconds"]
-        expect(each["state"] == "moved" and 0.4 < took < 3 and each["sent_bytes"] == 7 << 20, f"{name}: {each}")
+        expect(each["state"] == "moved" and 0.4 < took and each["sent_bytes"] == 7 << 20, f"{name}: {each}")
+        expect_in_time(took < 3, f"{name}: {each}")
         expect(each["down_seconds"] == 0.009, f"{name}: {each}")
         parameters = dict(guests[name].asked)["migrate-set-parameters"]
         expect(parameters == {"max-bandwidth": 32 << 20, "downtime-limit": 300}, f"{name}: {parameters}")
@@ -248,7 +259,8 @@ def runs_that_do_not(programs: Programs, folder: str) -> None:
     written = ["--json", f"{folder}/told.json", "--picture", f"{folder}/run.svg"]
     text, fault = run_of(programs, folder, *records, *by_qmp(folder), *written, status=5)
     begun = [event.guest for event in log if event.what == "begins"]
-    expect(sorted(begun) == sorted((first, other)), f"{log}")
+    expect(first in begun and set(begun) <= {first, other}, f"{log}")
+    expect_in_time(other in begun, f"{log}")
     expect(f"{first} has not moved: the destination refuses; it runs here" in fault, fault)
     states = {each["guest"]: each["state"] for each in document_of(folder)["run"]["guests"]}
     waiting = {name: "not begun" for name in NAMES if name not in begun}
@@ -308,11 +320,11 @@ def runs_of_virsh(programs: Programs, folder: str) -> None:
     words = [*records, *TWO, "--to", "qemu+ssh://b/system", "--json", f"{folder}/told.json", "--run"]
     command = [EVACUATE, "--program", programs.view, "--scheduler", programs.scheduler, *words]
     for failing, status in (((), 0), (("web", "db", "cache"), 5)):
-        environment, log = monitors.virsh_in(folder, 0.7, failing)
+        environment, log = monitors.virsh_in(folder, 2 if failing else 0.7, failing)
         done = subprocess.run(command, env=environment, capture_output=True, text=True, timeout=SECONDS)
         expect(done.returncode == status, f"{done}")
         events = monitors.events_in(log)
-        expect(monitors.most_at_once(events) == 2, f"{events}")
+        expect_two_at_once(events)
         guests = document_of(folder)["run"]["guests"]
         states = [each["state"] for each in guests]
         # virsh no longer tells the downtime of a move that ended between two looks.

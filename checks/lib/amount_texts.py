@@ -1,6 +1,8 @@
 """Times and sizes as precopy-view, the tools and the page write them (docs/COMMANDS.md), in microseconds and bytes.
 It shares no code with any of them."""
 
+UNITS = (("Gbit", 125_000_000), ("Mbit", 125_000), ("Kbit", 125))
+
 
 def seconds(micros: int) -> str:
     return f"{micros // 1_000_000}.{micros // 1_000 % 1_000:03} s"
@@ -34,3 +36,17 @@ def size_text(size: int) -> str:
     unit, name = next((1 << power, name) for power, name in ((30, "GiB"), (20, "MiB"), (10, "KiB")) if size >> power)
     hundredths = size * 100 // unit
     return f"{hundredths // 100}.{hundredths % 100:02} {name}"
+
+
+def rate_word(size: int) -> str:
+    """A rate as a refusal tells it: in the greatest unit of bits in which it is whole, or in KB."""
+    return next(
+        (f"{size // unit}{name}" for name, unit in UNITS if (size or unit == 125) and size % unit == 0),
+        f"{size // 1_000}.{size % 1_000:03}KB",
+    )
+
+
+def time_word(micros: int) -> str:
+    """A time as a refusal tells it."""
+    units = (("s", 1_000_000), ("ms", 1_000))
+    return next((f"{micros // unit}{name}" for name, unit in units if micros and micros % unit == 0), f"{micros}us")

@@ -6,13 +6,13 @@ from dataclasses import dataclass
 from fractions import Fraction
 from typing import NamedTuple, Optional
 
-from checks.lib import remedy_model
-from checks.lib.amount_texts import error_text, moment_text, size_text, time_text
+from checks.lib import remedy_model, share_model
+from checks.lib.amount_texts import error_text, moment_text, rate_word, size_text, time_text, time_word
 from checks.lib.host_words import host_lines, hosts_member
+from checks.lib.look_model import look_lines, look_member
 from checks.lib.traces import Trace
-from precopy_dev.models import redrawn, remedies
+from precopy_dev.models import redrawn, remedies, shares
 
-UNITS = (("Gbit", 125_000_000), ("Mbit", 125_000), ("Kbit", 125))
 REASONS = {
     "few": ("yes, rounds: ", ""),
     "fast": (
@@ -29,20 +29,6 @@ STATUSES = {"yes": 0, "no": 3, "unknown": 4}
 
 
 # ---- Words.
-
-
-def rate_word(size: int) -> str:
-    """A rate as a refusal tells it: in the greatest unit of bits in which it is whole, or in KB."""
-    return next(
-        (f"{size // unit}{name}" for name, unit in UNITS if (size or unit == 125) and size % unit == 0),
-        f"{size // 1_000}.{size % 1_000:03}KB",
-    )
-
-
-def time_word(micros: int) -> str:
-    """A time as a refusal tells it."""
-    units = (("s", 1_000_000), ("ms", 1_000))
-    return next((f"{micros // unit}{name}" for name, unit in units if micros and micros % unit == 0), f"{micros}us")
 
 
 def seconds(micros: int) -> Fraction:
@@ -195,6 +181,7 @@ class Answer(NamedTuple):
     left: int
     recorded: int
     errors: Optional[tuple[int, int, int]]
+    share: shares.LinkShare
     enough: remedies.Remedies
     plan: redrawn.Outcome
 
@@ -219,6 +206,7 @@ def answer_of(asked: Question, trace: Trace) -> Optional[Answer]:
         plan.left,
         max(0, trace.last - asked.start) * asked.tick,
         redrawn.errors(trace.guest, settings, asked.scale()) if has_errors else None,
+        shares.link_share(trace.guest, asked.trial()),
         remedies.remedies(trace.guest, asked.trial()),
         plan,
     )
@@ -248,10 +236,10 @@ def lines_of(asked: Question, told: Answer) -> list[str]:
 
 def all_lines(asked: Question, told: Answer, trace: Trace) -> list[str]:
     """All lines of `precopy-view predict`."""
-    live = live_line(asked.settings())
     hosts = host_lines(asked.link, asked.millis_for_pages())
-    ranges = Starts(asked, trace).lines()
-    return [*lines_of(asked, told), *ranges, *remedy_model.enough_lines(told.enough), live, *hosts]
+    ranges = [*look_lines(asked, trace), *Starts(asked, trace).lines(), *share_model.share_lines(told.share)]
+    enough = [*remedy_model.enough_lines(told.enough), live_line(asked.settings())]
+    return [*lines_of(asked, told), *ranges, *enough, *hosts]
 
 
 def units_member(asked: Question) -> dict:
@@ -286,7 +274,9 @@ def document_of(asked: Question, told: Answer, trace: Trace) -> dict:
         "converges": told.converges,
         "kept": told.kept,
         "recorded_seconds": seconds(told.recorded),
+        **look_member(asked, trace),
         **Starts(asked, trace).member(),
+        **share_model.share_member(told.share),
         "enough": remedy_model.enough_member(told.enough, seconds),
         "hosts": hosts_member(asked.link, asked.millis_for_pages()),
     }

@@ -12,8 +12,10 @@ programs around it. Frames are shuffled, repeated, damaged, and cut at every byt
 of 2,000 streams, of which the library's check must name each (checks/library/streams.py). Versions, writes and steps of
 memory are worked out once more for random traces (checks/library/places.py). Numbers out of range and bytes of all
 kinds go to Python, which pip installs in a fresh environment, and to Rust, whose answers are compared with those of
-Python. The examples run, and so does what docs/LIBRARY.md and the head of the header show. The library is installed,
-used and taken away again. It needs `cc` and `make`.
+Python. Python is also given memory that overlaps a trace, streams that are cut off, too little memory, and arrays of
+numpy if it has that. The crate is linked with each form of the library. The examples run, and so does what
+docs/LIBRARY.md and the head of the header show. The library is installed, used and taken away again. It needs `cc` and
+`make`.
 """
 
 import tempfile

@@ -86,6 +86,16 @@ static uint32_t version_after(const struct guest *g, struct outputs *out) {
                                  (void *)out->record.at);
 }
 
+static uint32_t versions_after(const struct guest *g, struct outputs *out) {
+    return precopy_versions_after(g->trace.at, g->trace.length, UINT32_MAX, (void *)out->room.at,
+                                  out->room.length / sizeof(uint32_t), (void *)out->told.at, (void *)out->record.at);
+}
+
+static uint32_t versions_before(const struct guest *g, struct outputs *out) {
+    return precopy_versions_before(g->trace.at, g->trace.length, g->tick, (void *)out->room.at,
+                                   out->room.length / sizeof(uint32_t), (void *)out->told.at, (void *)out->record.at);
+}
+
 static uint32_t page_at(const struct guest *g, struct outputs *out) {
     return precopy_page_at(g->trace.at, g->trace.length, 0, g->stamp, out->room.at, out->room.length,
                            (void *)out->record.at);

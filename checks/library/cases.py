@@ -42,11 +42,14 @@ def check_form(tally):
     found = run("nm", "-D", "--defined-only", "-f", "posix", shared).stdout.decode().split("\n")
     exported = {line.split()[0].split("@")[0] for line in found if line and " A " not in line}
     tally.add(exported == declared, f"libprecopy.so.3 and the header differ in {sorted(exported ^ declared)}")
+    versions = {line.split()[0].partition("@")[2].lstrip("@") for line in found if line and " A " not in line}
     found = run("nm", "-g", "--defined-only", "-f", "posix", archive).stdout.decode().split("\n")
     exported = {line.split()[0] for line in found if " T " in line or " D " in line or " R " in line}
     tally.add(exported == declared, f"libprecopy.a and the header differ in {sorted(exported ^ declared)}")
     told = run("readelf", "-d", shared).stdout.decode()
     tally.add("[libprecopy.so.3]" in told and "TEXTREL" not in told, f"readelf -d tells\n{told}")
+    number = re.search(r"SONAME.*\[libprecopy\.so\.(\d+)\]", told)
+    tally.add(number and versions == {f"PRECOPY_{number[1]}"}, f"the symbols have the versions {versions}, and\n{told}")
     needed = set(re.findall(r"NEEDED.*\[(.*)\]", told))
     tally.add(needed <= {"libc.so.6"}, f"libprecopy.so.3 needs {sorted(needed)}")
     size = os.path.getsize(shared)

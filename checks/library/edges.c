@@ -48,6 +48,13 @@ static void nulls_of_traces(void) {
     ROW(precopy_sweep(trace, sizeof trace, NULL, 0, &sums, 1, &count, &record) == PRECOPY_OK && count == 0);
     ROW(precopy_writes_before(NULL, 0, 1, &written, &record) == PRECOPY_SHORT_HEADER);
     ROW(precopy_version_after(NULL, 0, 0, 1, &written, &record) == PRECOPY_SHORT_HEADER);
+    ROW(precopy_versions_after(NULL, 0, 1, NULL, 0, &count, &record) == PRECOPY_SHORT_HEADER && count == 0);
+    ROW(precopy_versions_after(trace, sizeof trace, 1, NULL, 0, &count, &record) == PRECOPY_SHORT_BUFFER && count == 1);
+    count = 0;
+    ROW(precopy_versions_before(NULL, 0, 8, NULL, 0, &count, &record) == PRECOPY_SHORT_HEADER && count == 0);
+    ROW(precopy_versions_before(trace, sizeof trace, 8, NULL, 0, &count, &record) == PRECOPY_SHORT_BUFFER
+        && count == 1);
+    count = 0;
     ROW(precopy_page_at(NULL, 0, 0, 1, NULL, 0, &record) == PRECOPY_SHORT_HEADER);
     ROW(precopy_page_at(trace, sizeof trace, 0, 1, NULL, 0, &record) == PRECOPY_SHORT_BUFFER);
     ROW(precopy_page_writes(NULL, 0, 0, NULL, 0, &count, &record) == PRECOPY_SHORT_HEADER && count == 0);
@@ -91,6 +98,8 @@ static void nulls_of_frames(void) {
     ROW(precopy_check_pages(trace, sizeof trace, &progress, NULL, 0, &found, &record) == PRECOPY_PAGE_COUNT);
     ROW(precopy_missing(NULL, 0, &needed) == PRECOPY_OK && needed == 25);
     ROW(precopy_is_zero(NULL, 0));
+    ROW(precopy_refusal_text(PRECOPY_SHORT_HEADER, 0, NULL, 0, &needed) == PRECOPY_SHORT_BUFFER && needed > 25);
+    ROW(precopy_finding_text(PRECOPY_OLDER, &found, NULL, 0, &needed) == PRECOPY_SHORT_BUFFER && needed > 25);
 }
 
 static void order_of_traces(void) {

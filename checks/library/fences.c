@@ -108,6 +108,22 @@ static uint32_t given_back(struct fences *fences, uint32_t status) {
 #define IN(at, count) read_only(&all, at, (count) * sizeof *(at))
 #define OUT(at, count) writable(&all, at, (count) * sizeof *(at))
 
+FENCED(refusal_text);
+uint32_t __wrap_precopy_refusal_text(uint32_t status, uint32_t record, uint8_t *text, size_t text_length,
+                                     size_t *needed) {
+    struct fences all = {.count = 0};
+    return given_back(&all,
+                      __real_precopy_refusal_text(status, record, OUT(text, text_length), text_length, OUT(needed, 1)));
+}
+
+FENCED(finding_text);
+uint32_t __wrap_precopy_finding_text(uint32_t status, const struct precopy_finding *found, uint8_t *text,
+                                     size_t text_length, size_t *needed) {
+    struct fences all = {.count = 0};
+    return given_back(
+        &all, __real_precopy_finding_text(status, IN(found, 1), OUT(text, text_length), text_length, OUT(needed, 1)));
+}
+
 FENCED(check_trace);
 uint32_t __wrap_precopy_check_trace(const uint8_t *trace, size_t length, struct precopy_sizes *sizes,
                                     uint32_t *record) {
@@ -210,6 +226,24 @@ uint32_t __wrap_precopy_version_after(const uint8_t *trace, size_t length, uint3
     struct fences all = {.count = 0};
     return given_back(
         &all, __real_precopy_version_after(IN(trace, length), length, page, count, OUT(version, 1), OUT(record, 1)));
+}
+
+FENCED(versions_after);
+uint32_t __wrap_precopy_versions_after(const uint8_t *trace, size_t length, uint32_t count, uint32_t *versions,
+                                       size_t versions_length, size_t *needed, uint32_t *record) {
+    struct fences all = {.count = 0};
+    return given_back(&all,
+                      __real_precopy_versions_after(IN(trace, length), length, count, OUT(versions, versions_length),
+                                                    versions_length, OUT(needed, 1), OUT(record, 1)));
+}
+
+FENCED(versions_before);
+uint32_t __wrap_precopy_versions_before(const uint8_t *trace, size_t length, uint64_t tick, uint32_t *versions,
+                                        size_t versions_length, size_t *needed, uint32_t *record) {
+    struct fences all = {.count = 0};
+    return given_back(&all,
+                      __real_precopy_versions_before(IN(trace, length), length, tick, OUT(versions, versions_length),
+                                                     versions_length, OUT(needed, 1), OUT(record, 1)));
 }
 
 FENCED(page_at);

@@ -325,9 +325,9 @@ static struct precopy_question question_of(uint64_t size, uint64_t pages) {
 
 /* Each call over a trace that is refused: the same number and record, and nothing else written. */
 static void try_refused(const struct guest *guest, uint32_t status, const struct room *record) {
-    call_of *calls[] = {plan,        rounds,        report,        sweep,       predict,       enough,
-                        memory,      memory_before, writes_before, memory_step, version_after, page_at,
-                        page_writes, check_streams, check_piece,   check_pages};
+    call_of *calls[] = {plan,        rounds,        report,        sweep,       predict,        enough,
+                        memory,      memory_before, writes_before, memory_step, version_after,  page_at,
+                        page_writes, check_streams, check_piece,   check_pages, versions_after, versions_before};
     for (size_t i = 0; i < sizeof calls / sizeof *calls; i++) {
         struct outputs out = outputs_of(1920, sizeof(struct precopy_prediction) + sizeof(struct precopy_errors));
         uint32_t told = calls[i](guest, &out);
@@ -380,6 +380,8 @@ static void try_all(struct guest *guest, const struct precopy_sizes *sizes) {
         {"memory_before", memory_before, bytes, sizeof(size_t), 1},
         {"writes_before", writes_before, 0, sizeof(uint32_t), 1},
         {"version_after", version_after, 0, sizeof(uint32_t), 1},
+        {"versions_after", versions_after, sizes->pages * sizeof(uint32_t), sizeof(size_t), sizeof(uint32_t)},
+        {"versions_before", versions_before, sizes->pages * sizeof(uint32_t), sizeof(size_t), sizeof(uint32_t)},
         {"page_at", page_at, size, 0, 1},
         {"page_writes", page_writes, writes * row, sizeof(size_t), row},
         {"check_streams", check_streams, 0, sizeof(struct precopy_finding), 1},

@@ -32,6 +32,22 @@ def check_page(tally, trace, guest, number, chosen):
         tally.add(found == wanted, f"page {number} at {stamp}: {found}, not {wanted}")
 
 
+def check_versions(tally, trace, guest, chosen):
+    """Those of all pages, after some writes and before some ticks."""
+    drawn_places = (chosen.randint(0, guest.write_count + 2) for _ in range(3))
+    for count in {0, guest.write_count, (1 << 32) - 1, *drawn_places}:
+        found, wanted = precopy.versions_after(trace, count), [it.version(count) for it in guest.pages]
+        tally.add(found == wanted, f"versions after {count} writes: {found}, not {wanted}")
+    ticks = sorted({tick for page in guest.pages for tick, _, _ in page.writes})
+    for tick in {0, (1 << 64) - 1, *(tick + chosen.randint(0, 1) for tick in chosen.sample(ticks, min(len(ticks), 4)))}:
+        wanted = [
+            max((place for place, (at, _, _) in zip(page.places, page.writes) if at < tick), default=0)
+            for page in guest.pages
+        ]
+        found = precopy.versions_before(trace, tick)
+        tally.add(found == wanted, f"versions before tick {tick}: {found}, not {wanted}")
+
+
 def check_steps(tally, trace, guest, chosen):
     """Memory from place to place, each step in the memory that the last one left."""
     places = sorted(chosen.randint(0, guest.write_count + 2) for _ in range(6))
@@ -67,6 +83,7 @@ def check_trace(tally, trace, chosen):
     numbers = range(len(guest.pages))
     for number in chosen.sample(numbers, min(len(numbers), 5)):
         check_page(tally, trace, guest, number, chosen)
+    check_versions(tally, trace, guest, chosen)
     check_steps(tally, trace, guest, chosen)
     for number in (len(numbers), chosen.randrange(len(numbers), 1 << 32)):
         found = [status_of(precopy.version_after, trace, number, 1), status_of(precopy.page_at, trace, number, 0)]

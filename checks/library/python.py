@@ -18,7 +18,7 @@ from checks.lib import traces as all_traces
 from checks.lib.harness import drawn, draws
 from checks.lib.tally import LeftOut
 from checks.lib.traces import header, record
-from checks.library import traces
+from checks.library import python_edges, traces
 from precopy_dev.tree import TOP
 
 LIBRARY = os.path.join(TOP, "out", "library", "libprecopy.so.3")
@@ -49,6 +49,8 @@ def taking_numbers(trace):
     pages, memory = precopy.check_trace(trace).pages, precopy.memory(trace)
     yield "version_after, page", lambda it: precopy.version_after(trace, it, 1), (0, pages - 1)
     yield "version_after, count", lambda it: precopy.version_after(trace, 0, it), (0, (1 << 32) - 1)
+    yield "versions_after, count", lambda it: precopy.versions_after(trace, it), (0, (1 << 32) - 1)
+    yield "versions_before, tick", lambda it: precopy.versions_before(trace, it), (0, (1 << 64) - 1)
     yield "page_at, page", lambda it: precopy.page_at(trace, it, 0), (0, pages - 1)
     quiet = quiet_page(trace)
     yield "page_at, stamp", lambda it: precopy.page_at(trace, quiet, it), (0, 0)
@@ -156,13 +158,31 @@ def taking_bytes(trace, stream):
     yield "memory_before", trace, lambda it: precopy.memory_before(it, 700)
     yield "writes_before", trace, lambda it: precopy.writes_before(it, 700)
     yield "version_after", trace, lambda it: precopy.version_after(it, 0, 9)
+    yield "versions_after", trace, lambda it: precopy.versions_after(it, 9)
+    yield "versions_before", trace, lambda it: precopy.versions_before(it, 700)
     yield "page_at", trace, lambda it: precopy.page_at(it, 0, 0)
     yield "page_writes", trace, lambda it: precopy.page_writes(it, 0)
     yield "memory_step", trace, step_of
     yield "check_streams, trace", trace, lambda it: precopy.check_streams(it, 9, [b""])
+    for name, call in taking_streams():
+        yield name, stream, call
     yield "encode_frame", PAGE, lambda it: precopy.encode_frame(SIZES, 2, 3, it)
     yield "decode_frame", stream, lambda it: precopy.decode_frame(SIZES, it)
     yield "accept", stream, lambda it: (lambda flat: (flat.accept(it), traces.state(flat)))(precopy.FlatMemory(SIZES))
+
+
+def taking_streams():
+    """Each call over streams of a guest without writes: its name, and the call."""
+    trace = header(3, 0)
+    yield "check_streams, a stream", lambda it: precopy.check_streams(trace, 0, [it])
+    yield "check_streams, streams", lambda it: precopy.check_streams(trace, 0, [b"", it])
+    yield "take", lambda it: precopy.StreamCheck(trace, 0).take(it)
+    yield "take, behind a byte", lambda it: (lambda check: (check.take(b"\0"), check.take(it)))(
+        precopy.StreamCheck(trace, 0)
+    )
+    yield "take, after a finding", lambda it: (lambda check: (check.take(b"\4" * 9), check.take(it)))(
+        precopy.StreamCheck(trace, 0)
+    )
 
 
 def step_of(data):
@@ -261,7 +281,8 @@ def longest_reports():
 
 def check_refusal(tally, trace, wanted):
     for name, _, call in taking_bytes(trace, b""):
-        if name not in ("is_zero", "encode_frame", "decode_frame", "accept", "check_trace"):
+        over_others = ("is_zero", "encode_frame", "decode_frame", "accept", "check_trace")
+        if name not in (*over_others, *(it for it, _ in taking_streams())):
             try:
                 call(trace)
                 tally.add(False, f"{name} takes it")
@@ -293,19 +314,10 @@ def check_refusals(tally):
 
 
 def check_flat(tally):
-    """Frames that stand in the memory that takes them, and threads that share one memory."""
+    """Threads that share one memory."""
     frame = precopy.encode_frame(SIZES, 0, 7, bytes(range(1, 17)))
-    for chosen in drawn("frames in memory", range(100)):
-        sizes = precopy.Sizes(4, 6, 20)
-        frames = [(chosen.randrange(6), chosen.randrange(21), chosen.randbytes(16)) for _ in range(3)]
-        stream, start = b"".join(traces.frame_text(*it) for it in frames), chosen.randrange(96 - 75)
-        flat, wanted = precopy.FlatMemory(sizes), precopy.FlatMemory(sizes)
-        for each in (flat, wanted):
-            each.memory[start : start + len(stream)] = stream
-        good = wanted.accept(stream) == flat.accept(memoryview(flat.memory)[start : start + len(stream)])
-        good = good and traces.state(flat) == traces.state(wanted)
-        tally.add(good, f"frames that stand in the memory that takes them, {chosen}")
-    check_turns(tally)
+    frames = [precopy.encode_frame(SIZES, number % 3, number % 20, PAGE) for number in range(100)]
+    check_turns(tally, "precopy_accept", precopy.FlatMemory(SIZES).accept, frames)
     for chosen in drawn("frames of eight threads", range(10)):
         sizes, frames = traces.frames(chosen)
         frames *= 40
@@ -319,9 +331,9 @@ def check_flat(tally):
     tally.add(outcome(flat.accept, frame) == "Refused", "memory that was cut")
 
 
-def check_turns(tally):
-    """Calls of several threads over one memory take turns: no two are in the library at once."""
-    inside, most, call = [], [], precopy._LIBRARY.precopy_accept
+def check_turns(tally, name, act, data):
+    """Calls of several threads over one object take turns: no two are in the library at once."""
+    inside, most, call = [], [], getattr(precopy._LIBRARY, name)
 
     def watched(*words):
         inside.append(1)
@@ -331,15 +343,13 @@ def check_turns(tally):
         inside.pop()
         return answer
 
-    flat = precopy.FlatMemory(SIZES)
-    frames = [precopy.encode_frame(SIZES, number % 3, number % 20, PAGE) for number in range(100)]
-    precopy._LIBRARY.precopy_accept = watched
+    setattr(precopy._LIBRARY, name, watched)
     try:
         with concurrent.futures.ThreadPoolExecutor(8) as threads:
-            list(threads.map(flat.accept, frames))
+            list(threads.map(act, data))
     finally:
-        precopy._LIBRARY.precopy_accept = call
-    tally.add(len(most) == 100 and max(most) == 1, f"{max(most)} calls over one memory at once")
+        setattr(precopy._LIBRARY, name, call)
+    tally.add(len(most) == len(data) and max(most) == 1, f"{max(most)} calls of {name} over one object at once")
 
 
 # ---- pip.
@@ -366,13 +376,15 @@ def check_pip(tally, folder):
     line = "import precopy, os; print(os.path.dirname(precopy.__file__), precopy.version(),"
     line += " os.path.exists(os.path.join(os.path.dirname(precopy.__file__), 'py.typed')))"
     for source, library in ((f"{TOP}/bindings/python", {}), (alone, {"PRECOPY_LIBRARY": LIBRARY})):
-        ran = run(f"{fresh}/bin/pip", "install", "--force-reinstall", source, env=environment, cwd="/")
+        where = {**environment, **library}
+        ran = run(f"{fresh}/bin/pip", "install", "--force-reinstall", source, env=where, cwd="/")
         if not tally.add(ran.returncode == 0, f"pip install {source}: {(ran.stdout + ran.stderr).decode()[-800:]}"):
             continue
-        ran = run(f"{fresh}/bin/python", "-c", line, env={**environment, **library}, cwd="/")
+        ran = run(f"{fresh}/bin/python", "-c", line, env=where, cwd="/")
         words = ran.stdout.decode()
         good = words.startswith(fresh) and words.endswith(f"/precopy {precopy.version()} True\n")
         tally.add(good, f"the module that pip installs from {source}: {ran}")
+    python_edges.check_no_library(tally, alone, [f"{fresh}/bin/pip"], environment)
     ran = run(f"{fresh}/bin/pip", "uninstall", "-y", "precopy", env=environment, cwd="/")
     left = [at for at, _, _ in os.walk(fresh) if "precopy" in os.path.relpath(at, fresh)]
     tally.add(ran.returncode == 0 and not left, f"pip uninstall leaves {left}")
@@ -385,5 +397,6 @@ def check(tally, folder):
         check_copies(case)
     check_refusals(tally)
     check_flat(tally)
+    python_edges.check(tally, check_turns)
     with tally.case("the Python module by pip") as case:
         check_pip(case, folder)

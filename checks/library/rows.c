@@ -224,6 +224,9 @@ static void memories(void) {
 
 static void pages(void) {
     static const uint8_t first[16] = {1};
+    static const uint32_t after_four[5] = {1, 3, 0, 4, 9}, after_all[5] = {1, 5, 0, 4, 9};
+    static const uint32_t before_last[5] = {1, 3, 0, 0, 9};
+    uint32_t versions[5] = {9, 9, 9, 9, 9};
     struct precopy_write writes[4] = {{0, 9, 9, 9}, {0, 9, 9, 9}, {0, 9, 9, 9}, {0, 9, 9, 9}};
     uint8_t content[17], memory[64] = {0}, wanted[64] = {0};
     uint32_t version = 9;
@@ -234,6 +237,16 @@ static void pages(void) {
     ROW(precopy_version_after(trace, sizeof trace, 1, UINT32_MAX, &version, &record) == PRECOPY_OK && version == 5);
     ROW(precopy_version_after(trace, sizeof trace, 2, 5, &version, &record) == PRECOPY_OK && version == 0);
     ROW(precopy_version_after(trace, sizeof trace, 4, 5, &version, &record) == PRECOPY_NO_PAGE && version == 0);
+    ROW(precopy_versions_after(trace, sizeof trace, 4, versions, 5, &count, &record) == PRECOPY_OK && count == 4);
+    ROW(!memcmp(versions, after_four, sizeof versions));
+    ROW(precopy_versions_after(trace, sizeof trace, UINT32_MAX, versions, 4, &count, &record) == PRECOPY_OK);
+    ROW(!memcmp(versions, after_all, sizeof versions));
+    ROW(precopy_versions_after(trace, sizeof trace, 0, versions, 3, &count, &record) == PRECOPY_SHORT_BUFFER);
+    ROW(count == 4 && !memcmp(versions, after_all, sizeof versions));
+    ROW(precopy_versions_before(trace, sizeof trace, 2500, versions, 4, &count, &record) == PRECOPY_OK && count == 4);
+    ROW(!memcmp(versions, before_last, sizeof versions));
+    ROW(precopy_versions_before(trace, sizeof trace, 2501, versions, 4, &count, &record) == PRECOPY_OK);
+    ROW(!memcmp(versions, after_all, sizeof versions));
     memset(content, 9, sizeof content);
     ROW(precopy_page_at(trace, sizeof trace, 0, 1, content, 17, &record) == PRECOPY_OK);
     ROW(!memcmp(content, first, 16) && content[16] == 9);
@@ -398,6 +411,66 @@ static void pieces(void) {
     ROW(is_page(&found, 0, 0, 1, 1, 0));
 }
 
+/* Whether a sentence was written, and nothing behind it. */
+static int is_text(uint32_t status, const uint8_t *text, size_t length, size_t needed, const char *wanted) {
+    if (status != PRECOPY_OK || needed != strlen(wanted) || memcmp(text, wanted, needed)) {
+        return 0;
+    }
+    for (size_t at = needed; at < length; at++) {
+        if (text[at] != 9) {
+            return 0;
+        }
+    }
+    return 1;
+}
+
+static int tells_refusal(uint32_t status, uint32_t of_record, const char *wanted) {
+    uint8_t text[PRECOPY_TEXT_BOUND];
+    size_t needed = 0;
+    memset(text, 9, sizeof text);
+    uint32_t told = precopy_refusal_text(status, of_record, text, sizeof text, &needed);
+    return is_text(told, text, sizeof text, needed, wanted);
+}
+
+static int tells_finding(uint32_t status, struct precopy_finding found, const char *wanted) {
+    uint8_t text[PRECOPY_TEXT_BOUND];
+    size_t needed = 0, again = 0;
+    memset(text, 9, sizeof text);
+    if (precopy_finding_text(status, &found, text, strlen(wanted) - 1, &needed) != PRECOPY_SHORT_BUFFER
+        || needed != strlen(wanted) || text[0] != 9) {
+        return 0;
+    }
+    uint32_t told = precopy_finding_text(status, &found, text, sizeof text, &again);
+    return is_text(told, text, sizeof text, again, wanted);
+}
+
+static void sentences(void) {
+    struct precopy_finding old = {0, 5, 93, 0, 1, 2, 3, 0}, behind = {0, 0, 0, 1200, 1, 2, 3, 3};
+    struct precopy_finding cut = {1, 4, 68, 0, 0, 0, 0, 0}, never = {0, 0, 0, 0, 7, 0, 0, 0}, most;
+    memset(&most, 0xFF, sizeof most);
+    ROW(tells_refusal(PRECOPY_SHORT_HEADER, 7, "trace E1: it has fewer than the 16 bytes of a header"));
+    ROW(tells_refusal(PRECOPY_SHORT_RECORD, 7, "trace E8: it ends within this record (record 7)"));
+    ROW(tells_refusal(PRECOPY_OUT_OF_PAGE, 0, "trace E13: the write goes beyond its page (record 0)"));
+    ROW(tells_refusal(PRECOPY_TRAILING_BYTES, 7, "trace E14: bytes follow the last record"));
+    ROW(tells_refusal(PRECOPY_OK, 7, "done"));
+    ROW(tells_refusal(1234, 7, "no status of this library"));
+    ROW(tells_finding(PRECOPY_OLDER, old,
+                      "stream 0, frame 5, byte 93: page 1 at 2 for 3, a frame of the page with a "
+                      "greater stamp came before in the stream"));
+    ROW(tells_finding(PRECOPY_FRAME_SHORT, cut, "stream 1, frame 4, byte 68: frame F1: a frame is cut off"));
+    ROW(tells_finding(PRECOPY_PAGE_BEHIND, behind,
+                      "at the stop: page 1 at 2 for 3, a page is not at its version at "
+                      "the stop; it lacks write 3, at tick 1200"));
+    ROW(tells_finding(PRECOPY_PAGE_MISSING, never, "at the stop: page 7 at 0 for 0, a page did not come"));
+    ROW(tells_finding(PRECOPY_NO_MEMORY, old, "memory ran out"));
+    for (uint32_t status = 0; status < 100; status++) {
+        uint8_t text[PRECOPY_TEXT_BOUND];
+        size_t needed = sizeof text + 1;
+        ROW(precopy_finding_text(status, &most, text, sizeof text, &needed) == PRECOPY_OK && needed <= sizeof text);
+        ROW(precopy_refusal_text(status, UINT32_MAX, text, sizeof text, &needed) == PRECOPY_OK);
+    }
+}
+
 int main(void) {
     ROW(precopy_abi() == PRECOPY_ABI);
     streams();
@@ -413,6 +486,7 @@ int main(void) {
     pages();
     traces();
     frames();
+    sentences();
     printf("%d passed, %d failed\n", passed, failed);
     return failed != 0;
 }

@@ -41,12 +41,18 @@ def receive(tally, folder, path, trace):
 
 def check_statuses(tally):
     """The numbers of the crate's statuses are those of the header."""
-    pattern = r"\b(?:PRECOPY_|pub const )(\w+)(?:: u32)? = (\d+)"
-    header, crate = (dict(re.findall(pattern, read(path, "r"))) for path in (HEADER, f"{CRATE}/src/status.rs"))
-    reasons = {"FEW", "FAST", "ALL_ROUNDS", "YES", "NO", "UNKNOWN"}
-    header = {name: number for name, number in header.items() if name not in reasons}
+    header = dict(re.findall(r"\bPRECOPY_(\w+) = (\d+)", read(HEADER, "r")))
+    others = {"OK", "FEW", "FAST", "ALL_ROUNDS", "YES", "NO", "UNKNOWN"}
+    header = {name.title().replace("_", ""): number for name, number in header.items() if name not in others}
+    source = read(f"{CRATE}/src/status.rs", "r")
+    crate = dict(re.findall(r"^    (\w+) = (\d+),$", source, re.M))
     differ = header.items() ^ crate.items()
     tally.add(not differ and len(crate) > 30, f"statuses of header and crate differ: {differ}")
+    differ = header.items() ^ {(name, number) for number, name in re.findall(r"(\d+) => Status::(\w+),", source)}
+    tally.add(not differ, f"the crate makes other statuses of the numbers: {differ}")
+    told = [re.sub(r"\W+", " ", read(path, "r")) for path in (HEADER, f"{CRATE}/src/flat.rs")]
+    tally.add(all("mean nothing" in it for it in told), "header and crate differ about pages that did not come")
+    tally.add("#[non_exhaustive]\n#[repr(u32)]\npub enum Status" in source, "statuses are not said to become more")
     declared = set(re.findall(r"\b(precopy_\w+)\(", re.sub(r"/\*.*?\*/", "", read(HEADER, "r"), flags=re.S)))
     called = set(re.findall(r"\bcalls::(precopy_\w+)\(", "".join(read(f"{CRATE}/src/{it}", "r") for it in SOURCES)))
     tally.add(declared == called, f"the crate does not have the calls {sorted(declared ^ called)}")
@@ -80,6 +86,19 @@ def amounts_line(it):
     return f"enough {is_kept} {link} {downtime} {speed} {ends} {' '.join(ending)}"
 
 
+def finding_lines(trace, sizes, tick):
+    """What is wrong in streams of the frames of the memory at the stop: all of them, without the first, with another
+    stamp in the first, and without the last byte, in pieces."""
+    stop, memory, size = precopy.writes_before(trace, tick), precopy.memory_before(trace, tick), sizes.page_length
+    pages = [(page, precopy.version_after(trace, page, stop)) for page in range(sizes.pages)]
+    frames = [precopy.encode_frame(sizes, *it, memory[it[0] * size :][:size]) for it in pages]
+    stream = b"".join(frames)
+    other = stream[:4] + bytes([stream[4] ^ 1]) + stream[5:]
+    for each in (stream, b"".join(frames[1:]), other, stream[:-1]):
+        found = precopy.check_streams(trace, stop, [each])
+        yield f"finding {found.status:d} {found.place}: {found}" if found else "finding 0"
+
+
 def answer_lines(trace, settings):
     """What examples/answers.rs of the crate prints, as the Python module tells it."""
     try:
@@ -95,10 +114,11 @@ def answer_lines(trace, settings):
         yield f"best {best}"
         yield f"memory {precopy.memory(trace).hex()}"
         yield f"before {precopy.memory_before(trace, sums.stop).hex()}"
+        yield from finding_lines(trace, sizes, sums.stop)
         yield from prediction_lines(precopy.predict(trace, question(sizes, settings)))
         yield amounts_line(precopy.enough(trace, question(sizes, settings)))
     except precopy.Refused as refused:
-        yield f"refused {refused.status} {refused}"
+        yield f"refused {refused.status:d} {refused}"
 
 
 def check_crate(tally, crate, target, environment):
@@ -149,6 +169,32 @@ def check_example(tally, folder, source, target, environment, program):
         tally.add(good, f"examples/rust with {words} and no trace: {done}")
 
 
+def needs_library(built):
+    return "[libprecopy.so." in run("readelf", "-d", built).stdout.decode()
+
+
+def check_forms(tally, folder, source, target, environment):
+    """A folder with both forms gives the archive, one with the shared library alone gives that, and one with neither
+    ends the build."""
+    built = os.path.join(target, "debug", "precopy-example")
+    tally.add(os.path.isfile(built) and not needs_library(built), "a program over both forms needs a shared library")
+    shared, empty = os.path.join(folder, "shared alone"), os.path.join(folder, "no library")
+    os.makedirs(empty)
+    os.makedirs(shared)
+    for name in os.listdir(LIBRARY):
+        if ".so" in name:
+            shutil.copy(os.path.join(LIBRARY, name), shared, follow_symlinks=False)
+    command = ("cargo", "build", "--offline", "--quiet")
+    done = run(*command, cwd=source, env={**environment, "PRECOPY_LIBRARY_DIR": shared})
+    if is_done(tally, done, "examples/rust is built over the shared library"):
+        done = run(built, "memory", "2000", input=read(EXAMPLES[0]), env={**os.environ, "LD_LIBRARY_PATH": shared})
+        wanted = Trace(read(EXAMPLES[0])).memory(2000)
+        tally.add(needs_library(built) and done.stdout == wanted, f"examples/rust over the shared library: {done}")
+    done = run(*command, cwd=source, env={**environment, "PRECOPY_LIBRARY_DIR": empty})
+    good = done.returncode and b"PRECOPY_LIBRARY_DIR has neither libprecopy.a nor libprecopy.so" in done.stderr
+    tally.add(good, f"examples/rust over no library: {done}")
+
+
 def check(tally, folder, program):
     with tally.case("the statuses and calls of the crate") as case:
         check_statuses(case)
@@ -163,3 +209,5 @@ def check(tally, folder, program):
     environment = {**os.environ, "PRECOPY_LIBRARY_DIR": LIBRARY, "CARGO_TARGET_DIR": target}
     check_crate(tally, os.path.join(copies, CRATE), target, environment)
     check_example(tally, folder, os.path.join(copies, "examples/rust"), target, environment, program)
+    with tally.case("forms of the library for the crate") as case:
+        check_forms(case, folder, os.path.join(copies, "examples/rust"), target, environment)

@@ -13,8 +13,9 @@ and a name of its own for each control. In tables points are below each other, a
 neither. If Node is there, web/engine/planner.js plans the same in it, and the tests of checks/page/modules pass.
 Without Chromium all but sizes and Node are left out.
 
-With --pictures only looks are tried, in Chromium, and FOLDER gets them for a reader's eye: a PNG of each state of the
-page at each width, in light and in dark; PDFs of what is printed; and the files that the page saves. With --only one
+With --pictures only looks are tried, and FOLDER gets them for a reader's eye: in Chromium a PNG of each state of the
+page at each width, in light and in dark, PDFs of what is printed, and the files that the page saves; in Firefox too the
+scenes of checks/page/pictures.py, in light, in dark, on a phone, at 200 per cent, and on paper. With --only one
 part is tried: `node`, `firefox`, or in Chromium `numbers`, `starts`, `damages`, `addresses`, `uses`, `states`, `looks`,
 `loads` or `silence`; or one trial of these by the name of its function, as `check_told`.
 """
@@ -32,7 +33,7 @@ from checks.lib.tally import drawn_from, has, left_out
 from checks.lib.view_texts import TOP, Failure, ran, report_facts, sweep_facts, told
 from checks.page import addresses, cases, enough, loads
 from checks.page import looks as page_looks
-from checks.page import records, states, uses, worker
+from checks.page import pictures, records, states, uses, worker
 from checks.page.browser import Browser
 from checks.page.firefox import Firefox
 from checks.page.node import node_command, put_web
@@ -420,9 +421,13 @@ def in_firefox(tally, path):
         uses.check_uses(tally, Page(browser, path))
 
 
-def check_pictures(tally, path, pictures):
+def check_pictures(tally, path, folder):
+    os.makedirs(folder, exist_ok=True)
     if has("chromium", "chromium", "the page in a browser"):
-        tried(tally, "the browser", in_chromium, looks, tally, path, pictures)
+        tried(tally, "pictures in Chromium", pictures.in_chromium, path, folder)
+        tried(tally, "the browser", in_chromium, looks, tally, path, folder)
+    if has("firefox-esr", "firefox-esr", "pictures in Firefox"):
+        tried(tally, "pictures in Firefox", pictures.in_firefox, path, folder)
 
 
 def check_all(tally, folder, module, path, precopy, only):

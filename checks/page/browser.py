@@ -180,11 +180,12 @@ class Browser(Driven):
         for kind in ("rawKeyDown", "keyUp"):
             self.call("Input.dispatchKeyEvent", type=kind, key=key, code=key, windowsVirtualKeyCode=code)
 
-    def dress(self, width, height, is_dark=False, is_still=False):
-        """Sets the size of the page, and what the user prefers. A narrow page is on a phone: it is touched."""
+    def dress(self, width, height, is_dark=False, is_still=False, ratio=1):
+        """Sets the size of the page, with so many pixels of the screen for each of its own, and what the user prefers.
+        A narrow page is on a phone: it is touched."""
         # Touch comes first: a page that is laid out for a size asks whether it is touched.
         self.call("Emulation.setTouchEmulationEnabled", enabled=width < WIDER_THAN_PHONES, maxTouchPoints=1)
-        sizes = {"width": width, "height": height, "deviceScaleFactor": 1, "mobile": False}
+        sizes = {"width": width, "height": height, "deviceScaleFactor": ratio, "mobile": False}
         self.call("Emulation.setDeviceMetricsOverride", **sizes)
         features = [
             {"name": "prefers-color-scheme", "value": "dark" if is_dark else "light"},
@@ -264,3 +265,13 @@ class Browser(Driven):
     def picture(self, path, is_whole=True):
         """Writes a picture of the page."""
         self.keep_picture(path, self.call("Page.captureScreenshot", format="png", captureBeyondViewport=is_whole))
+
+    def picture_of(self, path, x, y, width, height):
+        """Writes a picture of a part of the page."""
+        clip = {"x": x, "y": y, "width": width, "height": height, "scale": 1}
+        found = self.call("Page.captureScreenshot", format="png", captureBeyondViewport=True, clip=clip)
+        self.keep_picture(path, found)
+
+    def printed(self):
+        """The page on paper, as a PDF in base64."""
+        return self.call("Page.printToPDF", printBackground=True, paperWidth=8.27, paperHeight=11.69)["data"]

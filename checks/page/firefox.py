@@ -101,10 +101,10 @@ class WebSocket:
 
 
 class Firefox(Driven):
-    def __init__(self, command="firefox-esr"):
+    def __init__(self, command="firefox-esr", preferences=None):
         super().__init__()
         with open(os.path.join(self.profile, "user.js"), "w", encoding="utf-8") as file:
-            for name, value in PREFERENCES.items():
+            for name, value in {**PREFERENCES, **(preferences or {})}.items():
                 file.write(f"user_pref({json.dumps(name)}, {json.dumps(value)});\n")
         words = [
             "nice",
@@ -184,6 +184,24 @@ class Firefox(Driven):
         node = {"sharedId": found["nodes"][0]["sharedId"]}
         self.call("input.setFiles", context=self.tab, element=node, files=list(paths))
 
-    def picture(self, path):
+    def dress(self, width, height, ratio=1, **_):
+        """Sets the size of the page, with so many pixels of the screen for each of its own. What the user prefers is
+        set before the start."""
+        size = {"width": width, "height": height}
+        self.call("browsingContext.setViewport", context=self.tab, viewport=size, devicePixelRatio=ratio)
+
+    def picture(self, path, is_whole=True):
         """Writes a picture of the page."""
-        self.keep_picture(path, self.call("browsingContext.captureScreenshot", context=self.tab, origin="document"))
+        origin = "document" if is_whole else "viewport"
+        self.keep_picture(path, self.call("browsingContext.captureScreenshot", context=self.tab, origin=origin))
+
+    def picture_of(self, path, x, y, width, height):
+        """Writes a picture of a part of the page."""
+        clip = {"type": "box", "x": x, "y": y, "width": width, "height": height}
+        found = self.call("browsingContext.captureScreenshot", context=self.tab, origin="document", clip=clip)
+        self.keep_picture(path, found)
+
+    def printed(self):
+        """The page on paper, as a PDF in base64."""
+        page = {"width": 21.0, "height": 29.7}
+        return self.call("browsingContext.print", context=self.tab, background=True, page=page)["data"]

@@ -1,5 +1,7 @@
 """What the planner's page shows first: an answer in few words, with a picture, and the way back."""
 
+import re
+
 from checks.page.acts import read, require, typed
 from checks.page.cases import example
 
@@ -42,6 +44,30 @@ def check_own_trace(page):
     words = page.browser.value(WORDS)
     page.browser.dress(1400, 900)
     require(len(words) <= MOST_WORDS, f"{len(words)} words above the fold: {' '.join(words)}")
+
+
+# Settings whose limit is missed, and of which nothing is known; with what is said to be enough.
+MISSED = [
+    ("trace=sqlite&link=64MiB&downtime=10ms&start=1000", r"Enough: link \S+ MiB/s or limit \S+ ms"),
+    ("trace=gzip&link=2MB&downtime=4ms&first=40&increase=25&start=400", r"Enough: link \S+ MB/s or limit \S+ ms"),
+    ("trace=sqlite&link=40MiB&first=50&downtime=100ms&start=9000&skip=1", r"Enough: link \S+ MiB/s or limit \S+ s"),
+]
+
+
+def check_missed(page):
+    """A plan that misses its limit, or ends after its trace, is answered in few words, with what is enough."""
+    for fragment, enough in MISSED:
+        page.browser.dress(1280, 900)
+        page.open(f"#{fragment}")
+        page.wait_for_plan()
+        page.rest()
+        words, (top, _, _, line) = page.browser.value(WORDS), page.browser.value(FIRST)
+        page.browser.dress(1400, 900)
+        require(len(words) <= MOST_WORDS, f"{len(words)} words above the fold: {' '.join(words)}")
+        said = page.browser.value("textOf('enough-words')").replace("\u00a0", " ")
+        require(top < FIRST_PICTURE and re.fullmatch(enough, said), f"{fragment}: {line}, {said!r}")
+        marks = page.browser.value("textOf('rounds-plot-this').includes('trace ends here')")
+        require(marks == ("Unknown" in line), f"{fragment}: {line}, the end of the trace is marked: {marks}")
 
 
 def check_first_look(page):

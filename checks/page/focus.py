@@ -23,6 +23,27 @@ SMALL = """[...document.querySelectorAll("button, .button, a, select, summary, i
 KEYS = "[...document.querySelectorAll('#rounds .key')].map((key) => getComputedStyle(key).backgroundColor)"
 
 
+# What a finger does at the middle of a picture.
+TAP = """(() => {
+  const plot = document.getElementById("ID");
+  const { left, top, width } = plot.getBoundingClientRect();
+  plot.dispatchEvent(new PointerEvent("click", { pointerType: "touch", bubbles: true, clientX: left + 0.6 * width,
+    clientY: top + 60 }));
+})()"""
+# Buttons that go, or can do nothing more, once they are pressed; the picture that has the focus then; and what comes
+# before.
+WAYS_BACK = [
+    ("zoom-out", "windows-plot", "document.getElementById('zoom-plan').click()"),
+    (
+        "all-pages",
+        "map-plot",
+        "document.getElementById('map-plot').dispatchEvent(new KeyboardEvent('keydown', { key: '*', bubbles: true }))",
+    ),
+    ("windows-take", "windows-plot", TAP.replace("ID", "windows-plot")),
+    ("links-take", "links-plot", TAP.replace("ID", "links-plot")),
+]
+
+
 def require_focus(page, wanted, what):
     """Waits until nothing is still to come, and tests where the focus is."""
     page.rest()
@@ -59,6 +80,16 @@ def check_focus(page):
     )
     pressed(page, "#undo-start")
     require_focus(page, "windows-plot", "Undo")
+    for button, plot, act in WAYS_BACK:
+        page.browser.value(act)
+        page.rest()
+        page.browser.value(f"['focus', 'click'].forEach((name) => document.getElementById('{button}')[name]())")
+        require_focus(page, plot, f"#{button}")
+    page.browser.value("scrollTo(0, document.body.scrollHeight)")
+    page.browser.wait("document.getElementById('trace').getBoundingClientRect().bottom < 0", 5)
+    page.drop(("bad.txt", b"no trace"))
+    page.browser.value("['focus', 'click'].forEach((name) => document.getElementById('close-notice')[name]())")
+    require(page.browser.value("document.activeElement.id") == "file", "a notice that is closed takes the focus along")
 
 
 def check_commands(page):

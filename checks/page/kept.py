@@ -62,10 +62,11 @@ def asked_rounds(page, rounds):
     return typed(page, "rounds", rounds)
 
 
-# The words of the pictures of rounds, where each has its stop, in pixels, and when its last round ends, in seconds.
+# The words of the axes of the pictures of rounds, where each has its stop, in pixels, and when its last round ends, in
+# seconds.
 ROUNDS = """["this", "kept-1"].map((name) => {
   const plot = document.getElementById(`rounds-plot-${name}`);
-  return [[...plot.querySelectorAll("text")].map((text) => text.textContent),
+  return [[...plot.querySelectorAll("text:not(.begin)")].map((text) => text.textContent),
     Number(plot.querySelector("rect.stop").getAttribute("x")) + 1,
     Number(rowsOf(`rounds-table-${name}`).at(-1)[2].replaceAll(",", ""))];
 })"""

@@ -1,12 +1,10 @@
 """What the planner's page offers besides a plan: what is enough for its limit, ways out of a plan that ends after its
-trace, links and starts."""
+trace, and starts."""
 
 import re
 from fractions import Fraction
 
-from checks.lib.amount_texts import time_text
-from checks.page import saves
-from checks.page.acts import asked, require, spelled, typed
+from checks.page.acts import asked, require, typed
 from checks.view.limit_cases import TIMES
 
 # Settings whose limit is kept, missed, missed by a first round and an increment of their own, missed whatever the link
@@ -76,40 +74,6 @@ def check_ways(page):
                 require(
                     "Unknown" in typed(page, "start", f"{start} ticks")["verdict"], f"{line}: {start} ends in it too"
                 )
-
-
-def check_links(page):
-    """The curves over slower and faster links have the plans of these links, and a click takes one."""
-    fragment = "trace=sqlite&first=50&downtime=300ms&start=1000&link="
-    page.ask(f"{fragment}64MiB")
-    page.rest()
-    marks = page.browser.value(
-        "['known', 'limit', 'stop', 'late'].map((name) => document.querySelectorAll("
-        "`#links-plot svg .${name}`).length)"
-    )
-    require(min(marks) > 0, f"curves, limit, this plan, and what is unknown: {marks}")
-    head, *lines = saves.saved_files(page, None)["links.csv"].decode().splitlines()
-    rows = [dict(zip(head.split(","), line.split(","))) for line in lines]
-    links = [int(row["link_bytes_per_second"]) for row in rows]
-    require(len(rows) == 41 and 7.9 < links[20] / links[0] < 8.1 and links[40] == 8 * links[20], f"links: {links}")
-    for row in rows[::8]:
-        found = page.ask(fragment + spelled(int(row["link_bytes_per_second"]), "KB"))
-        if row["kept"] == "unknown":
-            require("Unknown" in found["verdict"], f"{row}: {found['verdict']}")
-            continue
-        for name, key in (("downtime", "downtime_us"), ("time", "time_us")):
-            require(found["comparison"][name][0] == time_text(int(row[key])), f"{row}: {found['comparison'][name]}")
-    page.ask(f"{fragment}64MiB")
-    page.rest()
-    found = page.after(
-        """
-      const plot = document.getElementById("links-plot");
-      plot.focus();
-      for (const key of ["End", "Enter"]) {
-        plot.dispatchEvent(new KeyboardEvent("keydown", { key, bubbles: true }));
-      }"""
-    )
-    require("--link 512MiB" in found["predict"], f"the last link is not taken: {found['predict']}")
 
 
 def check_doubtful(page):

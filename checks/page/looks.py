@@ -161,6 +161,18 @@ ALL_MARKS = [
 ALL_MARKS += [*STARTS_MARKS, ["dirtied", "sent"], ["again", "earlier"], ["earlier", "fresh"], ["link", "rate"]]
 
 
+# Rows of buttons, and pictures with a title, that touch what is above them.
+TOUCHING = """
+[...document.querySelectorAll(".actions, #rounds")].filter((part) => part.offsetParent).flatMap((part) => {
+  const { top, left, right } = part.getBoundingClientRect();
+  const parts = [...part.parentElement.children];
+  const above = parts.slice(0, parts.indexOf(part)).filter((other) => other.offsetParent)
+    .map((other) => [other, other.getBoundingClientRect()])
+    .filter(([, box]) => box.height > 0 && box.left < right && left < box.right && box.bottom > top - 2);
+  return above.map(([other]) => `${part.id || part.className} and ${other.id || other.className}`);
+})"""
+
+
 def require(holds, words):
     if not holds:
         raise Failure(words)
@@ -193,6 +205,8 @@ def check_look(page, name, is_long=False):
     require(not ragged, f"columns, {name}: {ragged}")
     gaps = browser.value(GAPS.replace("PLACES", ".pair"))
     require(not gaps, f"gaps, {name}: {gaps}")
+    touching = browser.value(TOUCHING)
+    require(not touching, f"touching, {name}: {touching}")
     parts = "#comparison, #controls, pre" + ", .scrolls" * (not is_long)
     cut = browser.value(
         f"[...document.querySelectorAll('{parts}')]"
@@ -344,6 +358,7 @@ def check_stillness(page):
 LOOKS = {
     "stillness": check_stillness,
     "the first look": first.check_first_look,
+    "the first look at a limit that is missed": first.check_missed,
     "undo and redo": first.check_past,
     "the first look at a trace of one's own": first.check_own_trace,
     "keyboard": check_keyboard,

@@ -7,6 +7,7 @@ import struct
 import xml.etree.ElementTree
 from typing import NamedTuple
 
+from checks.page import shapes
 from checks.page.acts import read, require
 from checks.page.cases import example
 from checks.page.round_pages import Asked, RoundPages, map_rows, rounds_by_page
@@ -242,6 +243,8 @@ def check_map(page):
     require(", all pages: " in said, f"above the first row: {said!r}")
     page.browser.value(f"{PRESS}(['0'])")
     page.browser.wait("textOf('map-most').includes('16,294')", 5)
+    page.drop(("one.pcwt", shapes.trace(12, 1, [(5, 0, 1)])))
+    page.becomes("textOf('map-most')", "The write that is shown goes to page 0.", "of one write")
 
 
 def check_map_rounds(page):

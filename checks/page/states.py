@@ -17,6 +17,9 @@ from checks.page.worker import end_worker
 WIDTHS = [390, 900, 1400]
 FULL_WIDTHS = [360, *WIDTHS, 480, 600, 800, 1024, 1920]
 LEAST_MARK_CONTRAST = 3
+# What the PDF has of a map with its rounds: their pixels, in the width of the map on paper. As strokes they would lie
+# elsewhere than the map.
+ROUNDS_ON_PAPER = b"/Width 2012"
 # The pixels of the name of a kept plan.
 ROOM_OF_NAME = 80
 # What can be saved with three kept plans and starts: PNG, SVG and CSV of eight pictures, and the prediction's CSV.
@@ -312,6 +315,8 @@ def check_paper(page, folder):
         )
         put(folder, f"paper-{name}.pdf", printed)
         count = len(re.findall(rb"/Type\s*/Page\b", printed))
+        has_map = name in ("kept", "many-kept", "enough")
+        require(has_map == (ROUNDS_ON_PAPER in printed), f"{name}: the map has its rounds on paper: {not has_map}")
         require(count <= (2 if name in ("kept", "many-kept") else 1), f"{name} takes {count} pages of paper")
     browser.dress(1400, HEIGHT)
 

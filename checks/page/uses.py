@@ -10,7 +10,7 @@ import tempfile
 from fractions import Fraction
 
 from checks.lib.harness import drawn, draws
-from checks.page import kept, limits, looking, map, records, saves, shapes, told, worker
+from checks.page import kept, limits, links, looking, map, records, saves, shapes, told, worker
 from checks.page.acts import asked, read, require, spelled, typed
 from checks.page.cases import example
 from checks.page.shown import tried
@@ -219,9 +219,12 @@ TYPED = [
     ("link", "1 Gbit/s", "1", "Gbit"),
     ("link", "10 gbps", "10", "Gbit"),
     ("link", "64MiB/s", "64", "MiB"),
+    ("link", "25 Gb/s", "25", "Gbit"),
     ("downtime", "300ms", "300", "ms"),
     ("downtime", ".5 s", "0.5", "s"),
     ("downtime", "2 min", "120", "s"),
+    ("downtime", "1 minute", "60", "s"),
+    ("downtime", "250 milliseconds", "250", "ms"),
     ("downtime", "900 \u00b5s", "900", "us"),
     ("rounds", " 12 ", "12", None),
     ("start", "1,000 ticks", "1", None),
@@ -377,7 +380,8 @@ USES = {
     "back": check_back,
     "limits": limits.check_limits,
     "ways out": limits.check_ways,
-    "links": limits.check_links,
+    "links": links.check_links,
+    "curves of links": links.check_curves,
     "the best start": limits.check_saving,
     "a doubtful start": limits.check_doubtful,
     "kept plans": kept.check_comparison,

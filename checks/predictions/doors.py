@@ -9,8 +9,10 @@ import traceback
 from typing import NamedTuple, Optional
 
 from checks.lib.host_words import host_lines
+from checks.lib.look_model import look_lines
 from checks.lib.migration_model import STATUSES, Answer, Refusal, Starts, all_lines, document_of, lines_of
 from checks.lib.remedy_model import Remedies, enough_lines
+from checks.lib.share_model import share_lines
 from checks.lib.tally import Failure, LeftOut, module, why_not
 from checks.lib.view_texts import parsed, ran
 from checks.predictions.questions import Asked
@@ -138,7 +140,8 @@ class Tool(Door):
         question = asked.question
         is_whole = f"--downtime={question.downtime}us" in asked.words
         hosts = host_lines(question.link, question.millis_for_pages()) if is_whole else []
-        ranges = Starts(question, asked.trace).lines()
+        ranges = [*look_lines(question, asked.trace), *Starts(question, asked.trace).lines()]
+        ranges += share_lines(answer.share)
         lines = [*lines_of(question, answer), *ranges, *enough_lines(answer.enough), *hosts]
         return [STATUSES[answer.kept], lines, ""]
 

@@ -237,7 +237,7 @@ def predicted(_, folder):
         expect(said in printed + refused, printed + refused)
         is_cut = "a plan takes no longer limit than that: 65,535 pages of the sample" in printed
         expect(is_cut == ("9s" in words or "128Gbit" in words), printed)
-        expect(("QEMU: " in printed) == (status not in (1, 2) and not is_cut), printed)
+        expect(("\nQEMU: " in printed) == (status not in (1, 2) and not is_cut), printed)
 
 
 def converted(_, folder):

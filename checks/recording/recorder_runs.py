@@ -9,6 +9,7 @@ import sys
 import time
 
 from checks.lib.harness import expect
+from checks.lib.tally import Late
 from checks.recording.known_writes import PAGE, PAGES
 from precopy_dev.tree import TOP
 from precopy_tools.formats import traces
@@ -76,7 +77,7 @@ class Started:
             rest, self.faults = self.process.communicate(timeout=seconds)
         except subprocess.TimeoutExpired as late:
             self.process.kill()
-            raise AssertionError(f"the recorder does not end: {late}") from late
+            raise Late(f"the recorder does not end: {late}") from late
         self.output, self.status = self.began + rest, self.process.returncode
 
 

@@ -11,7 +11,7 @@ import sys
 import tempfile
 import time
 
-from checks.lib.tally import LeftOut, module, need
+from checks.lib.tally import LeftOut, expect_in_time, module, need
 from checks.recording import forecast_cases
 from checks.recording.memory_cases import Known
 from checks.recording.recorder_runs import RECORD, SECONDS, TOP, Writing, expect, read_until_recording
@@ -36,7 +36,7 @@ def expect_share(drawn, least, most):
     """The share of the time for which the guest ran, in NAME.json and in what the recorder says."""
     drawn.expect_whole()
     share = sample_in(drawn.trace_path)["ran_share"]
-    expect(least <= share <= most, f"{share} is not from {least} to {most}; {drawn.output!r}")
+    expect_in_time(least <= share <= most, f"{share} is not from {least} to {most}; {drawn.output!r}")
     expect(("stood still: the guest did not run for" in drawn.output) == (share < 1), drawn.output)
 
 
@@ -81,8 +81,9 @@ def segments_that_stood_still(_, folder):
         known.ask("cont")
         text, faults = process.communicate(timeout=4 * SECONDS)
     shares = [sample_in(each)["ran_share"] for each in series.Series(path).paths()]
-    expect(process.returncode == 0 and len(shares) >= 3, f"{process.returncode}, {faults}, {shares}")
-    expect(shares[0] < 0.8 and shares[2] == 1 and text.count("stood still") >= 1, f"{shares}, {text}")
+    expect(process.returncode == 0, f"{process.returncode}, {faults}, {shares}")
+    expect_in_time(len(shares) >= 3 and shares[0] < 0.8 and shares[2] == 1, f"{shares}, {text}")
+    expect(text.count("stood still") >= 1, f"{shares}, {text}")
 
 
 def light_names_draw(_, folder):

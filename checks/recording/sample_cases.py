@@ -10,6 +10,7 @@ import time
 
 from checks.lib import harness
 from checks.lib.harness import cases_of, expect
+from checks.lib.tally import expect_in_time
 from checks.recording.recorder_runs import RECORD
 from checks.recording.sample_runs import PAGE, PAGES, Drawn, Pages
 from precopy_tools.formats import samples
@@ -183,7 +184,7 @@ def killed_process(_, folder):
         drawn.end()
     _, written, _ = drawn.expect_whole()
     expect("the process ended" in drawn.faults, drawn.faults)
-    expect(len([1 for tick, _ in written if tick > 1000]) == 100, f"{len(written)} writes")
+    expect_in_time(len([1 for tick, _ in written if tick > 1000]) == 100, f"{len(written)} writes")
 
 
 def process_ends_during_a_look(_, folder):

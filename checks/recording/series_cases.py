@@ -101,6 +101,8 @@ def exact_series(folder, draws, *words, steps=STEPS, size=STEP, pauses=PAUSES, c
         time.sleep(0.2)
         run.end(signal.SIGINT)
         pages.expect_as_before()
+    # If looks are late, one interval may have more than a segment takes.
+    expect_in_time("the series ended after" not in run.faults, run.faults)
     expect(run.status == 0, f"status {run.status}, {run.output!r}, {run.faults!r}")
     found = segments_in(folder)
     times = written_in(found, count)
@@ -145,7 +147,7 @@ def full_from_the_first(_, folder):
             time.sleep(0.06)
         run.end()
     expect(run.status == 3 and "the series ended after" in run.faults, f"{run.status}, {run.faults!r}")
-    expect(1 <= len(segments_in(folder)) <= 3, f"{os.listdir(folder)}")
+    expect_in_time(1 <= len(segments_in(folder)) <= 3, f"{os.listdir(folder)}")
     expect_no_parts(folder)
 
 
@@ -173,7 +175,7 @@ def killed_twice(_, folder):
         pages.expect_as_before()
     said = f"removed: {len(parts)} unfinished files" if parts else "recording"
     expect(run.status == 0 and said in run.output, f"{run.output!r}, {run.faults!r}")
-    expect(len(segments_in(folder)) >= len(before) + 2, f"{os.listdir(folder)}")
+    expect_in_time(len(segments_in(folder)) >= len(before) + 2, f"{os.listdir(folder)}")
     expect_no_parts(folder)
 
 
@@ -207,7 +209,7 @@ def guest_of_a_series_ends(_, folder):
     expect(run.status == 0 and "the process ended" in run.faults, f"{run.status}, {run.faults!r}")
     found = segments_in(folder)
     later = sum(tick > 1000 for tick, _ in found[-1][2])
-    expect(len(found) == 2 and later == 100, f"{len(found)} segments, {later} writes in the last one")
+    expect_in_time(len(found) == 2 and later == 100, f"{len(found)} segments, {later} writes in the last one")
     expect_no_parts(folder)
 
 
@@ -226,7 +228,8 @@ def values_of_a_series(_, folder):
     expect(run.status == 0, f"{run.status}, {run.faults!r}")
     found = segments_in(folder)
     counts = [sample.sampled_nonzero for *_, sample in found]
-    expect(counts == sorted(counts) and counts[0] <= 1 and counts[-1] >= 20, f"{counts}")
+    expect(counts == sorted(counts), f"{counts}")
+    expect_in_time(counts[0] <= 1 and counts[-1] >= 20, f"{counts}")
     later = sum(1 for _, _, written, _ in found for tick, _ in written if tick > 1000)
     expect_in_time(later == 30, f"{later} changes of 30")
 
@@ -319,7 +322,7 @@ def service_of_a_guest(_, folder):
         expect(process.returncode == 0 and not faults, f"{process.returncode}, {faults!r}")
     found = segments_in(folder)
     expect(len(found) == 1 and found[0][3].guest_pages == 1100, f"{found[0][3] if found else os.listdir(folder)}")
-    expect(sum(tick > 1000 for tick, _ in found[0][2]) == 1100, f"{len(found[0][2])} writes")
+    expect_in_time(sum(tick > 1000 for tick, _ in found[0][2]) == 1100, f"{len(found[0][2])} writes")
 
 
 NEED_WRITES = {

@@ -41,13 +41,16 @@ from checks.refusals.refusal_jobs import (
     WRITE_FAILED,
 )
 from checks.refusals.refusal_runs import LAST_RUNS, SECONDS, Part, run_parts
-from checks.refusals.refused_growths import SAVED, Harmless, is_for_makers, told_of_live
+from checks.refusals.refused_growths import SAVED, Harmless, is_for_pieces, told_of_live
+from checks.refusals.threads import PIECES, is_needed, saver_of
 
 # All growths up to this one are refused, each in a run of its own; after it only some.
 ALL_UP_TO = 2000
 STRIDE = 7
 # A program that asks so often has run away.
 MOST = 20000
+# Which thread starts as the Nth may differ from run to run, so N counts up again if one was never the Nth.
+TURNS = 8
 
 # Whoever asks for the ring of a lane, which no start of a thread needs.
 MIGRATES = re.compile(r"live_engine::migration::migrate\b.*")
@@ -119,8 +122,8 @@ def lines_of_live(run):
     return told_of_live(run, [MEMORY, NO_ROOM_FOR_TRACE, LIVE_MEMORY], [LIVE_THREAD])
 
 
-def made_by_caller(job, run):
-    return SAVED if is_for_makers(job, run) else None
+def saved_by_caller(job, run):
+    return SAVED if is_for_pieces(job, run) else None
 
 
 def growths(runner, job, refuse_on):
@@ -128,12 +131,14 @@ def growths(runner, job, refuse_on):
     lines = [MEMORY, NO_ROOM_FOR_TRACE] if job.reads else [MEMORY]
     if job.is_live:
         lines = [*lines, LIVE_MEMORY, LIVE_THREAD] if refuse_on else lines_of_live
+    # This run tells which places ask for room for threads.
+    runner.run(job, REFUSE_GROWTH=1 << 62)
     if refuse_on:
         tally = Part(f"{job.name}: the Nth growth and all after it refused")
-        count_up(runner, tally, job, "REFUSE_GROWTH", lines, may_answer=partial(made_by_caller, job), REFUSE_ON=1)
+        count_up(runner, tally, job, "REFUSE_GROWTH", lines, may_answer=partial(saved_by_caller, job), REFUSE_ON=1)
     else:
         tally = Part(f"{job.name}: the Nth growth refused")
-        harmless = Harmless(runner, job)
+        harmless = Harmless(job)
         count_up(runner, tally, job, "REFUSE_GROWTH", lines, may_answer=harmless.kind)
         tally.told = harmless.told()
     tally.title += f", N to {tally.last}"
@@ -141,22 +146,42 @@ def growths(runner, job, refuse_on):
 
 
 def threads(runner, job, variable, title):
-    """The work of a thread that only saves time, and is not started, is done by its caller."""
-    tally = Part(f"{job.name}: {title}")
-    lines = [LIVE_THREAD] if job.is_live else []
-    left = iter([SAVED] * job.savers)
-    count_up(runner, tally, job, variable, lines, may_answer=lambda run: next(left, None) if run.status == 0 else None)
+    """The work of a thread that only saves time, and is not started, is done by its caller; the others are needed. Each
+    kind of thread that the job starts must be refused at least once. But the C library asks for nothing if it has the
+    room of a thread that has ended, so by its growths only those must be that save time and start at first."""
+    tally, met = Part(f"{job.name}: {title}"), set()
+    is_start = variable == "REFUSE_THREAD"
+    wanted, needs = ({*job.savers}, job.needs) if is_start else ({*job.savers} - {PIECES}, 0)
+
+    def lines(run):
+        return [LIVE_THREAD] if job.is_live and is_needed(run.function) else []
+
+    def kind(run):
+        met.add(saver_of(run.function) or run.function)
+        return SAVED if saver_of(run.function) in job.savers else None
+
+    for _ in range(TURNS):
+        count_up(runner, tally, job, variable, lines, may_answer=kind)
+        missed = *sorted(wanted - met), *["one that is needed"] * (needs - sum(map(is_needed, met)))
+        if not missed:
+            break
+    for thread in missed:
+        tally.add(False, f"{job.name}: in {TURNS} turns, {variable} never refused {thread}")
     tally.title += f", N to {tally.last}"
     return tally
 
 
 def of_migration(runner, job):
-    """The run that is refused the first growth that a migration asks for itself, or the last run that was tried."""
-    for number in range(1, MOST):
-        run = runner.run(job, REFUSE_GROWTH=number)
-        allocating, asking = (*(run.refused.callers if run.refused else []), "", "")[:2]
-        if not run.refused or (allocating == "rattle_alloc" and MIGRATES.fullmatch(asking)):
-            break
+    """The run that is refused the first growth that a migration asks for itself, or the last run that was tried. The
+    planner asks at the same time, so that none may be met while N counts up once."""
+    for _ in range(TURNS):
+        for number in range(1, MOST):
+            run = runner.run(job, REFUSE_GROWTH=number)
+            allocating, asking = (*(run.refused.callers if run.refused else []), "", "")[:2]
+            if allocating == "rattle_alloc" and MIGRATES.fullmatch(asking):
+                return run
+            if not run.refused:
+                break
     return run
 
 

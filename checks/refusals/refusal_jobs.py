@@ -3,6 +3,7 @@ the plan, not by the program; except for help, which is what the program writes 
 
 from checks.lib.traces import header, record
 from checks.lib.worked import A_AT_2000, A_IMAGE, A_REPORT
+from checks.refusals import threads
 
 ZEROS = bytes(16)
 A_SWEEP = b"""\
@@ -59,23 +60,21 @@ WRITE_FAILED = b"precopy: write\n"
 
 
 class Job:
-    """A command over a trace, what it must write, and how many of its threads only save time: of a live run, one.
-    Some that it needs start before: the planner, and in a warm start the thread that makes memory. The last ones,
-    `makers`, make memory that is written; after them nothing is asked for but what starts them."""
+    """A command over a trace, what it must write, and which threads it starts: those that only save time, `savers`, and
+    how many kinds of those that it needs."""
 
     status, faults = 0, b""
     # Whether a trace is read, and not only words.
     reads = True
 
-    def __init__(self, name, words, output, trace="a", is_live=False, savers=0, makers=0):
+    def __init__(self, name, words, output, trace="a", is_live=False, savers=(), needs=0):
         self.name = name
         self.words = words
         self.output = output
         self.trace = trace
         self.is_live = is_live
-        self.savers = (savers or (1 if is_live else 0)) + makers
-        self.makers = makers
-        self.needed_first = (2 if "--base" in words else 1) if is_live else 0
+        self.savers = (threads.INDEX, *savers) if is_live else savers
+        self.needs = needs or (threads.OF_LIVE if is_live else 0)
 
 
 class Misuse(Job):
@@ -91,8 +90,8 @@ class Misuse(Job):
 
 IMAGE = Job("image", ["image"], A_IMAGE)
 LARGE_IMAGE = Job("image, 8,193 pages", ["image"], LARGE_MEMORY, "large")
-# Four threads make 1,024 pages at a time, so all but the caller's start nine times.
-LARGE_LIVE = Job("live, 8,193 pages", ["live", *PLAN, "--workers", "4"], LARGE_MEMORY, "large", is_live=True, makers=27)
+LARGE_WORDS = ["live", *PLAN, "--workers", "4"]
+LARGE_LIVE = Job("live, 8,193 pages", LARGE_WORDS, LARGE_MEMORY, "large", is_live=True, savers=(threads.PIECES,))
 REPORT = Job("report", ["report", *PLAN, *TABLES], A_REPORT)
 SWEEP = Job("sweep", ["sweep", *CASES], A_SWEEP)
 LIVE = Job("live", ["live", *PLAN, *THREADS], A_IMAGE, is_live=True)
@@ -110,11 +109,13 @@ WARM = Job(
     ["live", *PLAN, *THREADS, "--base", "1200", "--start", "1201", "--at-stop"],
     A_AT_2000,
     is_live=True,
+    needs=threads.OF_LIVE + 1,
 )
 WIDE = "2 workers, 2^18 writes"
-WIDE_WORDS = ["--workers", "2", *MANY_CASES.split()]
-WIDE_REPORT = Job(f"report, {WIDE}", ["report", *PLAN, *TABLES, "--workers", "2"], MANY_REPORT, "many", savers=1)
-WIDE_SWEEP = Job(f"sweep, {WIDE}", ["sweep", *WIDE_WORDS], MANY_SWEEP, "many", savers=1)
+WIDE_SWEEP_WORDS = ["sweep", "--workers", "2", *MANY_CASES.split()]
+WIDE_REPORT_WORDS = ["report", *PLAN, *TABLES, "--workers", "2"]
+WIDE_REPORT = Job(f"report, {WIDE}", WIDE_REPORT_WORDS, MANY_REPORT, "many", savers=(threads.TABLES,))
+WIDE_SWEEP = Job(f"sweep, {WIDE}", WIDE_SWEEP_WORDS, MANY_SWEEP, "many", savers=(threads.CASES,))
 
 
 class Help(Job):

@@ -15,7 +15,7 @@ from checks.refusals.refused_growths import Functions, Growth
 from precopy_dev.tree import TOP
 
 AT_ONCE = 2
-SECONDS = 20
+SECONDS = 60
 # A part ends after this many failures, and all of them after this many runs that did not end.
 MOST_FAILURES = 20
 MOST_HANGS = 4
@@ -24,26 +24,28 @@ LAST_RUNS = 3
 
 
 COUNTS = "growths threads inner reads writes faults refused".split()
+GROWTH = 1 + COUNTS.index("growths")
 
 
 @dataclass
 class Run(harness.Run):
-    """What came of a run, and its counts; the first growth that was refused, how many starts of threads came before it,
-    and the next growth of the same thread if that was granted."""
+    """What came of a run, and its counts. Of what was refused first: the growth, the next growth of the same thread if
+    that was granted, and the function of the thread that would have been started."""
 
     counts: dict = field(default_factory=lambda: dict.fromkeys(COUNTS, 0))
     refused: Growth | None = None
     again: Growth | None = None
-    started: int = 0
+    function: str = ""
 
     def __str__(self):
-        return super().__str__() + (f"; refused were {self.refused}" if self.refused else "")
+        growth = f"; refused were {self.refused}" if self.refused else ""
+        return super().__str__() + growth + (f"; no thread runs {self.function}" if self.function else "")
 
 
-# After the counts: whether a refused growth is named, how many starts of threads came before it, whether one after it
-# is named, whether that was granted; then of both the size, whether it moves an older room, and six addresses; and the
-# program that was run.
-TOLD = struct.Struct("<8Q4Q8Q8Q1024s")
+# After the counts: the kind of what was refused first, the function of the thread that was being started, whether the
+# next growth is told, whether that was granted; then of both growths the size, whether it moves an older room, and six
+# addresses; the program that was run; and how many starts of threads differ, with the two addresses of each.
+TOLD = struct.Struct("<8Q4Q8Q8Q1024sQ128Q")
 SHARED = 4096
 
 
@@ -55,6 +57,8 @@ class Runner:
         self.local = threading.local()
         self.runs = Counter()
         self.functions = {}
+        # Of each program, the function of the thread that starts after a growth at a place.
+        self.starts = {}
 
     def gives_up(self, tally):
         """Whether so much failed that more runs would show nothing new."""
@@ -84,12 +88,20 @@ class Runner:
         """Reads what the shim reported about the run that has just ended."""
         numbers = TOLD.unpack(os.pread(self.local.file.fileno(), TOLD.size, 0))
         run.counts = dict(zip(COUNTS, numbers))
-        is_told, run.started, is_next, is_granted = numbers[8:12]
-        if is_told:
-            functions = self.functions_of(numbers[28].split(b"\0")[0].decode("utf-8", "surrogateescape"))
+        kind, function, is_next, is_granted = numbers[8:12]
+        program = numbers[28].split(b"\0")[0].decode("utf-8", "surrogateescape")
+        starts = self.starts.setdefault(program, {})
+        starts.update(zip(numbers[30::2], numbers[31::2]))
+        if not kind:
+            return
+        functions = self.functions_of(program)
+        if kind == GROWTH:
             run.refused = Growth(numbers[12:20], functions)
+            function = starts.get(run.refused.place)
             if is_next and is_granted:
                 run.again = Growth(numbers[20:28], functions)
+        if function:
+            run.function = functions.at(function + 1)
 
     def run(self, job, **refused):
         """Runs a job with what is refused; with nothing named, nothing is between it and the C library."""
@@ -117,11 +129,12 @@ class Part(Tally):
         self.title, self.kinds, self.last, self.gave_up, self.told = title, Counter(), 0, False, []
 
     def seen(self, good, kind, told):
-        self.kinds[kind] += bool(good)
+        if good:
+            self.kinds[str(kind)] += 1
         self.add(good, told)
 
     def __str__(self):
-        kinds = ", ".join(f"{kind} {count}" for kind, count in sorted(self.kinds.items()) if count)
+        kinds = ", ".join(f"{kind} {count}" for kind, count in sorted(self.kinds.items()))
         return f"{self.title}: {self.passed} passed, {self.failed} failed ({kinds})"
 
 

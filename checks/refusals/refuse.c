@@ -19,13 +19,16 @@
  *     ONE_BYTE=1        reads of standard input and writes to standard output move one byte a call
  *     REFUSE_COUNTS=F   the counts are in the file F, of 4096 bytes at least, as numbers of 8 bytes: growths,
  *                       threads, inner growths, reads, writes, writes to standard error, refusals, 0. They are right
- *                       at each moment, so also if the program dies. After them comes who asked, `struct told`.
+ *                       at each moment, so also if the program dies. After them comes what was refused, `struct told`.
  *
  * Growths and starts of threads are counted where the program's own code calls: what the C library asks for at its
  * start, or for itself, is no growth of the program. Calls are counted over all threads together.
  *
  * Who asked is read off the stack: the addresses there that a call may have left, as the program's code has no tables
  * to walk it by. The first is where the call returns to. After the callers of small frames, others may be left over.
+ *
+ * A thread is told by the function that it runs. The program asks for room right before it starts a thread, so where a
+ * thread starts, the place that asked for its room is told too: a growth that is refused there would have started one.
  */
 #define _GNU_SOURCE
 #include <dlfcn.h>
@@ -48,30 +51,40 @@ extern void *__libc_realloc(void *, size_t);
 extern void *__libc_memalign(size_t, size_t);
 
 enum { GROWTH, THREAD, INNER, READ, WRITE, FAULTS, REFUSED, COUNTS };
-enum { ADDRESSES = 6, STACK_WORDS = 64 };
+enum { ADDRESSES = 6, STACK_WORDS = 64, STARTS = 64 };
 
 /* A growth: its size, whether it moves an older room, and who asked, in bytes from the program's first byte. */
 struct growth {
     uint64_t size, moves, callers[ADDRESSES];
 };
 
-/* The first growth that was refused, how many starts of threads came before it, and the thread's next growth. */
-struct told {
-    _Atomic uint64_t is_told;
-    uint64_t started, is_next, is_granted;
-    struct growth refused, next;
-    char program[1024];
+/* A start of a thread: the place that asked for its room, and the function that it runs, in bytes as above. */
+struct start {
+    uint64_t asked_at, function;
 };
 
-struct room {
+/* Of what was refused first, one more than its kind, and the function of the thread that was being started. If it is a
+ * growth, that and the thread's next one. Then the program that told this, and the starts of threads that differ. */
+struct told {
+    _Atomic uint64_t kind;
+    uint64_t function, is_next, is_granted;
+    struct growth refused, next;
+    char program[1024];
+    _Atomic uint64_t started;
+    struct start starts[STARTS];
+};
+
+struct report {
     _Atomic uint64_t counts[COUNTS + 1];
     struct told told;
 };
 
-static struct room own_room;
-static struct told *told = &own_room.told;
-static _Atomic uint64_t *counts = own_room.counts;
-static __thread __attribute__((tls_model("initial-exec"))) int tells_next;
+static struct report own_report;
+static struct told *told = &own_report.told;
+static _Atomic uint64_t *counts = own_report.counts;
+#define OF_THREAD static __thread __attribute__((tls_model("initial-exec")))
+OF_THREAD int tells_next;
+OF_THREAD uint64_t asked_at, starting; /* the place of its last growth, and the function of the thread that it starts */
 static uint64_t refuse[COUNTS], zero_write, break_read, break_write;
 static int refuse_on, refuse_within, one_byte;
 static uintptr_t first, low, high; /* the program's first byte, and its own code */
@@ -114,10 +127,10 @@ __attribute__((constructor)) static void begin(void) {
     const char *path = getenv("REFUSE_COUNTS");
     if (path && *path) {
         int file = open(path, O_RDWR | O_CLOEXEC);
-        void *at = file < 0 ? MAP_FAILED : mmap(NULL, sizeof own_room, PROT_READ | PROT_WRITE, MAP_SHARED, file, 0);
+        void *at = file < 0 ? MAP_FAILED : mmap(NULL, sizeof own_report, PROT_READ | PROT_WRITE, MAP_SHARED, file, 0);
         if (at == MAP_FAILED) _exit(125); /* a run whose counts nobody sees would show nothing */
-        counts = ((struct room *)at)->counts;
-        told = &((struct room *)at)->told;
+        counts = ((struct report *)at)->counts;
+        told = &((struct report *)at)->told;
         close(file);
     }
     dl_iterate_phdr(find_program, NULL);
@@ -159,9 +172,31 @@ static void tell(struct growth *growth, const uintptr_t *frame, size_t size, int
         if (follows_call(frame[word])) growth->callers[at++] = frame[word] - first;
 }
 
+static void tell_program(void) {
+    if (!*told->program) syscall(SYS_readlink, "/proc/self/exe", told->program, sizeof told->program - 1);
+}
+
+/* Whether what is refused is the first of all. Then its kind is told, and the thread that was being started. */
+static int tells_first(int kind, uint64_t function) {
+    uint64_t none = 0;
+    if (!atomic_compare_exchange_strong(&told->kind, &none, kind + 1)) return 0;
+    told->function = function;
+    tell_program();
+    return 1;
+}
+
+/* A growth that the C library asks for itself. */
+static int refuses_inner(void) {
+    if (!atomic_load(&counts[GROWTH]) || !refuses(INNER)) return 0;
+    tells_first(INNER, starting);
+    return 1;
+}
+
 static int refuses_growth(const uintptr_t *frame, size_t size, int moves) {
-    if (!low || !is_within()) return 0;
-    if (!is_own(frame[1])) return atomic_load(&counts[GROWTH]) ? refuses(INNER) : 0;
+    if (!low) return 0;
+    if (is_own(frame[1])) asked_at = frame[1] - first;
+    if (!is_within()) return 0;
+    if (!is_own(frame[1])) return refuses_inner();
     int is_refused = refuses(GROWTH);
     if (tells_next) {
         tells_next = 0;
@@ -169,11 +204,9 @@ static int refuses_growth(const uintptr_t *frame, size_t size, int moves) {
         told->is_granted = !is_refused;
         told->is_next = 1;
     }
-    if (is_refused && !atomic_exchange(&told->is_told, 1)) {
+    if (is_refused && tells_first(GROWTH, 0)) {
         tells_next = 1;
-        told->started = atomic_load(&counts[THREAD]);
         tell(&told->refused, frame, size, moves);
-        syscall(SYS_readlink, "/proc/self/exe", told->program, sizeof told->program - 1);
     }
     return is_refused;
 }
@@ -194,14 +227,32 @@ void *memalign(size_t step, size_t size) { return REFUSES(size, 0) ? OUT_OF_MEMO
 void *aligned_alloc(size_t step, size_t size) { return REFUSES(size, 0) ? OUT_OF_MEMORY : __libc_memalign(step, size); }
 
 int posix_memalign(void **place, size_t step, size_t size) {
-    void *room = REFUSES(size, 0) ? NULL : __libc_memalign(step, size);
-    if (!room) return ENOMEM;
-    *place = room;
+    void *found = REFUSES(size, 0) ? NULL : __libc_memalign(step, size);
+    if (!found) return ENOMEM;
+    *place = found;
     return 0;
 }
 
-int pthread_create(pthread_t *thread, const pthread_attr_t *attributes, void *(*body)(void *), void *argument) {
-    return is_within() && refuses(THREAD) ? EAGAIN : start_thread(thread, attributes, body, argument);
+static void tell_start(void) {
+    uint64_t count = atomic_load(&told->started);
+    for (uint64_t at = 0; at < count && at < STARTS; at++)
+        if (told->starts[at].asked_at == asked_at && told->starts[at].function == starting) return;
+    uint64_t at = atomic_fetch_add(&told->started, 1);
+    if (at < STARTS) told->starts[at] = (struct start){asked_at, starting};
+    tell_program();
+}
+
+int pthread_create(pthread_t *thread, const pthread_attr_t *attributes, void *(*function)(void *), void *argument) {
+    starting = (uintptr_t)function - first;
+    int is_refused = is_within() && refuses(THREAD), failure = EAGAIN;
+    if (is_refused) {
+        tells_first(THREAD, starting);
+    } else {
+        tell_start();
+        failure = start_thread(thread, attributes, function, argument);
+    }
+    starting = 0;
+    return failure;
 }
 
 static ssize_t fail(int cause) {

@@ -6,12 +6,16 @@ import re
 import subprocess
 from collections import Counter
 
+from checks.refusals.threads import PIECES, saver_of
+
 
 class Growth:
-    """A growth that the program asked for: its size, whether it moves an older room, and the functions that asked."""
+    """A growth that the program asked for: its size, whether it moves an older room, the place that asked, and the
+    functions."""
 
     def __init__(self, numbers, functions):
         self.size, self.moves, *addresses = numbers
+        self.place = addresses[0]
         self.callers = [functions.at(address) for address in addresses if address]
 
     def __str__(self):
@@ -54,41 +58,29 @@ def is_hint(run):
     return bool(LIKENING.fullmatch(gathering))
 
 
-def is_for_saver(job, run, whole):
-    """Whether what was refused is room to start a thread that only saves time: one thread less was started than of a
-    run that is refused nothing. Before such threads only those start that a job needs first. Room to start a thread is
-    asked of the C library in place, and not through `rattle_alloc`."""
-    first = run.refused
-    if not first or first.moves or not first.callers or run.started >= job.needed_first + job.savers:
-        return False
-    return not first.callers[0].startswith("rattle_") and run.counts["threads"] == whole.counts["threads"] - 1
+def is_for_pieces(job, run):
+    """Whether what was refused first, with all after it, is room to start a thread that makes memory that is written:
+    after that nothing is asked for but what starts such threads."""
+    return bool(run.refused) and PIECES in job.savers and saver_of(run.function) == PIECES
 
 
-def is_for_makers(job, run):
-    """Whether what was refused first, with all after it, is room to start a thread that makes memory: then all other
-    threads were started, and none after it. But makers start makers, two at the same time at most: the other one may
-    have its room already, and be started after the refusal."""
-    first = run.refused
-    if not job.makers or not first or first.moves or not first.callers:
-        return False
-    rest, after = job.needed_first + job.savers - job.makers, run.counts["threads"] - run.started
-    return not first.callers[0].startswith("rattle_") and run.started >= rest and after in (0, 1)
-
-
-# What starts the threads of a live run, as the compiler leaves it: the receivers, and those of a round. Each list of
-# their handles grows as lists do, first to four, and a handle is an address. A round's list of sent pages, of a page
-# and a stamp each, grows alike.
+# What starts the threads of a live run, as the compiler leaves it: the receivers, and those of a round and of the stop.
+# Each list of their handles grows as lists do, first to four, and a handle is an address. A round's list of sent pages,
+# of a page and a stamp each, grows alike.
 RECEIVERS = re.compile(r"live_engine::migration::migrate\b.*")
-ROUND = re.compile(r"live_engine::rounds::Migration::run_round\b.*")
+ROUND = re.compile(r"(?:live_engine::rounds::Migration::run_round|live_engine::stop_and_copy|stop_copy::copying)\b.*")
 FOUR = 4 * 8
 
 
 def told_of_live(run, memory, thread):
-    """The lines that a live run may tell of one refused growth: those of `thread` if it was room to start a thread,
-    which is asked of the C library in place, or for its handle; else those of `memory`."""
+    """The lines that a live run may tell of one refused growth: those of `thread` if it was room to start a thread, or
+    for its handle; else those of `memory`."""
+    if run.function:
+        return thread
     if not run.refused or not run.refused.callers:
         return memory
     allocating, growing, asking = (*run.refused.callers[:3], "", "")[:3]
+    # Room for a thread is asked of the C library in place, also of one that no run has started so far.
     if not allocating.startswith("rattle_"):
         return thread
     if run.refused.size != FOUR or not GROWING.fullmatch(growing):
@@ -102,18 +94,17 @@ AGAIN, SAVED = "asked again", "done by the caller"
 class Harmless:
     """Tells which growths of a job may be refused and the output come all the same, and from how many places."""
 
-    def __init__(self, runner, job):
+    def __init__(self, job):
         self.job = job
-        self.whole = runner.run(job, REFUSE_GROWTH=1 << 62)
         self.places = {AGAIN: {}, SAVED: {}}
 
     def kind(self, run):
         """Why the whole output may come, or None. For words that are refused there is one place that gathers
-        characters; and there is one place for each thread that saves time."""
+        characters."""
         if is_hint(run):
             kind, most, place = AGAIN, int(self.job.status == 2), run.refused.callers[2]
-        elif is_for_saver(self.job, run, self.whole):
-            kind, most, place = SAVED, self.job.savers, str(run.refused)
+        elif (saver := saver_of(run.function)) in self.job.savers:
+            kind, most, place = SAVED, len(self.job.savers), saver
         else:
             return None
         self.places[kind].setdefault(place, Counter())[str(run.refused)] += 1

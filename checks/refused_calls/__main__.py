@@ -8,40 +8,56 @@ printed is in checks/refused_calls/jobs.py. docs/RELIABILITY.md says what is pro
 tried. A run that is refused something is a case.
 """
 
+import re
+
 from checks.lib.harness import run_main
 from checks.refusals.refusal_runs import LAST_RUNS, Part, run_parts
+from checks.refusals.refused_growths import FOUR, GROWING
 from checks.refused_calls.jobs import CALLS
 
 # A call that asks so often has run away.
 MOST = 20000
-# So often are growths counted that only start threads.
-COUNTS = 4
+# Once a thread runs, its own growths come between those of the caller in another order in each run. So all is tried
+# again if one that only starts threads was never met.
+TURNS = 8
 WHAT = {"REFUSE_GROWTH": "growth", "REFUSE_THREAD": "thread start", "REFUSE_INNER": "growth of the C library itself"}
+ROOM, HANDLES = "what a thread is handed", "the list of handles"
+COPYING = re.compile(r"stop_copy::copying::final_copy\b.*")
 
 
 def is_whole(call, run):
     return (run.status, run.output, run.faults) == (0, call.output, b"")
 
 
-def refusal(call, run, variable, whole):
+def for_threads(run):
+    """What was refused that only serves to start threads, or None. Of handles, which are addresses, the list has at
+    first room for four."""
+    if run.function:
+        return ROOM
+    _, growing, asking = (*(run.refused.callers if run.refused else ()), "", "", "")[:3]
+    is_list = GROWING.fullmatch(growing) and COPYING.fullmatch(asking) and run.refused.size == FOUR
+    return HANDLES if is_list else None
+
+
+def refusal(call, run, variable, refuse_on, whole):
     """Which refusal came, if it is due and all that is promised after it remains; else None.
 
-    A refused start of a thread is reported as that. A refused growth is reported as one only if the room was to start
-    a thread with, so that fewer were started."""
+    A refused start of a thread is reported as that. So is a refused growth that only serves to start one, and no other:
+    of several that are refused, only if fewer threads were started."""
     kind = call.refusal(run.output) if (run.status, run.faults) == (0, b"") else None
     if variable != "REFUSE_GROWTH":
         return kind if kind == "Thread" else None
-    if kind == "Thread" and run.counts["threads"] >= whole.counts["threads"]:
-        return None
-    return kind
+    if refuse_on or not call.has_threads:
+        return None if kind == "Thread" and run.counts["threads"] >= whole.counts["threads"] else kind
+    return kind if (kind == "Thread") == bool(for_threads(run)) else None
 
 
-def refuse_each(runner, call, variable, refuse_on):
-    """Refuses a call the first, the second and so on, until runs end without a refusal."""
-    tally = Part(f"{call.name}: the Nth {WHAT[variable]}{' and all after it' if refuse_on else ''} refused")
+def refuse_each(runner, tally, call, variable, refuse_on):
+    """Refuses a call the first, the second and so on, until runs end without a refusal. Answers what only serves to
+    start threads, and was refused."""
     on = {"REFUSE_ON": 1} if refuse_on else {}
     whole = runner.run(call, REFUSE_WITHIN=1)
-    number, without = 1, 0
+    number, without, met = 1, 0, set()
     while without < LAST_RUNS and not runner.gives_up(tally):
         if number > MOST:
             tally.add(False, f"{call.name}: {variable}={number} is refused still")
@@ -49,7 +65,8 @@ def refuse_each(runner, call, variable, refuse_on):
         run = runner.run(call, REFUSE_WITHIN=1, **{variable: number}, **on)
         if run.counts["refused"]:
             without, tally.last = 0, number
-            kind = refusal(call, run, variable, whole)
+            kind = refusal(call, run, variable, refuse_on, whole)
+            met.add(for_threads(run))
             tally.seen(kind is not None, kind, f"{call.name}, {variable}={number}: {run}")
         else:
             without += 1
@@ -57,24 +74,20 @@ def refuse_each(runner, call, variable, refuse_on):
         number += 1
     if not tally.last:
         tally.add(False, f"{call.name}: {variable} refused nothing, so nothing was tried")
-    tally.title += f", N to {tally.last}"
-    return tally
+    return met
 
 
 def refuse(runner, call, variable, refuse_on):
-    """Refuses a call each of these in turn. Of its growths it counts those that only start threads. Once a thread runs,
-    its own growths come between these in another order in each run, so that one of these may be missed or met twice:
-    if the count differs, all is tried again."""
-    if not call.has_threads or variable != "REFUSE_GROWTH" or refuse_on:
-        return refuse_each(runner, call, variable, refuse_on)
-    for _ in range(COUNTS):
-        tally = refuse_each(runner, call, variable, refuse_on)
-        came = tally.kinds["Thread"]
-        if tally.failed or came == call.thread_growths:
+    """Refuses a call each of these in turn, and each growth that only serves to start threads at least once."""
+    tally = Part(f"{call.name}: the Nth {WHAT[variable]}{' and all after it' if refuse_on else ''} refused")
+    wanted = {ROOM, HANDLES} if call.has_threads and variable == "REFUSE_GROWTH" and not refuse_on else set()
+    for _ in range(TURNS):
+        wanted -= refuse_each(runner, tally, call, variable, refuse_on)
+        if not wanted:
             break
-        print(f"  {call.name}: counted again, since {came} growths only started threads", flush=True)
-    due = f"{call.thread_growths} growths that only start threads"
-    tally.seen(came == call.thread_growths, due, f"{call.name}: Thread for {came} growths, not for {due}")
+    for missed in sorted(wanted):
+        tally.add(False, f"{call.name}: in {TURNS} turns, {missed} was never refused")
+    tally.title += f", N to {tally.last}"
     return tally
 
 

@@ -31,18 +31,16 @@ class Call:
     """A call: all that is printed if nothing is refused, and if something is.
 
     `refused` has the whole text for each refusal that the call may return. The text says what remains after it, and
-    what the same call returns with ample memory. `thread_growths` is how many growths only serve to start threads: each
-    of them is reported as a thread that was not started."""
+    what the same call returns with ample memory."""
 
     trace = None
 
-    def __init__(self, word, whole, refused, thread_growths=0):
+    def __init__(self, word, whole, refused, has_threads=False):
         self.name = word
         self.words = [word]
         self.output = text(whole)
         self.refused = {text(lines): kind for kind, lines in refused.items()}
-        self.thread_growths = thread_growths
-        self.has_threads = thread_growths > 0
+        self.has_threads = has_threads
 
     def refusal(self, output):
         """Which refusal a text reports together with all that is promised after it; None if that is missing."""
@@ -108,8 +106,7 @@ BY_WORKERS = Call(
     "final_copy_by_workers",
     [*ALL_COPIED, "again", *ALL_COPIED],
     {kind: [f"final_copy {kind}", "again", *ALL_COPIED] for kind in ("Memory", "Thread")},
-    # The list of both handles, and what each thread is handed.
-    thread_growths=3,
+    has_threads=True,
 )
 
 # ---- A core of two marked pages: both are harvested, page 1 is stored, marked and given back, page 0 is read.

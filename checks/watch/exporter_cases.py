@@ -11,7 +11,7 @@ import urllib.parse
 import urllib.request
 
 from checks.lib.harness import cases_of, expect
-from checks.lib.tally import need
+from checks.lib.tally import expect_in_time, need
 from checks.watch.guest_cases import ODD, Writing
 from checks.watch.watch_runs import SECONDS, Watching, known, metrics_in, of_guest
 from precopy_dev.tree import TOP
@@ -80,10 +80,11 @@ tests:
 """
 
 
-def free_port() -> int:
-    with socket.socket() as server:
-        server.bind(("127.0.0.1", 0))
-        return server.getsockname()[1]
+def free_ports() -> tuple[int, int]:
+    with socket.socket() as first, socket.socket() as second:
+        first.bind(("127.0.0.1", 0))
+        second.bind(("127.0.0.1", 0))
+        return first.getsockname()[1], second.getsockname()[1]
 
 
 def fetched(port: int, path: str) -> str:
@@ -94,7 +95,7 @@ def fetched(port: int, path: str) -> str:
             with urllib.request.urlopen(f"http://127.0.0.1:{port}{path}", timeout=SECONDS) as answer:
                 return answer.read().decode()
         except OSError as fault:
-            expect(time.monotonic() < end, f"{path}: {fault}")
+            expect_in_time(time.monotonic() < end, f"{path}: {fault}")
             time.sleep(0.05)
 
 
@@ -149,14 +150,15 @@ def expect_questions(port: int, guests: int) -> None:
         wanted = guests if "precopy_guest" in expression and "sum by (instance)" not in expression else 1
         end = time.monotonic() + SECONDS
         while len(found := asked(port, expression)) != wanted:
-            expect(time.monotonic() < end, f"{title}: {expression}: {len(found)} series in place of {wanted}")
+            told = f"{title}: {expression}: {len(found)} series in place of {wanted}"
+            expect_in_time(time.monotonic() < end, told)
             time.sleep(0.2)
 
 
 def read_by_prometheus(program, folder):
     """The node exporter reads the text without a fault, Prometheus has its values, and the dashboard has answers."""
     need("prometheus-node-exporter", "prometheus")
-    of_exporter, port = free_port(), free_port()
+    of_exporter, port = free_ports()
     with contextlib.ExitStack() as stack:
         for name in ("a.qmp", f"{ODD}.qmp"):
             guest = stack.enter_context(known(folder, name))

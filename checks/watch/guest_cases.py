@@ -89,7 +89,7 @@ class Reading:
         self.is_over.set()
         self.thread.join()
         expect(self.fault is None, self.fault)
-        expect(self.count > 10, f"the text was read {self.count} times")
+        expect_in_time(self.count > 10, f"the text was read {self.count} times")
 
 
 def predicted(program, path, *limits):
@@ -164,10 +164,10 @@ def told_as_recorded(program, folder):
     for name in ("idle", "busy"):
         expect_counted(run, metrics, name)
     expect(metrics[of_guest("precopy_guest_dirtied_bytes_total", "idle")] == 0, "idle has written")
-    expect(metrics[of_guest("precopy_guest_dirtied_bytes_total", "busy")] > 20 * 1000 * PAGE, f"{metrics}")
+    expect_in_time(metrics[of_guest("precopy_guest_dirtied_bytes_total", "busy")] > 20 * 1000 * PAGE, f"{metrics}")
     expect(metrics[of_guest("precopy_guest_ran_ratio", "busy")] == 1, f"{metrics}")
     expect(metrics[of_guest("precopy_guest_kept_starts_ratio", "idle")] == 1, f"{metrics}")
-    expect(metrics[of_guest("precopy_guest_kept_starts_ratio", "busy")] < 0.5, f"{metrics}")
+    expect_in_time(metrics[of_guest("precopy_guest_kept_starts_ratio", "busy")] < 0.5, f"{metrics}")
     for name in ("precopy_watch_cpu_seconds_total", "precopy_watch_resident_memory_bytes"):
         expect(metrics[(name,)] > 0, f"{name}: {metrics}")
     age = time.time() - metrics[of_guest("precopy_guest_last_record_timestamp_seconds", "idle")]
@@ -302,8 +302,10 @@ def within_its_processor(program, folder):
         intervals.add(told["interval_seconds"])
         length = (told["last_tick"] - told["first_tick"]) * told["tick_seconds"]
         most = length / told["interval_seconds"] + 3
-        expect(told["samples"] <= most, f"{told['samples']} looks in {length} s of {told['interval_seconds']} s")
-    expect(all(0.05 < each <= 0.5 for each in intervals), f"intervals: {intervals}")
+        expect_in_time(
+            told["samples"] <= most, f"{told['samples']} looks in {length} s of {told['interval_seconds']} s"
+        )
+    expect_in_time(all(0.05 < each <= 0.5 for each in intervals), f"intervals: {intervals}")
 
 
 def spread_over_the_interval(program, folder):
@@ -322,7 +324,7 @@ def spread_over_the_interval(program, folder):
             told = json.load(file)
         lengths.append((told["last_tick"] - told["first_tick"]) / 1000)
     apart = min(after - before for before, after in zip(sorted(lengths), sorted(lengths)[1:]))
-    expect(all(0.9 <= length < 4.5 for length in lengths), f"first records of {lengths} s")
+    expect_in_time(all(0.9 <= length < 4.5 for length in lengths), f"first records of {lengths} s")
     expect_in_time(apart > 0.2, f"first records of {lengths} s")
 
 

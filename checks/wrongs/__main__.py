@@ -6,7 +6,7 @@ checks/wrongs/faults.tsv has them. Some are wrong programs round the built ones 
 with a wrong call (checks/wrongs/wrong_library.c), others are edits of the sources. The last two are tried in a copy of
 the tree that uses what is built. The check runs until its first failure, which must tell of what is wrong. Without
 words some faults are tried, in turn by the day. With right programs the checks of the wrongs of refusals pass, by the
-wrongs NOTHING and CALL_NOTHING, which --all tries too. A fault is a case.
+wrongs NOTHING and CALL_NOTHING, which a day has not. A fault is a case.
 """
 
 import collections
@@ -61,7 +61,7 @@ def of_today():
 def compiled(fault, folder):
     """A wrong program round a built one."""
     need("cc")
-    to, program = os.path.join(folder, "wrong"), tree.program(fault.where)
+    to, program = os.path.join(folder, f"wrong_{fault.where}"), tree.program(fault.where)
     expect(os.access(program, os.X_OK), f"there is no program {program}; dev/build {fault.where} builds it")
     texts = {"PROGRAM": program, "WHEN": fault.when, "OLD": fault.old, "NEW": fault.new}
     defined = [f"-D{name}={json.dumps(text)}" for name, text in texts.items()]
@@ -132,7 +132,8 @@ def with_wrong_library(fault, folder):
     os.makedirs(room)
     for name in set(os.listdir(os.path.join(tree.TOP, "out"))) - {"library"}:
         os.symlink(os.path.join(tree.TOP, "out", name), os.path.join(top, "out", name))
-    right, wrong = f"precopy_{fault.when}", ["-O1", "-fPIC", f"-I{tree.TOP}/include", f"-DWRONG={fault.name}"]
+    defined = [f"-DWRONG={fault.name}", f"-DOLD={json.dumps(fault.old)}"]
+    right, wrong = f"precopy_{fault.when}", ["-O1", "-fPIC", f"-I{tree.TOP}/include", *defined]
     for words in (
         ["ar", "x", os.path.join(tree.TOP, "out", "library", "libprecopy.a")],
         ["objcopy", "--redefine-sym", f"{right}=right_{fault.when}", "precopy.o"],
@@ -151,8 +152,8 @@ def expect_done(words, folder):
     expect(done.returncode == 0, f"{words}: {done.stderr[-600:]}")
 
 
-def programs_of(fault, wrong):
-    """The words that name the programs of a check, with the wrong one in the place of the right one."""
+def programs_of(fault, wrongs):
+    """The words that name the programs of a check, with wrong ones in the places of right ones."""
     programs = {
         "evacuation": ("precopy_schedule", "precopy_view"),
         "view": ("precopy_view", "precopy"),
@@ -160,7 +161,7 @@ def programs_of(fault, wrong):
         "documents": ("precopy", "precopy_view"),
         "refused_calls": ("refused_calls",),
     }.get(fault.check, ("precopy",))
-    return [wrong if name == fault.where else tree.program(name) for name in programs]
+    return [wrongs.get(name) or tree.program(name) for name in programs]
 
 
 def run_check(fault, folder):
@@ -168,41 +169,62 @@ def run_check(fault, folder):
     top, words = tree.TOP, [word for name in fault.cases.split() for word in ("--only", name)]
     if fault.check in WITH_WORDS:
         words = fault.cases.split()
-    if not fault.name:
-        top = edited(fault, folder)
-    elif fault.where == "library":
-        top = with_wrong_library(fault, folder)
-    else:
-        words += programs_of(fault, compiled(fault, folder))
+    wrongs = {}
+    for part in fault.parts():
+        if not part.name:
+            top = edited(part, folder)
+        elif part.where == "library":
+            top = with_wrong_library(part, folder)
+        else:
+            wrongs[part.where] = compiled(part, folder)
+    words += programs_of(fault, wrongs) if wrongs else []
     room = os.path.join(folder, "room")
     os.makedirs(room)
-    environment = {**os.environ, "CHECKS_END_EARLY": "1", "TMPDIR": room}
+    # Other cases than those that the sign is of may see first what two programs do alike.
+    environment = {**os.environ, "TMPDIR": room, **({} if fault.is_alike() else {"CHECKS_END_EARLY": "1"})}
     command = [os.path.join(top, "checks", "run"), fault.check, *words]
     # Not a pipe, which processes that outlive the check would hold.
     with open(os.path.join(folder, "told"), "w+", encoding="utf-8", errors="replace") as told:
         how = {"stdin": subprocess.DEVNULL, "stdout": told, "stderr": told, "start_new_session": True}
         started = subprocess.Popen(command, env=environment, **how)
+        end, status, text = time.monotonic() + SECONDS, None, ""
         try:
-            started.wait(SECONDS)
+            while status is None and not signs_in(fault, text):
+                expect(time.monotonic() < end, f"it takes more than {SECONDS} s: {text[-1500:]}")
+                with contextlib.suppress(subprocess.TimeoutExpired):
+                    status = started.wait(1)
+                told.seek(0)
+                text = told.read()
         finally:
             with contextlib.suppress(ProcessLookupError):
                 os.killpg(started.pid, signal.SIGKILL)
-        told.seek(0)
-        return started.wait(), told.read()
+            started.wait()
+        return 1 if status is None else status, text
+
+
+def failures_in(text):
+    return re.findall(r"^  FAILED .*(?:\n    .*)*", text, re.M)
+
+
+def signs_in(fault, text):
+    """The failures with the sign of a fault that stands in two programs alike: what others tell comes before it."""
+    return [failure for failure in failures_in(text) if fault.sign in failure] if fault.is_alike() else []
 
 
 def try_fault(fault):
     begun = time.monotonic()
     with tempfile.TemporaryDirectory(prefix="wrongs-", ignore_cleanup_errors=True) as folder:
         status, told = run_check(fault, folder)
-    failure = re.search(r"^  FAILED .*(?:\n    .*)*", told, re.M)
+    failures = failures_in(told)
+    signs = signs_in(fault, told) if fault.is_alike() else failures[:1]
     if re.search(r"^0 passed, 0 failed, [0-9]+ skipped$", told, re.M):
         raise LeftOut(f"checks/{fault.check} is left out here")
     if fault in RIGHT:
-        expect(status == 0 and not failure, f"the check fails with a right program: {told[-1500:]}")
+        expect(status == 0 and not failures, f"the check fails with a right program: {told[-1500:]}")
     else:
-        expect(status == 1 and failure, f"it is not seen: {told[-1500:]}")
-        expect(fault.sign in failure[0], f"the failure does not tell of {fault.sign!r}: {failure[0][:1500]}")
+        expect(status == 1 and failures, f"it is not seen: {told[-1500:]}")
+        found = signs[0] if signs else ""
+        expect(found and fault.sign in found, f"no failure tells of {fault.sign!r}: {(found or failures[0])[:1500]}")
     print(f"  {fault}: seen in {time.monotonic() - begun:.0f} s", flush=True)
 
 
@@ -213,11 +235,12 @@ def more(parser):
 
 
 def check(tally, given):
-    chosen = [*FAULTS, *RIGHT] if given.all else of_today()
+    every = [*FAULTS, *RIGHT]
+    chosen = every if given.all else of_today()
     if given.check:
-        chosen = [fault for fault in FAULTS if fault.check in given.check]
+        chosen = [fault for fault in every if fault.check in given.check]
     if given.only:
-        chosen = [fault for fault in FAULTS if any(word in str(fault) for word in given.only)]
+        chosen = [fault for fault in every if any(word in str(fault) for word in given.only)]
     if given.list:
         print("\n".join(map(str, chosen)))
         chosen = []
@@ -230,7 +253,7 @@ def check(tally, given):
         case.add(not few, f"checks with few faults: {sorted(few)}")
     for fault in chosen:
         tally.tries(str(fault), try_fault, fault)
-    print(f"{len(chosen)} of {len(FAULTS)} faults were tried")
+    print(f"{len(chosen)} of {len(every)} faults were tried")
 
 
 if __name__ == "__main__":

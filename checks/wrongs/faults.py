@@ -7,7 +7,8 @@ from typing import NamedTuple
 class Fault(NamedTuple):
     """A text that is wrong in a source, or in what a program does by a wrong of wrong.c, with what stands there
     otherwise; or a wrong call of the library, by a wrong of wrong_library.c. `sign` is what the failure of a check, or
-    of some of its cases, must tell of."""
+    of some of its cases, must tell of. What is wrong in two places alike has both places, words and texts, between
+    them &."""
 
     check: str
     cases: str
@@ -17,6 +18,16 @@ class Fault(NamedTuple):
     when: str
     old: str
     new: str
+
+    def is_alike(self) -> bool:
+        return "&" in self.where
+
+    def parts(self) -> "list[Fault]":
+        """The fault, place by place."""
+        if not self.is_alike():
+            return [self]
+        places = zip(*(text.split("&") for text in (self.where, self.when, self.old)))
+        return [self._replace(where=where, when=when, old=old) for where, when, old in places]
 
     def __str__(self):
         return f"{self.check}: {' '.join(filter(None, (self.where, self.name, self.when)))} {self.old!r} {self.new!r}"

@@ -51,6 +51,7 @@ enum wrong {
     REFUSED_FOR,     /* the refusal NEW in place of each refusal, for the word WHEN */
     DROPPED,         /* the word OLD taken away from the command */
     STATUS_CHANGED,  /* another status, for the word WHEN */
+    HELPLESS,        /* `live L2` if the second thread is not started, for the word WHEN */
 };
 
 /* The word of a command at which something is wrong, and the texts that are exchanged. */
@@ -230,6 +231,7 @@ static void do_wrong_to_text(int is_refused) {
     if (WRONG == BYTE_CHANGED && output_size) output[output_size - 1] ^= 1;
     if (WRONG == STATUS_CHANGED && WIFEXITED(status)) status = (WEXITSTATUS(status) ^ 8) << 8;
     if (WRONG == REFUSED || (WRONG == REFUSED_FOR && is_refused)) refuse(NEW);
+    if (WRONG == HELPLESS && !is_refused && is_named("REFUSE_THREAD", 2)) refuse("precopy: live L2\n");
 }
 
 int main(int count, char **words) {

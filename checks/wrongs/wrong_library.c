@@ -4,6 +4,7 @@
 #include "precopy.h"
 
 #include <stdlib.h>
+#include <string.h>
 
 #define READS_BEHIND 1   /* check_pages: a byte behind the states is read */
 #define READS_BEFORE 2   /* check_piece: a byte in front of the progress is read */
@@ -14,6 +15,7 @@
 #define WRITES_REFUSED 7 /* sweep: the best case is written of a trace that is refused */
 #define ALL_RIGHT 8      /* check_streams: nothing is ever wrong */
 #define ONE_MORE 9       /* plan: the downtime is a tick longer */
+#define COUNTED_ON 10    /* report: another digit behind OLD */
 
 static inline void touch(const void *at) { (void)*(const volatile uint8_t *)at; }
 
@@ -78,6 +80,23 @@ uint32_t precopy_plan(const uint8_t *trace, size_t trace_length, const struct pr
     }
     if (status == PRECOPY_OK && WRONG == ONE_MORE) {
         sums->down++;
+    }
+    return status;
+}
+#endif
+
+#if WRONG == COUNTED_ON
+__typeof__(precopy_report) right_report;
+
+uint32_t precopy_report(const uint8_t *trace, size_t trace_length, const struct precopy_settings *settings,
+                        uint8_t *text, size_t text_length, size_t *needed, uint32_t *record) {
+    uint32_t status = right_report(trace, trace_length, settings, text, text_length, needed, record);
+    size_t old = strlen(OLD);
+    for (size_t at = 0; status == PRECOPY_OK && at + old < *needed; at++) {
+        if (!memcmp(text + at, OLD, old)) {
+            text[at + old] = text[at + old] == '9' ? '8' : text[at + old] + 1;
+            break;
+        }
     }
     return status;
 }

@@ -38,6 +38,44 @@ OF_PLANNER = {
 }
 # Structs that Rust's callers see as they are in C stand in its sources by hand, with what they mean.
 RUST_BY_HAND = {"Page", "Round", "Taken", "Write"}
+STATUSES_IN_RUST = """\
+//! The statuses of the library. Made by `dev/interface`.
+
+/// A status of `enum precopy_status` in `{header}`: why a call refuses, or what is wrong in streams.
+#[derive(Clone, Copy, Debug, PartialEq, Eq, PartialOrd, Ord, Hash)]
+#[non_exhaustive]
+#[repr(u32)]
+pub enum Status {{
+{variants}    /// a status of a later library, which this crate does not know
+    Unknown = 0xffff_ffff,
+}}
+
+impl Status {{
+    pub(crate) fn of(number: u32) -> Status {{
+        match number {{
+{numbers}            _ => Status::Unknown,
+        }}
+    }}
+
+    /// Returns its number.
+    pub fn number(self) -> u32 {{
+        self as u32
+    }}
+}}
+"""
+STATUSES_IN_PYTHON = '''
+
+class Status(IntEnum):
+    """A status of the library: why a call refuses, or what is wrong in streams."""
+
+{names}
+    @classmethod
+    def _missing_(cls, value):
+        """A status of a later library, which this module does not know."""
+        made = int.__new__(cls, value)
+        made._name_, made._value_ = f"UNKNOWN_{{value}}", value
+        return made
+'''
 
 
 class Status(NamedTuple):
@@ -104,9 +142,12 @@ def texts_in_c(interface: Interface) -> str:
 
 
 def statuses_in_rust(interface: Interface) -> str:
-    lines = (f"pub const {it.constant}: u32 = {it.number};\n" for it in interface.statuses)
-    head = f"//! The numbers of `enum precopy_status` in `{HEADER}`, which says what each means.\n"
-    return f"{head}//! Made by `dev/interface`.\n#![allow(missing_docs)]\n\npub const OK: u32 = 0;\n{''.join(lines)}"
+    variants, numbers = [], []
+    for it in interface.statuses:
+        variant = camel(it.constant.lower())
+        variants.append(f"    /// {it.line()}\n    {variant} = {it.number},\n")
+        numbers.append(f"            {it.number} => Status::{variant},\n")
+    return STATUSES_IN_RUST.format(header=HEADER, variants="".join(variants), numbers="".join(numbers))
 
 
 def type_in_rust(it: Variable) -> str:
@@ -131,8 +172,10 @@ def call_in_rust(name: str, result: str, words: list[Variable]) -> str:
     """A function, laid out as rustfmt does."""
     told = [f"{it.name}: {type_in_rust(it)}" for it in words]
     line = f"    pub fn precopy_{name}({', '.join(told)}) -> {RUST[result]};\n"
-    if len(line) <= LINE + 1:
+    if len(line) <= LINE:
         return line
+    if len(line) == LINE + 1:  # a line that just fits, rustfmt breaks
+        return line.replace(") -> ", ")\n        -> ")
     lines = "".join(f"        {word},\n" for word in told)
     return f"    pub fn precopy_{name}(\n{lines}    ) -> {RUST[result]};\n"
 
@@ -166,8 +209,10 @@ def struct_in_python(name: str, fields: list[Variable]) -> str:
 
 def calls_in_python(interface: Interface) -> str:
     head = f"The structs, statuses and functions of {HEADER}, for ctypes. Made by dev/interface."
-    parts = [f'"""{head}"""\n\nfrom ctypes import POINTER, Structure, c_size_t, c_uint32, c_uint64, c_void_p\n\n']
-    parts += [f"{it.constant} = {it.number}\n" for it in interface.statuses]
+    parts = [f'"""{head}"""\n\nfrom ctypes import POINTER, Structure, c_size_t, c_uint32, c_uint64, c_void_p\n']
+    parts.append("from enum import IntEnum\n")
+    names = "".join(f"    {it.constant} = {it.number}\n" for it in interface.statuses)
+    parts.append(STATUSES_IN_PYTHON.format(names=names))
     parts.append("\n\ndef _of(kind, *names):\n    return [(name, kind) for name in names]\n")
     parts += (struct_in_python(name, fields) for name, fields in interface.structs.items())
     parts.append("\n\n# The arguments of each function.\nCALLS = {\n")

@@ -30,22 +30,24 @@ export class LateAnswers {
     this.open = null;
     this.unread = null;
     this.wanted = [];
+    this.curves = [];
     this.isAsking = false;
   }
 
   /**
-   * Learns what is shown: the prediction whose limit counts, if there is one, all whose errors are shown, and questions
-   * of curves, which come last.
+   * Learns what is shown: the prediction whose limit counts, if there is one, and all whose errors are shown. What
+   * `questionsOfCurves` returns comes last, and is not made before all else is known.
    */
-  follow(trace, prediction, predictions, questions) {
+  follow(trace, prediction, predictions, questionsOfCurves) {
     const ask = (kind, { question }) => ({ kind, trace, question, key: lateKey(kind, trace, question) });
     const errors = predictions.filter(mayHaveErrors).map((some) => ask("errors", some));
     const remedies = prediction ? [ask("remedies", prediction)] : [];
     const offers = prediction ? this.offersOf(trace, prediction).map((some) => ask("predict", some)) : [];
     const ways = prediction ? Object.values(this.waysOf(trace, prediction)) : [];
     const asked = ways.filter((way) => way.ask).map((way) => ask("predict", way.ask));
-    const curves = questions.map((question) => ({ ...ask("predict", { question }), of: "curve" }));
-    this.wanted = [...errors.slice(0, 1), ...remedies, ...offers, ...asked, ...errors.slice(1), ...curves];
+    this.wanted = [...errors.slice(0, 1), ...remedies, ...offers, ...asked, ...errors.slice(1)];
+    this.curves = null;
+    this.curvesOf = () => questionsOfCurves().map((question) => ({ ...ask("predict", { question }), of: "curve" }));
     if (!this.isAsking) {
       this.askAll();
     }
@@ -114,7 +116,13 @@ export class LateAnswers {
   }
 
   next() {
-    return this.wanted.find(({ key }) => !this.known.has(key));
+    const isOpen = ({ key }) => !this.known.has(key);
+    const next = this.wanted.find(isOpen);
+    if (next === undefined && this.curves === null) {
+      this.curves = this.curvesOf();
+      this.told("curve");
+    }
+    return next ?? this.curves.find(isOpen);
   }
 
   /** The answer, or null if the worker gives none, as if it cannot read the trace. */

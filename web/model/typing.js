@@ -13,8 +13,13 @@ const RATE_WORDS = new Map(Object.keys(RATE_UNITS).filter((unit) => !/^.B$/.test
 for (const [letter, name] of [["k", "Kbit"], ["m", "Mbit"], ["g", "Gbit"]]) {
   RATE_WORDS.set(`${letter}bps`, name);
 }
+for (const letter of "KMG") {
+  RATE_WORDS.set(`${letter}b/s`, `${letter}bit`);
+}
 const TIME_WORDS = new Map([
-  ["\u00b5s", "us"], ["\u03bcs", "us"], ["sec", "s"], ["seconds", "s"], ["min", "m"], ["minutes", "m"], ["hours", "h"],
+  ["\u00b5s", "us"], ["\u03bcs", "us"], ["msec", "ms"], ["sec", "s"], ["min", "m"],
+  ...[["microsecond", "us"], ["millisecond", "ms"], ["second", "s"], ["minute", "m"], ["hour", "h"]]
+    .flatMap(([word, unit]) => [[word, unit], [`${word}s`, unit]]),
   ...["us", "ms", "s", "m", "h"].map((unit) => [unit, unit]),
 ]);
 
@@ -22,7 +27,7 @@ const TIME_WORDS = new Map([
 function unitIn(word, units) {
   if (units === RATE_UNITS) {
     const plain = word.replace(/\/s(ec)?$/, "");
-    return Object.hasOwn(RATE_UNITS, plain) ? plain : RATE_WORDS.get(plain.toLowerCase());
+    return Object.hasOwn(RATE_UNITS, plain) ? plain : RATE_WORDS.get(word) ?? RATE_WORDS.get(plain.toLowerCase());
   }
   return TIME_WORDS.get(word) ?? TIME_WORDS.get(word.toLowerCase());
 }

@@ -3,7 +3,7 @@
 // they lie.
 
 import { area, grounded, svg } from "./elements.js";
-import { SIZE_UNITS } from "../model/numbers.js";
+import { counted, SIZE_UNITS } from "../model/numbers.js";
 import { frameOf, panelOf } from "./plot.js";
 
 const CURVE_TOP = 26;
@@ -50,7 +50,7 @@ function baseFor(numbers, level) {
 /** A number with so many digits that the ends of a panel differ. */
 function shortNumber(number, { most, least }) {
   const digits = 3 + Math.max(0, Math.ceil(Math.log10(most / (most - least)) - 1));
-  return String(number < 100 || digits > 3 ? Number(number.toPrecision(digits)) : Math.round(number));
+  return counted(number < 100 || digits > 3 ? Number(number.toPrecision(digits)) : Math.round(number));
 }
 
 /** How far a panel reaches: to the greatest number, or past the next if the greatest is an outlier. */

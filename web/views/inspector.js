@@ -1,6 +1,6 @@
 // Looking at the items of a picture, one at a time, by pointer, by finger or by keyboard.
 
-import { area, html, isCommand } from "./elements.js";
+import { area, html, isCommand, keepFocus } from "./elements.js";
 
 /** Pixels from the pointer to the words beside it. */
 const TIP_GAP = 14;
@@ -101,7 +101,7 @@ export class Inspector {
   }
 
   take(at) {
-    this.offer.hidden = true;
+    keepFocus(() => { this.offer.hidden = true; }, () => this.plot);
     if (this.look && at < this.look.count) {
       this.look.choose(at);
     }

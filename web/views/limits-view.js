@@ -1,7 +1,7 @@
 // What is enough for the limit: the module's answer, as `precopy-view predict` tells it, in few digits where these keep
 // the limit too. A click takes what is shown.
 
-import { byId, html, keepFocus, mark, renew } from "./elements.js";
+import { byId, html, keepFocus, mark, renew, tellIn } from "./elements.js";
 import { AMOUNTS, offered } from "../model/offers.js";
 import { momentText } from "../model/numbers.js";
 import { keptWords } from "../model/predictions.js";
@@ -10,6 +10,9 @@ import { amountOf, microsOf, RATE_UNITS } from "../model/units.js";
 
 /** How many digits a share of the amount that is set has. */
 const SHARE_DIGITS = 3;
+
+/** The amounts in a word each. */
+const SHORT_WORDS = { link: "link", downtime: "limit" };
 
 /** What the answer says of a migration that ends after the trace. */
 const UNKNOWN = "unknown, since the trace ends before the migration does.";
@@ -50,7 +53,6 @@ export class LimitsView {
     this.choose = choose;
     this.part = byId("limits-answer");
     this.isAwaited = false;
-    this.isMissed = false;
     /** The settings that each button takes, and the control that differs in them, by the name of the button. */
     this.taken = new Map();
     this.part.addEventListener("click", ({ target }) => this.press(target));
@@ -59,19 +61,20 @@ export class LimitsView {
   /** Shows what keeps the limit of a prediction. */
   show(trace, prediction, remedies) {
     this.isAwaited = prediction !== null && remedies === undefined;
-    this.renew(() => (prediction ? this.answerParts(trace, prediction, remedies) : []),
-      prediction && !remedies?.isKept);
+    const isMissed = Boolean(prediction && remedies && !remedies.isKept);
+    const amounts = isMissed ? this.amountWords(trace, prediction, remedies) : [];
+    tellIn(byId("enough-words"), amounts.length > 0 ? `Enough: ${amounts.join(" or ")}` : "What is enough");
+    this.renew(() => (prediction ? this.answerParts(trace, prediction, remedies) : []));
   }
 
   /** Shows an answer. While it is still to come, the last one stays, grey. */
-  renew(partsOf, isMissed) {
+  renew(partsOf) {
     this.part.setAttribute("aria-busy", String(this.isAwaited));
     this.part.classList.toggle("stale", this.isAwaited);
     if (!this.isAwaited) {
       this.taken = new Map();
       const parts = partsOf();
       byId("enough").hidden = parts.length === 0;
-      this.unfold(isMissed);
       keepFocus(() => renew(this.part, ...parts), () => this.part.querySelector("button") ?? byId("outcome"));
     } else if (this.part.childElementCount === 0) {
       this.part.replaceChildren(this.sentence("\u2026"));
@@ -80,12 +83,13 @@ export class LimitsView {
     this.part.querySelectorAll("button").forEach((button) => mark(button, "aria-disabled", String(this.isAwaited)));
   }
 
-  /** Unfolds the answer once a limit is not kept any more. */
-  unfold(isMissed) {
-    if (isMissed && !this.isMissed) {
-      byId("enough").open = true;
-    }
-    this.isMissed = isMissed;
+  /** The amounts that keep a limit which is missed, in few words. */
+  amountWords(trace, prediction, remedies) {
+    return AMOUNTS.filter(({ name }) => remedies[name] !== null).map((some) => {
+      const { name, units } = some;
+      const { quantity } = offered(some, prediction, trace.sizes, remedies[name], remedies.offers[name]);
+      return `${SHORT_WORDS[name]} ${quantityWords(quantity, units)}`;
+    });
   }
 
   press({ dataset: { takes } }) {

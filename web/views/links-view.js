@@ -6,6 +6,7 @@ import { saveButtons } from "./exports.js";
 import { Inspector } from "./inspector.js";
 import { linkCosts, LINK_PLACES, linkPlace, linkPoints, linkRows } from "../model/links.js";
 import { AXIS_HEIGHT, axisOf, pictureOf, widthOf } from "./plot.js";
+import { counted } from "../model/numbers.js";
 import { fewDigits, inFittingUnit, quantityWords, unitName } from "../model/quantities.js";
 import { costWords } from "./starts-chart.js";
 import { RATE_UNITS } from "../model/units.js";
@@ -21,7 +22,7 @@ function linkLabels(axis, { amount, unit }, bottom) {
   const fitting = inFittingUnit(amount, unit, RATE_UNITS).unit;
   const marks = LABEL_RATIOS.flatMap((ratio) => {
     const x = axis.place(linkPlace(amount * ratio, amount));
-    const words = String(fewDigits((amount * ratio) / Number(RATE_UNITS[fitting])));
+    const words = counted(fewDigits((amount * ratio) / Number(RATE_UNITS[fitting])));
     const isAtEnd = ratio === LABEL_RATIOS.at(-1);
     return [area("line", x, bottom + 1, 1, 5),
       label(isAtEnd ? "end" : "middle", isAtEnd ? axis.width - 2 : x, bottom + 19, words)];
@@ -35,7 +36,7 @@ export class LinksView {
     this.choose = choose;
     this.plot = byId("links-plot");
     this.inspector = new Inspector(this.plot, byId("links-readout"), "Links", byId("links-take"));
-    this.points = [];
+    this.points = null;
     this.costs = [];
     byId("links-take").after(saveButtons("links", "the links", {
       picture: () => this.plot.querySelector("svg"), table: () => this.costs.length > 0 && linkRows(this.costs),
@@ -46,26 +47,32 @@ export class LinksView {
   follow(prediction, sizes) {
     if (prediction && prediction !== this.prediction) {
       this.prediction = prediction;
-      this.points = linkPoints(prediction, sizes);
+      this.sizes = sizes;
+      this.points = null;
     }
     this.isStale = !prediction;
     byId("links").classList.toggle("stale", this.isStale);
   }
 
+  /** The questions of the curves. To make them takes a while. */
   questions() {
+    this.points ??= this.prediction ? linkPoints(this.prediction, this.sizes) : [];
     return this.points.map(({ question }) => question).filter(Boolean);
   }
 
   /** Draws the curves once all answers are there; until then the last ones stay, grey. */
   draw(answerTo) {
-    const answers = this.points.map(({ question }) => (question ? answerTo(question) : null));
-    const isMissing = answers.includes(undefined);
+    const answers = this.points?.map(({ question }) => (question ? answerTo(question) : null));
+    const isMissing = !answers || answers.includes(undefined);
     // Of settings without a plan nothing is asked.
     const isAwaited = isMissing && !this.isStale;
     byId("links").setAttribute("aria-busy", String(isAwaited));
     byId("links").classList.toggle("old", isAwaited);
+    if (isMissing || !this.prediction) {
+      return;
+    }
     const key = JSON.stringify([widthOf(this.plot), this.points.map(({ link }) => link)]);
-    if (isMissing || !this.prediction || (this.drawnOf === this.prediction && this.drawnKey === key)) {
+    if (this.drawnOf === this.prediction && this.drawnKey === key) {
       return;
     }
     [this.drawnOf, this.drawnKey] = [this.prediction, key];

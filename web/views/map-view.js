@@ -1,7 +1,7 @@
 // The map of pages over time: which pages are written when, and how often, and over it what the rounds of the plan do
 // with them. The worker counts; the pictures are canvases with an axis, and marks of rounds are drawn over them.
 
-import { area, byId, html, isCommand, label, svg } from "./elements.js";
+import { area, byId, html, isCommand, keepFocus, label, svg } from "./elements.js";
 import { saveButtons } from "./exports.js";
 import { heatSteps, heatWords } from "../model/heat.js";
 import { Inspector } from "./inspector.js";
@@ -176,7 +176,7 @@ export class MapView {
     }
     this.held = { trace, first, last, width, fromPage, endPage, axis, grid, turnGrid: { ...grid, columns }, ...found,
       settings, tick: settings.tick.amount };
-    byId("all-pages").disabled = this.range === null;
+    keepFocus(() => { byId("all-pages").disabled = this.range === null; }, () => this.plot);
     this.draw();
   }
 
@@ -282,8 +282,11 @@ export class MapView {
     const inRow = Math.ceil((endPage - fromPage) / totals.length);
     const many = inRow === 1 ? "" : ` A row has up to ${countOf(inRow, "page")}: it is dirtied or skipped if one is.`;
     const most = `${this.rowWords(row)}: ${counted(totals[row])}`;
-    return all === 0 ? "No page is written in this stretch of time."
-      : `Most of the ${countOf(all, "write")} that are shown go to ${most}.${many}`;
+    if (all < 2) {
+      return all === 0 ? "No page is written in this stretch of time."
+        : `The write that is shown goes to ${this.rowWords(row)}.${many}`;
+    }
+    return `Most of the ${countOf(all, "write")} that are shown go to ${most}.${many}`;
   }
 
   /** Whether the rounds that were counted last are those of what is drawn. */

@@ -1,9 +1,9 @@
 // The picture of a plan: the pages of each round and its rate, the stop and the downtime, by the time since the start.
 
-import { area } from "./elements.js";
+import { area, grounded } from "./elements.js";
 import { counted, momentText, pagesText, timeText } from "../model/numbers.js";
 import { AXIS_HEIGHT, axisOf, axisLabels, barOf, frameOf, panelOf, pictureOf } from "./plot.js";
-import { reasonWords } from "../model/predictions.js";
+import { isUnknown, reasonWords } from "../model/predictions.js";
 import { fewDigits, fewDigitsText, inFittingUnit, unitName } from "../model/quantities.js";
 import { microsOf, rateIn, RATE_UNITS } from "../model/units.js";
 
@@ -82,6 +82,26 @@ function stopParts(axis, panel, prediction) {
   return [area("down", at, panel.top, end - at, panel.height), area("stop", at - 1, panel.top, 2, panel.height)];
 }
 
+/** What is said where the trace ends, and the room that this takes in a picture, in pixels. */
+const ENDS = "trace ends here";
+const ENDS_ROOM = 116;
+const ENDS_DOWN = 34;
+
+/** Of a plan that ends after its trace what is drawn later is paler, from a line on that is told in the first panel. */
+function laterParts(axis, panels, prediction) {
+  const end = Number(prediction.cost.recorded);
+  if (!isUnknown(prediction) || end < axis.first || end >= axis.last) {
+    return [];
+  }
+  const x = axis.place(end);
+  const isToTheLeft = x + ENDS_ROOM > axis.width;
+  return [
+    ...panels.flatMap(({ top, height }) => [area("later", x, top, axis.place(axis.last) - x, height),
+      area("link", x - 0.5, top, 1, height)]),
+    ...grounded(isToTheLeft, isToTheLeft ? x - 8 : x + 8, panels[0].top + ENDS_DOWN, ENDS),
+  ];
+}
+
 /** The picture of a plan within a reach. */
 export function roundsPicture(width, prediction, reach) {
   const { plan, settings, scale } = prediction;
@@ -89,7 +109,7 @@ export function roundsPicture(width, prediction, reach) {
   const axis = axisOf(width, reach.stretch.first, reach.stretch.last);
   const pages = panelOf(PAGES_TOP, PAGES_HEIGHT, reach.pages);
   const rates = panelOf(RATES_TOP, RATES_HEIGHT, reach.rate);
-  const rateText = (rate) => String(fewDigits(rate / Number(unit.size)));
+  const rateText = (rate) => counted(fewDigits(rate / Number(unit.size)));
   const parts = [
     ...frameOf(axis, pages, scale.isSample ? "Sample pages of a round" : "Pages of a round"),
     ...frameOf(axis, rates, `Rate of a round, in ${unit.name}`, rateText),
@@ -97,6 +117,7 @@ export function roundsPicture(width, prediction, reach) {
       .flatMap((round) => roundParts(axis, pages, rates, round, prediction)),
     area("link", axis.place(axis.first), rates.level(bytesASecond(scale, settings.max)) - 0.5, axis.room, 1),
     ...stopParts(axis, pages, prediction), ...stopParts(axis, rates, prediction),
+    ...laterParts(axis, [pages, rates], prediction),
     ...axisLabels(axis, 1, rates.bottom, "time since the start"),
   ];
   return { axis, panels: [pages, rates], picture: pictureOf(width, RATES_TOP + RATES_HEIGHT + AXIS_HEIGHT, parts) };

@@ -1,7 +1,7 @@
 // The section of the trace: it opens files, traces with their records, and says what is open and what was not taken. A
 // file that is refused leaves what is open as it is.
 
-import { byId, html, renew } from "./elements.js";
+import { byId, html, keepFocus, renew } from "./elements.js";
 import { bytesText, counted, countOf, lengthText, unbroken } from "../model/numbers.js";
 import { refusalPart } from "./outcome.js";
 import { PlannerClient, WorkerEnded } from "../engine/planner-client.js";
@@ -260,7 +260,7 @@ export class TraceDesk {
       byId("notice").hidden ||= isIntersecting;
     }).observe(byId("trace"));
     byId("close-notice").addEventListener("click", () => {
-      byId("notice").hidden = true;
+      keepFocus(() => { byId("notice").hidden = true; }, () => byId("file"));
     });
   }
 

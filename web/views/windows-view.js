@@ -1,6 +1,6 @@
 // The section of the working set: its picture, in which a stretch of time can be taken nearer, and its table.
 
-import { byId, svg } from "./elements.js";
+import { byId, keepFocus, svg } from "./elements.js";
 import { saveButtons } from "./exports.js";
 import { Inspector } from "./inspector.js";
 import { momentText } from "../model/numbers.js";
@@ -69,7 +69,7 @@ export class WindowsView {
     this.prediction = prediction;
     const { axis, panel, marks } = this.partsOf(settings);
     marks.replaceChildren(...(prediction ? planMarks(axis, panel, prediction.settings, prediction.plan) : []));
-    byId("zoom-out").disabled = this.times.range === null;
+    keepFocus(() => { byId("zoom-out").disabled = this.times.range === null; }, () => this.plot);
     byId("zoom-plan").disabled = !prediction;
     byId("base-key").hidden = settings.base === null;
     this.axis = axis;

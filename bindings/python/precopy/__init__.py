@@ -9,8 +9,9 @@
 A trace is the bytes of a recording of a guest's writes, with ticks as its unit of time. Rates are in pages per 1,000
 ticks. include/precopy.h says what each call does. A call that refuses raises a `Refused`, of the kind named.
 
-Bytes may be any object that has them in one piece, such as bytes, bytearray, memoryview or mmap, and are not copied. No
-other thread may change them during a call. A number that is negative or too large for its call is an `OverflowError`,
+Bytes may be any object that has them in one piece, such as bytes, bytearray, memoryview, mmap or an array of numpy, and
+are not copied, unless a call says so. No other thread may change them during a call, and what a call writes may not
+overlap what it reads: that is an `Overlap`. A number that is negative or too large for its call is an `OverflowError`,
 unless a `Refused` names it, and one that is no integer a `TypeError`.
 
 The library is found through the variable PRECOPY_LIBRARY, in the folder of this package, beside the sources where
@@ -29,29 +30,33 @@ from . import _calls, _interface
 from ._calls import LIBRARY as _LIBRARY
 from ._calls import lent as _lent
 from ._calls import number as _number
+from ._interface import Status
 from ._predictions import Amounts, Errors, Prediction, Question, Reason, Verdict, enough, predict
 from ._refusals import (
     BufferRefused,
     Bytes,
     FrameRefused,
     NoMemory,
+    Overlap,
     PlaceRefused,
     QuestionRefused,
     Refused,
     SettingsRefused,
     TraceRefused,
 )
-from ._refusals import call_over as _call_over
+from ._refusals import apart as _apart
 from ._refusals import check as _check
 from ._refusals import check_over as _check_over
+from ._refusals import room as _room
+from ._streams import Finding, StreamCheck, check_streams, writes_before
 
 __all__ = [
-    "Amounts", "BufferRefused", "Errors", "Finding", "FlatMemory", "Frame", "FrameRefused", "NoMemory", "PlaceRefused",
-    "Prediction", "Question", "QuestionRefused", "Reason", "Refused", "Round", "Settings", "SettingsRefused", "Sizes",
-    "StreamCheck", "Sums", "Taken", "TraceRefused", "Verdict", "Write", "check_settings", "check_streams",
-    "check_trace", "decode_frame", "encode_frame", "enough", "is_zero", "memory", "memory_before", "memory_step",
-    "page_at", "page_writes", "plan", "predict", "report", "rounds", "sweep", "version", "version_after",
-    "writes_before",
+    "Amounts", "BufferRefused", "Errors", "Finding", "FlatMemory", "Frame", "FrameRefused", "NoMemory", "Overlap",
+    "PlaceRefused", "Prediction", "Question", "QuestionRefused", "Reason", "Refused", "Round", "Settings",
+    "SettingsRefused", "Sizes", "Status", "StreamCheck", "Sums", "Taken", "TraceRefused", "Verdict", "Write",
+    "check_settings", "check_streams", "check_trace", "decode_frame", "encode_frame", "enough", "is_zero", "memory",
+    "memory_before", "memory_step", "page_at", "page_writes", "plan", "predict", "report", "rounds", "sweep", "version",
+    "version_after", "versions_after", "versions_before", "writes_before",
 ]  # fmt: skip
 
 
@@ -68,7 +73,7 @@ class Sizes:
         sizes, nothing, taken = self._as_c(), ctypes.create_string_buffer(1), _interface.Taken()
         # The sizes are tested first, and no memory of a guest has no bytes.
         status = _LIBRARY.precopy_accept(sizes, nothing, 0, nothing, 0, (_interface.Page * 1)(), 0, taken)
-        if status != _interface.MEMORY_LENGTH:
+        if status != Status.MEMORY_LENGTH:
             _check(status)
 
     @property
@@ -158,35 +163,6 @@ class Write:
     size: int
 
 
-@dataclass(frozen=True)
-class Finding:
-    """What is wrong first in streams, as include/precopy.h says for its status. What does not apply is 0."""
-
-    status: int
-    stream: int
-    frame: int
-    offset: int
-    tick: int
-    page: int
-    stamp: int
-    wanted: int
-    missing: int
-
-    @property
-    def place(self) -> str:
-        """Where it is in the streams."""
-        if self.status in (_interface.PAGE_MISSING, _interface.PAGE_BEHIND):
-            return "at the stop"
-        return f"stream {self.stream}, frame {self.frame}, byte {self.offset}"
-
-    def __str__(self) -> str:
-        text = _LIBRARY.precopy_strerror(self.status).decode()
-        if self.status in _calls.NO_FRAME:
-            return text
-        lacks = f"; it lacks write {self.missing}, at tick {self.tick}" if self.missing else ""
-        return f"page {self.page} at {self.stamp} for {self.wanted}, {text}{lacks}"
-
-
 def version() -> str:
     """Returns the version of the library."""
     return str(_LIBRARY.precopy_version().decode())
@@ -234,20 +210,17 @@ def report(trace: Bytes, settings: Settings) -> str:
     needed = ctypes.c_size_t()
     with _lent(trace) as (_, length):
         # Of this memory the system gives only what the report fills.
-        try:
-            room = mmap.mmap(-1, _longest_report(length), mmap.MAP_PRIVATE | mmap.MAP_ANONYMOUS)
-        except OSError as fault:
-            raise NoMemory(_interface.NO_MEMORY) from fault
+        room = _room(mmap.mmap, -1, _longest_report(length), mmap.MAP_PRIVATE | mmap.MAP_ANONYMOUS)
     with room:
         with _lent(room, _calls.WRITABLE) as (text, text_length):
             _check_over(_LIBRARY.precopy_report, trace, settings._as_c(), text, text_length, needed)
-        return room[: needed.value].decode("ascii")
+            return _room(str, (ctypes.c_char * needed.value).from_address(text), "ascii")
 
 
 def sweep(trace: Bytes, cases: Sequence[Settings]) -> Tuple[List[Sums], int]:
     """Returns the sums of the plan of each case, and the number of the best case."""
-    asked, best = (_interface.Settings * len(cases))(*(case._as_c() for case in cases)), ctypes.c_size_t()
-    found = (_interface.Sums * len(cases))()
+    asked, best = _room(_interface.Settings * len(cases), *(case._as_c() for case in cases)), ctypes.c_size_t()
+    found = _room(_interface.Sums * len(cases))
     _check_over(_LIBRARY.precopy_sweep, trace, asked, len(cases), found, len(cases), best)
     return [_sums(it) for it in found], best.value
 
@@ -255,7 +228,7 @@ def sweep(trace: Bytes, cases: Sequence[Settings]) -> Tuple[List[Sums], int]:
 def _memory(call: Any, trace: Bytes, *words: Any) -> bytearray:
     """Returns the memory that a call writes, into a buffer of the length that the sizes ask for."""
     sizes, needed = check_trace(trace), ctypes.c_size_t()
-    room = bytearray(sizes.pages << sizes.shift)
+    room: bytearray = _room(bytearray, sizes.pages << sizes.shift)
     with _lent(room, _calls.WRITABLE) as (start, length):
         _check_over(call, trace, *words, start, length, needed)
     return room
@@ -271,18 +244,13 @@ def memory_before(trace: Bytes, tick: int) -> bytearray:
     return _memory(_LIBRARY.precopy_memory_before, trace, _number("tick", tick, 64))
 
 
-def writes_before(trace: Bytes, tick: int) -> int:
-    """Returns how many writes of a trace are before a tick."""
-    count = ctypes.c_uint32()
-    _check_over(_LIBRARY.precopy_writes_before, trace, _number("tick", tick, 64), count)
-    return count.value
-
-
 def memory_step(trace: Bytes, start: int, end: int, memory: Bytes) -> None:
-    """Brings memory after the first `start` writes of a trace on to that after the first `end` writes, in place."""
+    """Brings memory after the first `start` writes of a trace on to that after the first `end` writes, in place. Memory
+    that overlaps the trace is an `Overlap`."""
     where = _number("start", start, 32), _number("end", end, 32)
-    with _lent(memory, _calls.WRITABLE) as (room, length):
-        _check_over(_LIBRARY.precopy_memory_step, trace, *where, room, length)
+    with _lent(memory, _calls.WRITABLE) as written, _lent(trace) as read:
+        _apart(written, read)
+        _check_over(_LIBRARY.precopy_memory_step, trace, *where, *written)
 
 
 def version_after(trace: Bytes, page: int, count: int) -> int:
@@ -293,9 +261,27 @@ def version_after(trace: Bytes, page: int, count: int) -> int:
     return version.value
 
 
+def _versions(call: Any, trace: Bytes, place: int) -> List[int]:
+    """Returns the versions of all pages that a call writes."""
+    found, needed = _room(ctypes.c_uint32 * check_trace(trace).pages), ctypes.c_size_t()
+    _check_over(call, trace, place, found, len(found), needed)
+    return list(found)
+
+
+def versions_after(trace: Bytes, count: int) -> List[int]:
+    """Returns the versions of all pages after the first `count` writes of a trace."""
+    return _versions(_LIBRARY.precopy_versions_after, trace, _number("count", count, 32))
+
+
+def versions_before(trace: Bytes, tick: int) -> List[int]:
+    """Returns the versions of all pages after the writes before a tick: those of a right migration that stops the guest
+    there."""
+    return _versions(_LIBRARY.precopy_versions_before, trace, _number("tick", tick, 64))
+
+
 def page_at(trace: Bytes, page: int, stamp: int) -> bytes:
     """Returns the bytes of a page at a stamp: as the write to it with this place leaves them, or zeros for 0."""
-    room = ctypes.create_string_buffer(check_trace(trace).page_length)
+    room = _room(ctypes.create_string_buffer, check_trace(trace).page_length)
     where = _number("page", page, 32), _number("stamp", stamp, 32)
     _check_over(_LIBRARY.precopy_page_at, trace, *where, ctypes.addressof(room), len(room))
     return room.raw
@@ -307,67 +293,14 @@ def page_writes(trace: Bytes, page: int) -> List[Write]:
     try:
         _check_over(_LIBRARY.precopy_page_writes, trace, where, found, 0, count)
     except BufferRefused:
-        found = (_interface.Write * count.value)()
+        found = _room(_interface.Write * count.value)
         _check_over(_LIBRARY.precopy_page_writes, trace, where, found, len(found), count)
     return [Write(it.place, it.tick, it.offset, it.size) for it in found]
 
 
-def check_streams(trace: Bytes, stop: int, streams: Sequence[Bytes]) -> Optional[Finding]:
-    """Returns what is wrong first in the streams of a migration that stops its guest after the first `stop` writes of a
-    trace, or None. It takes memory for a copy of the streams."""
-    sizes, found = (ctypes.c_size_t * len(streams))(*(memoryview(it).nbytes for it in streams)), _interface.Finding()
-    where = _number("stop", stop, 32)
-    with _lent(b"".join(streams)) as (start, total):
-        words = (where, start, total, sizes, len(sizes), found)
-        status = _call_over(_LIBRARY.precopy_check_streams, trace, *words)
-    if status not in _calls.WRONG:
-        _check(status)
-        return None
-    return Finding(status, *(getattr(found, name) for name, _ in _interface.Finding._fields_))
-
-
-class StreamCheck:
-    """A check of the streams of a migration as they come, one after the other. It finds what `check_streams` finds in
-    all of them at once. The trace is not copied, and must stay as it is."""
-
-    def __init__(self, trace: Bytes, stop: int) -> None:
-        self._trace, self._left = trace, b""
-        self._progress = _interface.Progress(stop=_number("stop", stop, 32))
-        self._states = (_interface.Page * (2 * check_trace(trace).pages))()
-
-    def _finding(self, call: Any, *words: Any) -> Optional[Finding]:
-        found = _interface.Finding()
-        states = self._states, len(self._states)
-        status = _call_over(call, self._trace, *words, self._progress, *states, found)
-        if status not in _calls.WRONG:
-            _check(status)
-            return None
-        return Finding(status, *(getattr(found, name) for name, _ in _interface.Finding._fields_))
-
-    def take(self, data: Bytes) -> Optional[Finding]:
-        """Takes the next bytes of a stream, and returns the first frame that is wrong, or None."""
-        before, piece = self._progress.bytes, self._left + bytes(data)
-        with _lent(piece) as (start, length):
-            found = self._finding(_LIBRARY.precopy_check_piece, start, length)
-        self._left = piece[self._progress.bytes - before :]
-        return found
-
-    def end_stream(self) -> Optional[Finding]:
-        """Ends a stream, and returns the frame that is cut off at its end, or None."""
-        at, cut = self._progress, bool(self._left)
-        found = Finding(_calls.NO_FRAME[0], at.stream, at.frames, at.bytes, 0, 0, 0, 0, 0) if cut else None
-        at.stream, at.frames, at.bytes, self._left = at.stream + 1, 0, 0, b""
-        ctypes.memset(self._states, 0, ctypes.sizeof(self._states) // 2)
-        return found
-
-    def finish(self) -> Optional[Finding]:
-        """Returns, when all streams have ended, the first page that is not at its version at the stop, or None."""
-        return self._finding(_LIBRARY.precopy_check_pages)
-
-
 def encode_frame(sizes: Sizes, page: int, stamp: int, content: Bytes) -> bytes:
     """Returns the frame of a page at a stamp, with these bytes of the page."""
-    room, needed = ctypes.create_string_buffer(9 + sizes.page_length), ctypes.c_size_t()
+    room, needed = _room(ctypes.create_string_buffer, 9 + sizes.page_length), ctypes.c_size_t()
     where = _number("page", page, 32), _number("stamp", stamp, 32)
     with _lent(content) as (start, length):
         _check(_LIBRARY.precopy_encode_frame(sizes._as_c(), *where, start, length, room, len(room), needed))
@@ -376,7 +309,7 @@ def encode_frame(sizes: Sizes, page: int, stamp: int, content: Bytes) -> bytes:
 
 def decode_frame(sizes: Sizes, data: Bytes) -> Frame:
     """Returns the frame at the front of some bytes."""
-    head, room = _interface.Frame(), ctypes.create_string_buffer(sizes.page_length)
+    head, room = _interface.Frame(), _room(ctypes.create_string_buffer, sizes.page_length)
     with _lent(data) as (start, length):
         _check(_LIBRARY.precopy_decode_frame(sizes._as_c(), start, length, head, room, len(room)))
     return Frame(head.page, head.stamp, head.size, room.raw)
@@ -394,21 +327,18 @@ class FlatMemory:
 
     def __init__(self, sizes: Sizes) -> None:
         self.sizes = sizes
-        #: the bytes of all pages, one page after the other
-        self.memory = bytearray(sizes.pages << sizes.shift)
-        self._pages = (_interface.Page * sizes.pages)()
+        #: the bytes of all pages, one page after the other; those of a page that did not come mean nothing
+        self.memory: bytearray = _room(bytearray, sizes.pages << sizes.shift)
+        self._pages = _room(_interface.Page * sizes.pages)
         self._only_call = threading.Lock()
 
     def accept(self, stream: Bytes) -> Taken:
-        """Takes a stream of frames. `FrameRefused` says in `taken` what came before the bytes that are no frame."""
+        """Takes a stream of frames. `FrameRefused` says in `taken` what came before the bytes that are no frame. If the
+        stream is a part of this memory, that is an `Overlap`."""
         taken, sizes = _interface.Taken(), self.sizes._as_c()
-        with self._only_call, _lent(stream) as (start, length), _lent(self.memory, _calls.WRITABLE) as (room, size):
-            if start < room + size and room < start + length:
-                # A stream that is a part of this memory would change as it is taken.
-                copy = ctypes.create_string_buffer(ctypes.string_at(start, length), length + 1)
-                start = ctypes.addressof(copy)
-            words = (start, length, room, size, self._pages, len(self._pages), taken)
-            status = _LIBRARY.precopy_accept(sizes, *words)
+        with self._only_call, _lent(stream) as read, _lent(self.memory, _calls.WRITABLE) as written:
+            _apart(written, read)
+            status = _LIBRARY.precopy_accept(sizes, *read, *written, self._pages, len(self._pages), taken)
         so_far = Taken(taken.frames, taken.bytes)
         try:
             _check(status)
@@ -420,13 +350,14 @@ class FlatMemory:
     def stamp(self, page: int) -> Optional[int]:
         """Returns the stamp of a page, or None if it did not come."""
         if _number("page", page, 32) >= len(self._pages):
-            raise FrameRefused(_interface.FRAME_PAGE)
-        state = self._pages[page]
-        return state.stamp if state.came else None
+            raise FrameRefused(Status.FRAME_PAGE)
+        with self._only_call:
+            state = self._pages[page]
+            return state.stamp if state.came else None
 
     def missing(self) -> Optional[int]:
         """Returns the first page that did not come, or None if all did."""
         page = ctypes.c_size_t()
         with self._only_call:
             status = _LIBRARY.precopy_missing(self._pages, len(self._pages), page)
-        return page.value if status == _interface.PAGE_MISSING else None
+        return page.value if status == Status.PAGE_MISSING else None

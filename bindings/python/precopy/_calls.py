@@ -8,13 +8,13 @@ import operator
 import os
 from typing import Any, Iterator, Tuple
 
-from ._interface import CALLS, FRAME_SHORT, FRAME_ZEROS, NO_VERSION, PAGE_BEHIND, PAGE_MISSING
+from ._interface import CALLS, Status
 
 ABI_NUMBER = 3
 ABI = f"libprecopy.so.{ABI_NUMBER}"
 # The statuses of what is wrong in streams.
-NO_FRAME = range(FRAME_SHORT, FRAME_ZEROS + 1)
-WRONG = (*NO_FRAME, PAGE_MISSING, *range(NO_VERSION, PAGE_BEHIND + 1))
+NO_FRAME = range(Status.FRAME_SHORT, Status.FRAME_ZEROS + 1)
+WRONG = (*NO_FRAME, Status.PAGE_MISSING, *range(Status.NO_VERSION, Status.PAGE_BEHIND + 1))
 MOST_ROUNDS = 64
 # No trace has a record of this number.
 NO_RECORD = 0xFFFFFFFF
@@ -84,7 +84,10 @@ def lent(data: Any, flags: int = 0) -> Iterator[Tuple[int, int]]:
     """Gives the address and the length of the bytes of an object, which neither moves nor shrinks meanwhile. What is
     not bytes in one piece is a `TypeError` or a `BufferError`."""
     view = _View()
-    _lend(data, view, flags)
+    try:
+        _lend(data, view, flags)
+    except ValueError as fault:  # so numpy says that an array is not in one piece, or cannot be written
+        raise BufferError(str(fault)) from fault
     try:
         yield view.start or ctypes.addressof(_NO_BYTES), view.length
     finally:

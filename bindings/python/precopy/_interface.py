@@ -1,60 +1,72 @@
 """The structs, statuses and functions of include/precopy.h, for ctypes. Made by dev/interface."""
 
 from ctypes import POINTER, Structure, c_size_t, c_uint32, c_uint64, c_void_p
+from enum import IntEnum
 
-SHORT_HEADER = 1
-BAD_MAGIC = 2
-BAD_VERSION = 3
-BAD_SHIFT = 4
-BAD_RESERVED = 5
-BAD_PAGES = 6
-TOO_MANY_WRITES = 7
-SHORT_RECORD = 8
-TICK_ORDER = 9
-TICK_TOO_LARGE = 10
-PAGE_OUT_OF_RANGE = 11
-EMPTY_WRITE = 12
-OUT_OF_PAGE = 13
-TRAILING_BYTES = 14
-TOO_LONG = 15
-NO_MEMORY = 16
-BAD_MIN = 21
-BAD_MAX = 22
-BAD_INCREMENT = 23
-BAD_THRESHOLD = 24
-BAD_ROUNDS = 25
-BAD_WINDOW = 26
-BAD_HOT = 27
-BAD_START = 28
-BAD_BASE = 30
-BAD_SIZE = 31
-FRAME_SHORT = 41
-FRAME_PAGE = 42
-FRAME_STAMP = 43
-FRAME_KIND = 44
-FRAME_ZEROS = 45
-SHORT_BUFFER = 61
-PAGE_LENGTH = 62
-MEMORY_LENGTH = 63
-PAGE_COUNT = 64
-PAGE_MISSING = 65
-STREAM_SIZES = 66
-NO_PAGE = 67
-BACKWARDS = 68
-NO_VERSION = 71
-AFTER_STOP = 72
-OLDER = 73
-OTHER_BYTES = 74
-PAGE_BEHIND = 75
-BAD_TICK = 81
-BAD_PAGE = 82
-BAD_SAMPLE = 83
-BAD_LINK = 84
-BAD_FIRST = 85
-BAD_RESERVE = 86
-BAD_DOWNTIME = 87
-OTHER_PAGES = 88
-MORE_PAGES = 89
+
+class Status(IntEnum):
+    """A status of the library: why a call refuses, or what is wrong in streams."""
+
+    SHORT_HEADER = 1
+    BAD_MAGIC = 2
+    BAD_VERSION = 3
+    BAD_SHIFT = 4
+    BAD_RESERVED = 5
+    BAD_PAGES = 6
+    TOO_MANY_WRITES = 7
+    SHORT_RECORD = 8
+    TICK_ORDER = 9
+    TICK_TOO_LARGE = 10
+    PAGE_OUT_OF_RANGE = 11
+    EMPTY_WRITE = 12
+    OUT_OF_PAGE = 13
+    TRAILING_BYTES = 14
+    TOO_LONG = 15
+    NO_MEMORY = 16
+    BAD_MIN = 21
+    BAD_MAX = 22
+    BAD_INCREMENT = 23
+    BAD_THRESHOLD = 24
+    BAD_ROUNDS = 25
+    BAD_WINDOW = 26
+    BAD_HOT = 27
+    BAD_START = 28
+    BAD_BASE = 30
+    BAD_SIZE = 31
+    FRAME_SHORT = 41
+    FRAME_PAGE = 42
+    FRAME_STAMP = 43
+    FRAME_KIND = 44
+    FRAME_ZEROS = 45
+    SHORT_BUFFER = 61
+    PAGE_LENGTH = 62
+    MEMORY_LENGTH = 63
+    PAGE_COUNT = 64
+    PAGE_MISSING = 65
+    STREAM_SIZES = 66
+    NO_PAGE = 67
+    BACKWARDS = 68
+    NO_VERSION = 71
+    AFTER_STOP = 72
+    OLDER = 73
+    OTHER_BYTES = 74
+    PAGE_BEHIND = 75
+    BAD_TICK = 81
+    BAD_PAGE = 82
+    BAD_SAMPLE = 83
+    BAD_LINK = 84
+    BAD_FIRST = 85
+    BAD_RESERVE = 86
+    BAD_DOWNTIME = 87
+    OTHER_PAGES = 88
+    MORE_PAGES = 89
+
+    @classmethod
+    def _missing_(cls, value):
+        """A status of a later library, which this module does not know."""
+        made = int.__new__(cls, value)
+        made._name_, made._value_ = f"UNKNOWN_{value}", value
+        return made
 
 
 def _of(kind, *names):
@@ -140,6 +152,8 @@ class Progress(Structure):
 
 # The arguments of each function.
 CALLS = {
+    "refusal_text": [c_uint32, c_uint32, c_void_p, c_size_t, POINTER(c_size_t)],
+    "finding_text": [c_uint32, POINTER(Finding), c_void_p, c_size_t, POINTER(c_size_t)],
     "abi": [],
     "check_trace": [c_void_p, c_size_t, POINTER(Sizes), POINTER(c_uint32)],
     "writes_before": [c_void_p, c_size_t, c_uint64, POINTER(c_uint32), POINTER(c_uint32)],
@@ -163,6 +177,24 @@ CALLS = {
     "memory_before": [c_void_p, c_size_t, c_uint64, c_void_p, c_size_t, POINTER(c_size_t), POINTER(c_uint32)],
     "memory_step": [c_void_p, c_size_t, c_uint32, c_uint32, c_void_p, c_size_t, POINTER(c_uint32)],
     "version_after": [c_void_p, c_size_t, c_uint32, c_uint32, POINTER(c_uint32), POINTER(c_uint32)],
+    "versions_after": [
+        c_void_p,
+        c_size_t,
+        c_uint32,
+        POINTER(c_uint32),
+        c_size_t,
+        POINTER(c_size_t),
+        POINTER(c_uint32),
+    ],
+    "versions_before": [
+        c_void_p,
+        c_size_t,
+        c_uint64,
+        POINTER(c_uint32),
+        c_size_t,
+        POINTER(c_size_t),
+        POINTER(c_uint32),
+    ],
     "page_at": [c_void_p, c_size_t, c_uint32, c_uint32, c_void_p, c_size_t, POINTER(c_uint32)],
     "page_writes": [c_void_p, c_size_t, c_uint32, POINTER(Write), c_size_t, POINTER(c_size_t), POINTER(c_uint32)],
     "encode_frame": [POINTER(Sizes), c_uint32, c_uint32, c_void_p, c_size_t, c_void_p, c_size_t, POINTER(c_size_t)],

@@ -3,25 +3,37 @@
 from __future__ import annotations
 
 import ctypes
-import mmap
-from typing import TYPE_CHECKING, Any, Optional, Tuple, Union
+from typing import TYPE_CHECKING, Any, Callable, Optional, Tuple, TypeVar
 
 from . import _calls
 from ._calls import LIBRARY as _LIBRARY
 from ._calls import lent as _lent
+from ._interface import Status
 
 if TYPE_CHECKING:
-    from . import Taken
+    # Type checkers know this module, which need not be installed.
+    from typing_extensions import Buffer as Bytes
 
-Bytes = Union[bytes, bytearray, memoryview, mmap.mmap]
+    from . import Taken
+else:
+    Bytes = Any
+
+Made = TypeVar("Made")
+
+
+def sentence(call: Any, *words: Any) -> str:
+    """The sentence that a call writes into a buffer, which is long enough for each."""
+    text, needed = ctypes.create_string_buffer(320), ctypes.c_size_t()
+    call(*words, text, len(text), needed)
+    return text.raw[: needed.value].decode("ascii")
 
 
 class Refused(Exception):
-    """A call refused. `status` is the number of enum precopy_status, and the text says what it means."""
+    """A call refused. `status` says why, and the text says what it means."""
 
     def __init__(self, status: int, text: str = "") -> None:
         super().__init__(text or _LIBRARY.precopy_strerror(status).decode())
-        self.status = status
+        self.status = Status(status)
 
     def __reduce__(self) -> Tuple[Any, ...]:
         return type(self), (self.status,), self.__dict__
@@ -31,8 +43,7 @@ class TraceRefused(Refused):
     """The bytes are not a trace, or no guest has these sizes. `record` is the record that is named, if one is."""
 
     def __init__(self, status: int, record: Optional[int] = None) -> None:
-        text = _LIBRARY.precopy_strerror(status).decode()
-        super().__init__(status, text if record is None else f"{text}, record {record}")
+        super().__init__(status, "" if record is None else sentence(_LIBRARY.precopy_refusal_text, status, record))
         self.record = record
 
     def __reduce__(self) -> Tuple[Any, ...]:
@@ -66,9 +77,27 @@ class NoMemory(Refused, MemoryError):
     """Memory ran out."""
 
 
+class Overlap(ValueError):
+    """What a call would write overlaps what it reads."""
+
+
 _KINDS = [(range(1, 16), TraceRefused), (range(16, 17), NoMemory), (range(21, 32), SettingsRefused)]
 _KINDS += [(range(41, 46), FrameRefused), (range(61, 66), BufferRefused), (range(67, 72), PlaceRefused)]
 _KINDS += [(range(81, 90), QuestionRefused)]
+
+
+def room(make: Callable[..., Made], *words: Any) -> Made:
+    """Makes what takes memory, or raises `NoMemory`."""
+    try:
+        return make(*words)
+    except (MemoryError, OSError) as fault:
+        raise NoMemory(Status.NO_MEMORY) from fault
+
+
+def apart(written: Tuple[int, int], read: Tuple[int, int]) -> None:
+    """Raises `Overlap` if bytes that are lent to be written are lent to be read too."""
+    if max(written[0], read[0]) < min(sum(written), sum(read)):
+        raise Overlap("what the call would write overlaps what it reads")
 
 
 def check(status: int) -> None:

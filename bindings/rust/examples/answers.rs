@@ -85,6 +85,38 @@ fn print_amounts(trace: &[u8], question: &Question) -> Result<(), Refused> {
     Ok(())
 }
 
+/// What is wrong in streams of the frames of the memory at the stop: all of them, without the first, with another stamp
+/// in the first, and without the last byte, in pieces.
+fn print_findings(trace: &[u8], stop: u32, memory: &[u8]) -> Result<(), Refused> {
+    let sizes = precopy::check_trace(trace)?;
+    let (mut stream, mut first) = (Vec::new(), 0);
+    for (page, content) in (0..sizes.pages()).zip(memory.chunks(sizes.page_length())) {
+        let stamp = precopy::version_after(trace, page, stop)?;
+        stream.extend(precopy::encode_frame(&sizes, page, stamp, content)?);
+        first = if page == 0 { stream.len() } else { first };
+    }
+    for wrong in [&stream[..], &stream[first..]] {
+        print_finding(precopy::check_streams(trace, stop, wrong, &[wrong.len()])?);
+    }
+    stream[4] ^= 1;
+    print_finding(precopy::check_streams(trace, stop, &stream, &[stream.len()])?);
+    stream[4] ^= 1;
+    let mut check = precopy::StreamCheck::new(trace, stop)?;
+    for piece in stream[..stream.len() - 1].chunks(50) {
+        check.take(piece)?;
+    }
+    check.end_stream();
+    print_finding(check.finish()?);
+    Ok(())
+}
+
+fn print_finding(found: Option<precopy::Finding>) {
+    match found {
+        Some(finding) => println!("finding {} {finding}", finding.status().number()),
+        None => println!("finding 0"),
+    }
+}
+
 fn print_plan(trace: &[u8], settings: &Settings) -> Result<(), Refused> {
     let sizes = precopy::check_trace(trace)?;
     println!("sizes {} {} {}", sizes.shift(), sizes.pages(), sizes.writes());
@@ -113,7 +145,9 @@ fn print_plan(trace: &[u8], settings: &Settings) -> Result<(), Refused> {
     }
     println!("best {}", sweep.best);
     println!("memory {}", hex(&precopy::memory(trace)?));
-    println!("before {}", hex(&precopy::memory_before(trace, sums.stop)?));
+    let memory = precopy::memory_before(trace, sums.stop)?;
+    println!("before {}", hex(&memory));
+    print_findings(trace, precopy::writes_before(trace, sums.stop)?, &memory)?;
     print_prediction(trace, &question(&sizes, settings))
 }
 
@@ -122,7 +156,7 @@ fn main() -> Result<(), Box<dyn Error>> {
     let (settings, mut trace) = (settings(&words)?, Vec::new());
     std::io::stdin().read_to_end(&mut trace)?;
     if let Err(refused) = print_plan(&trace, &settings) {
-        println!("refused {} {refused}", refused.status());
+        println!("refused {} {refused}", refused.status().number());
     }
     Ok(())
 }

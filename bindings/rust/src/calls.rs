@@ -136,6 +136,14 @@ pub struct Progress {
 extern "C" {
     pub fn precopy_strerror(status: u32) -> *const c_char;
     pub fn precopy_version() -> *const c_char;
+    pub fn precopy_refusal_text(cause: u32, record: u32, text: *mut u8, text_length: usize, needed: *mut usize) -> u32;
+    pub fn precopy_finding_text(
+        status: u32,
+        found: *const Finding,
+        text: *mut u8,
+        text_length: usize,
+        needed: *mut usize,
+    ) -> u32;
     pub fn precopy_abi() -> u32;
     pub fn precopy_check_trace(trace: *const u8, trace_length: usize, sizes: *mut Sizes, record: *mut u32) -> u32;
     pub fn precopy_writes_before(
@@ -228,6 +236,24 @@ extern "C" {
         page: u32,
         count: u32,
         version: *mut u32,
+        record: *mut u32,
+    ) -> u32;
+    pub fn precopy_versions_after(
+        trace: *const u8,
+        trace_length: usize,
+        count: u32,
+        versions: *mut u32,
+        versions_length: usize,
+        needed: *mut usize,
+        record: *mut u32,
+    ) -> u32;
+    pub fn precopy_versions_before(
+        trace: *const u8,
+        trace_length: usize,
+        tick: u64,
+        versions: *mut u32,
+        versions_length: usize,
+        needed: *mut usize,
         record: *mut u32,
     ) -> u32;
     pub fn precopy_page_at(

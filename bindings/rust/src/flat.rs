@@ -1,7 +1,7 @@
 //! Frames of pages, and memory into which they are taken.
 
 use crate::refusals::{checked, checked_buffer, Refused};
-use crate::{calls, room, status, Sizes};
+use crate::{calls, room, Sizes, Status};
 
 /// A page at a stamp, without its bytes.
 #[derive(Clone, Copy, Debug, PartialEq, Eq)]
@@ -103,7 +103,8 @@ pub fn decode_frame(sizes: &Sizes, bytes: &[u8]) -> Result<(Frame, Vec<u8>), Ref
 }
 
 /// Takes a stream of frames into memory, which has the bytes of all pages, one page after the other, and an element of
-/// `pages` for each. Both begin as zeros. Of each page the frame with the greatest stamp stays.
+/// `pages` for each. Both begin as zeros. Of each page the frame with the greatest stamp stays. The bytes of a page
+/// that did not come mean nothing.
 ///
 /// If bytes are no frame, [`Refused::Frame`] says what was taken before them, and the next call may go on from there.
 pub fn accept(sizes: &Sizes, stream: &[u8], memory: &mut [u8], pages: &mut [Page]) -> Result<Taken, Refused> {
@@ -133,7 +134,7 @@ pub fn missing(pages: &[Page]) -> Option<usize> {
     let mut page = 0;
     // SAFETY: the slice is there for its length.
     let status = unsafe { calls::precopy_missing(pages.as_ptr(), pages.len(), &mut page) };
-    (status == status::PAGE_MISSING).then_some(page)
+    (Status::of(status) == Status::PageMissing).then_some(page)
 }
 
 /// The memory of a guest, as frames come to it in any order, in memory of its own. [`accept`] does the same in slices
@@ -165,7 +166,7 @@ impl FlatMemory {
     pub fn accept_front(&mut self, piece: &[u8]) -> Result<Taken, Refused> {
         match self.accept(piece) {
             Err(Refused::Frame {
-                status: status::FRAME_SHORT,
+                status: Status::FrameShort,
                 taken,
             }) => Ok(taken),
             answer => answer,
@@ -182,7 +183,7 @@ impl FlatMemory {
         &self.pages
     }
 
-    /// Returns the bytes of all pages, one page after the other. Those of a page that did not come are zeros.
+    /// Returns the bytes of all pages, one page after the other. Those of a page that did not come mean nothing.
     pub fn bytes(&self) -> &[u8] {
         &self.memory
     }

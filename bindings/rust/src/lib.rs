@@ -7,15 +7,19 @@ mod places;
 mod predictions;
 mod refusals;
 mod room;
-pub mod status;
+mod status;
 mod streams;
 
 pub use flat::{
     accept, decode_frame, decode_frame_into, encode_frame, encode_frame_into, missing, FlatMemory, Frame, Page, Taken,
 };
-pub use places::{memory_step, page_at, page_at_into, page_writes, page_writes_into, version_after, Write};
+pub use places::{
+    memory_step, page_at, page_at_into, page_writes, page_writes_into, version_after, versions_after,
+    versions_after_into, versions_before, versions_before_into, Write,
+};
 pub use predictions::{enough, predict, Amounts, Errors, Prediction, Question, Verdict};
 pub use refusals::Refused;
+pub use status::Status;
 pub use streams::{check_streams, writes_before, Finding, FramePlace, StreamCheck};
 
 use refusals::{checked, checked_buffer, with_record, NO_RECORD};

@@ -46,6 +46,58 @@ pub fn version_after(trace: &[u8], page: u32, count: u32) -> Result<u32, Refused
     with_record(record, checked(status).map(|()| version))
 }
 
+/// Writes the versions of all pages after the first `count` writes of a trace to the front of a slice, and returns how
+/// many they are.
+pub fn versions_after_into(trace: &[u8], count: u32, versions: &mut [u32]) -> Result<usize, Refused> {
+    let mut needed = 0;
+    let mut record = NO_RECORD;
+    // SAFETY: as in `memory_step`.
+    let status = unsafe {
+        calls::precopy_versions_after(
+            trace.as_ptr(),
+            trace.len(),
+            count,
+            versions.as_mut_ptr(),
+            versions.len(),
+            &mut needed,
+            &mut record,
+        )
+    };
+    with_record(record, checked_buffer(status, needed))
+}
+
+/// Returns the versions of all pages after the first `count` writes of a trace.
+pub fn versions_after(trace: &[u8], count: u32) -> Result<Vec<u32>, Refused> {
+    let mut versions = room::filled(check_trace(trace)?.pages as usize, 0)?;
+    versions_after_into(trace, count, &mut versions).map(|_| versions)
+}
+
+/// Writes the versions of all pages after the writes before a tick to the front of a slice, and returns how many they
+/// are.
+pub fn versions_before_into(trace: &[u8], tick: u64, versions: &mut [u32]) -> Result<usize, Refused> {
+    let mut needed = 0;
+    let mut record = NO_RECORD;
+    // SAFETY: as in `memory_step`.
+    let status = unsafe {
+        calls::precopy_versions_before(
+            trace.as_ptr(),
+            trace.len(),
+            tick,
+            versions.as_mut_ptr(),
+            versions.len(),
+            &mut needed,
+            &mut record,
+        )
+    };
+    with_record(record, checked_buffer(status, needed))
+}
+
+/// Returns the versions of all pages after the writes before a tick.
+pub fn versions_before(trace: &[u8], tick: u64) -> Result<Vec<u32>, Refused> {
+    let mut versions = room::filled(check_trace(trace)?.pages as usize, 0)?;
+    versions_before_into(trace, tick, &mut versions).map(|_| versions)
+}
+
 /// Writes the bytes of a page at a stamp to the front of a slice, and returns how many they are: as the write to the
 /// page with this place leaves them, or zeros for 0.
 pub fn page_at_into(trace: &[u8], page: u32, stamp: u32, content: &mut [u8]) -> Result<usize, Refused> {

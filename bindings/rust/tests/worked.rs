@@ -1,21 +1,10 @@
 //! Worked examples of each call, whose values were worked out by hand; those of checks/rows.c.
 
-use precopy::{
-    status, Amounts, Errors, Finding, FramePlace, Question, Reason, Refused, Settings, Sizes, StreamCheck, Sums, Taken,
-    Verdict, Write,
-};
+mod guest;
 
-/// Pages of 16 bytes, 4 pages, 5 writes: of pages 0 and 1 at ticks 0 and 5, of page 1 at tick 1200, of pages 3 and 1 at
-/// tick 2500.
-#[rustfmt::skip]
-const TRACE: [u8; 102] = [
-    0x50, 0x43, 0x57, 0x54, 1, 4, 0, 0, 4, 0, 0, 0, 5, 0, 0, 0,
-    0, 0, 0, 0, 0, 0, 0, 0, 0, 0, 0, 0, 0, 0, 1, 0, 1,
-    5, 0, 0, 0, 0, 0, 0, 0, 1, 0, 0, 0, 15, 0, 1, 0, 2,
-    0xb0, 4, 0, 0, 0, 0, 0, 0, 1, 0, 0, 0, 0, 0, 1, 0, 3,
-    0xc4, 9, 0, 0, 0, 0, 0, 0, 3, 0, 0, 0, 2, 0, 2, 0, 4, 5,
-    0xc4, 9, 0, 0, 0, 0, 0, 0, 1, 0, 0, 0, 0, 0, 1, 0, 0,
-];
+use guest::TRACE;
+use precopy::{Amounts, Errors, Question, Reason, Refused, Settings, Sizes, Status, Sums, Taken, Verdict, Write};
+
 const REPORT: &str = "trace pages 4 size 16 writes 5
 window 0 writes 2 pages 2 again 0 fresh 2
 window 1 writes 1 pages 1 again 1 fresh 0
@@ -91,9 +80,7 @@ fn sweeps() {
     assert_eq!(found.sums[0], sums(1, Reason::Few, 2000, 500, 6));
     assert_eq!(found.sums[1], sums(2, Reason::Fast, 3000, 1000, 8));
     let bad = Settings { max: 1, ..slow() };
-    let refused = Err(Refused::Settings {
-        status: status::BAD_MAX,
-    });
+    let refused = Err(Refused::Settings { status: Status::BadMax });
     assert_eq!(precopy::sweep(&TRACE, &[few, bad]).map(|_| ()), refused);
     assert_eq!((bad.check(), slow().check()), (refused, Ok(())));
     assert_eq!(precopy::sweep(&TRACE, &[]).unwrap().sums, []);
@@ -200,17 +187,17 @@ fn questions() {
         let told = precopy::enough(&TRACE, &question).map(|_| ());
         assert_eq!(told, Err(Refused::Question { status }));
     };
-    refused(status::BAD_TICK, Question { tick: 0, ..half() });
-    refused(status::BAD_LINK, Question { link: 31, ..half() });
-    refused(status::MORE_PAGES, Question { sampled: 3, ..half() });
+    refused(Status::BadTick, Question { tick: 0, ..half() });
+    refused(Status::BadLink, Question { link: 31, ..half() });
+    refused(Status::MorePages, Question { sampled: 3, ..half() });
     let wide = Question {
         page: 32,
         link: 256,
         ..half()
     };
-    refused(status::OTHER_PAGES, wide);
+    refused(Status::OtherPages, wide);
     let long = precopy::predict(&TRACE, &Question { rounds: 65, ..half() });
-    let status = status::BAD_ROUNDS;
+    let status = Status::BadRounds;
     assert_eq!(long, Err(Refused::Settings { status }));
 }
 
@@ -234,6 +221,15 @@ fn memories() {
 fn pages() {
     assert_eq!(precopy::version_after(&TRACE, 1, 4), Ok(3));
     assert_eq!(precopy::version_after(&TRACE, 1, u32::MAX), Ok(5));
+    assert_eq!(precopy::versions_after(&TRACE, 4).as_deref(), Ok(&[1, 3, 0, 4][..]));
+    assert_eq!(precopy::versions_before(&TRACE, 2500).as_deref(), Ok(&[1, 3, 0, 0][..]));
+    let mut versions = [9; 5];
+    let short = precopy::versions_after_into(&TRACE, 4, &mut versions[..3]);
+    assert_eq!((short, versions), (Err(Refused::ShortBuffer { needed: 4 }), [9; 5]));
+    let short = precopy::versions_before_into(&TRACE, 2500, &mut versions[..3]);
+    assert_eq!((short, versions), (Err(Refused::ShortBuffer { needed: 4 }), [9; 5]));
+    assert_eq!(precopy::versions_after_into(&TRACE, u32::MAX, &mut versions), Ok(4));
+    assert_eq!(versions, [1, 5, 0, 4, 9]);
     let mut wanted = [0; 16];
     (wanted[0], wanted[15]) = (3, 2);
     assert_eq!(precopy::page_at(&TRACE, 1, 3).as_deref(), Ok(&wanted[..]));
@@ -252,18 +248,18 @@ fn pages() {
     let short = precopy::page_writes_into(&TRACE, 1, &mut [Write::default(); 2]);
     assert_eq!(short, Err(Refused::ShortBuffer { needed: 3 }));
     let place = |status| Refused::Place { status };
-    assert_eq!(precopy::page_at(&TRACE, 1, 4), Err(place(status::NO_VERSION)));
-    assert_eq!(precopy::page_writes(&TRACE, 4), Err(place(status::NO_PAGE)));
-    assert_eq!(precopy::version_after(&TRACE, 4, 0), Err(place(status::NO_PAGE)));
+    assert_eq!(precopy::page_at(&TRACE, 1, 4), Err(place(Status::NoVersion)));
+    assert_eq!(precopy::page_writes(&TRACE, 4), Err(place(Status::NoPage)));
+    assert_eq!(precopy::version_after(&TRACE, 4, 0), Err(place(Status::NoPage)));
     let mut memory = [0; 64];
     assert_eq!(precopy::memory_step(&TRACE, 0, 3, &mut memory), Ok(()));
     assert_eq!(precopy::memory_before(&TRACE, 2500).as_deref(), Ok(&memory[..]));
     assert_eq!(precopy::memory_step(&TRACE, 3, u32::MAX, &mut memory), Ok(()));
     assert_eq!(precopy::memory(&TRACE).as_deref(), Ok(&memory[..]));
     let back = precopy::memory_step(&TRACE, 3, 2, &mut memory);
-    assert_eq!(back, Err(place(status::BACKWARDS)));
+    assert_eq!(back, Err(place(Status::Backwards)));
     let length = Refused::Length {
-        status: status::MEMORY_LENGTH,
+        status: Status::MemoryLength,
     };
     assert_eq!(precopy::memory_step(&TRACE, 3, 4, &mut memory[..63]), Err(length));
 }
@@ -274,7 +270,7 @@ fn traces() {
     assert_eq!((sizes.shift(), sizes.pages(), sizes.writes()), (4, 4, 5));
     assert_eq!((sizes.page_length(), sizes.memory_length()), (16, 64));
     let cut = Refused::Trace {
-        status: status::SHORT_RECORD,
+        status: Status::ShortRecord,
         record: Some(4),
     };
     for refused in [
@@ -290,14 +286,16 @@ fn traces() {
         precopy::memory_before(&TRACE[..101], 9).map(|_| ()),
         precopy::memory_step(&TRACE[..101], 0, 1, &mut [0; 64]),
         precopy::version_after(&TRACE[..101], 0, 1).map(|_| ()),
+        precopy::versions_after(&TRACE[..101], 1).map(|_| ()),
+        precopy::versions_before(&TRACE[..101], 1).map(|_| ()),
         precopy::page_at(&TRACE[..101], 0, 0).map(|_| ()),
         precopy::page_writes(&TRACE[..101], 0).map(|_| ()),
     ] {
         assert_eq!(refused, Err(cut));
     }
-    assert_eq!(cut.to_string(), "trace E8: it ends within this record, record 4");
+    assert_eq!(cut.to_string(), "trace E8: it ends within this record (record 4)");
     let short = Refused::Trace {
-        status: status::SHORT_HEADER,
+        status: Status::ShortHeader,
         record: None,
     };
     assert_eq!(precopy::plan(&[], &slow()), Err(short));
@@ -313,12 +311,12 @@ fn frames() {
     let last = precopy::encode_frame(&sizes, 1, 3, &zeros).unwrap();
     assert_eq!(last, [1, 0, 0, 0, 3, 0, 0, 0, 0]);
     let taken = Taken::default();
-    for (page_number, stamp, status) in [(2, 5, status::FRAME_PAGE), (1, 6, status::FRAME_STAMP)] {
+    for (page_number, stamp, status) in [(2, 5, Status::FramePage), (1, 6, Status::FrameStamp)] {
         let refused = precopy::encode_frame(&sizes, page_number, stamp, &page);
         assert_eq!(refused, Err(Refused::Frame { status, taken }));
     }
     let length = Refused::Length {
-        status: status::PAGE_LENGTH,
+        status: Status::PageLength,
     };
     assert_eq!(precopy::encode_frame(&sizes, 1, 5, &page[..15]), Err(length));
     let short = precopy::encode_frame_into(&sizes, 1, 5, &page, &mut [0; 24]);
@@ -345,7 +343,7 @@ fn flat_memory() {
     assert_eq!((flat.pages()[0].stamp(), flat.pages()[1].stamp()), (None, Some(5)));
     let taken = Taken { frames: 1, bytes: 25 };
     let cut = Refused::Frame {
-        status: status::FRAME_SHORT,
+        status: Status::FrameShort,
         taken,
     };
     assert_eq!(
@@ -357,14 +355,14 @@ fn flat_memory() {
     assert_eq!(flat.missing(), None);
     let (mut memory, mut pages) = flat.into_parts();
     let length = Refused::Length {
-        status: status::MEMORY_LENGTH,
+        status: Status::MemoryLength,
     };
     assert_eq!(
         precopy::accept(&sizes, &stream, &mut memory[..31], &mut pages),
         Err(length)
     );
     let count = Refused::Length {
-        status: status::PAGE_COUNT,
+        status: Status::PageCount,
     };
     assert_eq!(
         precopy::accept(&sizes, &stream, &mut memory, &mut pages[..1]),
@@ -373,91 +371,7 @@ fn flat_memory() {
     assert_eq!((precopy::missing(&pages), precopy::missing(&[])), (None, None));
 }
 
-/// Frames of pages 0 to 3 and of page 1 again, which begin at bytes 0, 25, 50, 59 and 68. After them comes the older
-/// frame of page 1 once more.
-#[rustfmt::skip]
-const SENT: [u8; 118] = [
-    0, 0, 0, 0, 1, 0, 0, 0, 1, 1, 0, 0, 0, 0, 0, 0, 0, 0, 0, 0, 0, 0, 0, 0, 0,
-    1, 0, 0, 0, 2, 0, 0, 0, 1, 0, 0, 0, 0, 0, 0, 0, 0, 0, 0, 0, 0, 0, 0, 0, 2,
-    2, 0, 0, 0, 0, 0, 0, 0, 0, 3, 0, 0, 0, 0, 0, 0, 0, 0,
-    1, 0, 0, 0, 3, 0, 0, 0, 1, 3, 0, 0, 0, 0, 0, 0, 0, 0, 0, 0, 0, 0, 0, 0, 2,
-    1, 0, 0, 0, 2, 0, 0, 0, 1, 0, 0, 0, 0, 0, 0, 0, 0, 0, 0, 0, 0, 0, 0, 0, 2,
-];
-
 #[test]
 fn interface() {
     assert_eq!(precopy::abi(), precopy::ABI);
-}
-
-#[test]
-fn streams() {
-    let check = |bytes: &[u8], sizes: &[usize]| precopy::check_streams(&TRACE, 3, bytes, sizes);
-    assert_eq!(precopy::writes_before(&TRACE, 2500), Ok(3));
-    assert_eq!(check(&SENT[..93], &[93]), Ok(None));
-    assert_eq!(check(&SENT, &[93, 25]), Ok(None));
-    let older = Finding::Frame {
-        status: status::OLDER,
-        place: FramePlace {
-            stream: 0,
-            frame: 5,
-            offset: 93,
-        },
-        page: 1,
-        stamp: 2,
-        wanted: 3,
-    };
-    assert_eq!(check(&SENT, &[118]), Ok(Some(older)));
-    let behind = Finding::Page {
-        page: 1,
-        stamp: Some(2),
-        wanted: 3,
-        missing: Some((3, 1200)),
-    };
-    assert_eq!(check(&SENT[..68], &[68]), Ok(Some(behind)));
-    let never = Finding::Page {
-        page: 0,
-        stamp: None,
-        wanted: 1,
-        missing: Some((1, 0)),
-    };
-    assert_eq!(check(&SENT[25..93], &[0, 68]), Ok(Some(never)));
-    let sizes = check(&SENT, &[93]).map_err(|refused| refused.status());
-    assert_eq!(sizes, Err(status::STREAM_SIZES));
-    let refused = precopy::check_streams(&TRACE[..101], 3, &[], &[]);
-    assert_eq!(
-        refused,
-        Err(Refused::Trace {
-            status: status::SHORT_RECORD,
-            record: Some(4)
-        })
-    );
-}
-
-#[test]
-fn pieces() {
-    for cut in 0..=93 {
-        let mut check = StreamCheck::new(&TRACE, 3).unwrap();
-        let taken = check.take(&SENT[..cut]).unwrap().unwrap();
-        assert!(taken <= cut);
-        let found = check.take(&SENT[taken..]).unwrap();
-        let place = match found {
-            Err(Finding::Frame { place, .. }) => (place.stream, place.frame, place.offset),
-            other => panic!("{other:?}"),
-        };
-        assert_eq!((place, check.finish()), ((0, 5, 93), Ok(None)));
-    }
-    let mut check = StreamCheck::new(&TRACE, 3).unwrap();
-    assert_eq!(check.take(&SENT[..93]), Ok(Ok(93)));
-    check.end_stream();
-    assert_eq!((check.take(&SENT[93..]), check.finish()), (Ok(Ok(25)), Ok(None)));
-    let none = StreamCheck::new(&TRACE, 3).unwrap().finish();
-    assert!(matches!(
-        none,
-        Ok(Some(Finding::Page {
-            page: 0,
-            stamp: None,
-            ..
-        }))
-    ));
-    assert!(StreamCheck::new(&TRACE[..101], 3).is_err());
 }

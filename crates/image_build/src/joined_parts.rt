@@ -1,5 +1,7 @@
 //! All of a guest's memory, left in its parts.
 
+// `LacksFirst` holds of one value alone: `one_page_lacking`.
+
 ghost use Rattle.std.specs.Prelude.{◌≡◌, ◌<◌, ◌^◌, ◌++◌, IfErr, IfOk, MatchResult, OnOk, Some, length};
 ghost use Rattle.std.specs.List.{All};
 ghost use Rattle.migration_model.specs.Frames.{IsFrame};

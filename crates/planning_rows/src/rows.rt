@@ -6,5 +6,6 @@ mod quantity;
 mod rate;
 mod redrawn;
 mod remedy;
+mod share;
 mod table;
 mod text;

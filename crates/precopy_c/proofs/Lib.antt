@@ -4,6 +4,7 @@ pub mod Replayed
 pub mod Streams
 pub mod Given
 pub mod PageVersions
+pub mod PageVersionsAll
 pub mod PageRows
 pub mod MemorySteps
 pub mod PieceStates

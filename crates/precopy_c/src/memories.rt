@@ -122,7 +122,7 @@ pub extern "C" fn precopy_memory_before(
 }
 
 /// Returns how many writes have a tick below this one.
-fn count_before(trace: &TraceView<'_>, tick: u64) -> u32
+pub(crate) fn count_before(trace: &TraceView<'_>, tick: u64) -> u32
     ensures count { result ≡ writes_before trace.now tick }
     ensures memory { image_after trace.now result ≡ image_before trace.now tick }
 {

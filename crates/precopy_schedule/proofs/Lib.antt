@@ -4,3 +4,4 @@ pub mod Orders
 pub mod TableLemmas
 pub mod EndLemmas
 pub mod WordLemmas
+pub mod OneSchedule

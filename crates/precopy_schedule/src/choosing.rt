@@ -1,8 +1,9 @@
 //! The choice of the best schedule.
 
-ghost use Rattle.std.specs.Prelude.{◌≡◌, ◌≤◌, [], IfNone, IfSome, length};
-ghost use Rattle.std.specs.List.{IsFirstBest};
-ghost use Rattle.precopy_schedule.specs.Choices.{is_better_schedule, misses, schedule_cmp};
+// `IsBestSchedule` holds of one value alone: `one_best_schedule`.
+
+ghost use Rattle.std.specs.Prelude.{◌≡◌, ◌≢◌, ◌≤◌, [], IfNone, IfSome, length};
+ghost use Rattle.precopy_schedule.specs.Choices.{IsBestSchedule, is_better_schedule, misses, schedule_cmp};
 
 use crate::costs::ScheduleCost;
 use std::cmp::Ordering;
@@ -33,7 +34,7 @@ fn is_better(cost: &ScheduleCost, other: &ScheduleCost) -> bool
 /// Returns the place of the first schedule that no other is better than.
 fn best_place(costs: &[ScheduleCost]) -> usize
     requires { 1 ≤ length costs.now }
-    ensures { IsFirstBest is_better_schedule costs.now (length costs.now) result }
+    ensures { IsBestSchedule costs.now result }
 {
     let mut best = 0;
     for number in 1..costs.len() {
@@ -48,7 +49,8 @@ fn best_place(costs: &[ScheduleCost]) -> usize
 /// less time, and then one that sends less.
 pub fn best_schedule(costs: &[ScheduleCost]) -> Option<usize>
     ensures none { IfNone result (costs.now ≡ []) }
-    ensures best { IfSome result (IsFirstBest is_better_schedule costs.now (length costs.now)) }
+    ensures some { IfSome result (λ _. costs.now ≢ []) }
+    ensures best { IfSome result (IsBestSchedule costs.now) }
 {
     if costs.is_empty() {
         return None;

@@ -7,6 +7,7 @@ mod command;
 mod costs;
 mod error;
 mod faults;
+mod laws;
 mod moves;
 mod plans;
 #[cfg(test)]

@@ -1,5 +1,7 @@
 //! Which moves run when.
 
+// `IsSchedule` holds of one value alone: `one_schedule`.
+
 ghost use Rattle.std.specs.Prelude.{◌≡◌, ◌≤◌, ◌<◌, ◌+◌, ◌*◌, ◌^◌, ℕ, All, AllPairs, IfOk, length, slice_index};
 ghost use Rattle.precopy_schedule.specs.Schedules.{AreInTurn, EndsInTime, IsNext, IsSchedule, TakeTurns, group_free};
 ghost use Rattle.precopy_schedule.specs.Schedules.{group_start, is_in_group, slot_free};

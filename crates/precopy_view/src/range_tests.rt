@@ -1,5 +1,6 @@
 //! Worked examples of the ranges over starts. The numbers come from the plans of `redrawn.py` in
-//! `python/precopy_dev/models`, and what is enough from `remedies.py` there. Neither shares code with the crates.
+//! `python/precopy_dev/models`, those like QEMU's from `looks.py` there, shares of the link from `shares.py`, and what
+//! is enough from `remedies.py`. None of them shares code with the crates.
 
 use crate::tests::writes;
 use std::test::Fail;
@@ -12,8 +13,10 @@ sent: 64 bytes
 downtime: 10 ms, limit: 200 ms, kept
 standard errors: sent 64 bytes, time 52 ms, downtime 0 s
 warning: fewer than 100 pages decided the stop; chance moves it
+like QEMU: looks 1, time 73 ms, sent 64 bytes, downtime 10 ms, kept
 starts: 21, known: 20, converging: 20, limit kept: 20
 over known starts: sent 0 bytes to 64 bytes, time 10 ms to 73 ms, downtime 10 ms to 10 ms
+share of the link: converges at 50 to 100 per cent
 enough: what is asked; also one of these, changed alone
 enough: --link 1Kbit
 enough: --downtime 10009us
@@ -36,6 +39,7 @@ fn starts_of_a_warm_start_come_after_its_copy(rt: HostRuntime) -> Result<(), Fai
 static NONE_KNOWN: &str =
     "converges: unknown, the trace ends before the migration does; record longer
 total time: more than 2.500 s
+like QEMU: the trace ends first, looks 0, left 256 bytes
 enough: unknown, since the trace ends before the migration does
 enough: --link 2Kbit
 enough: the guest slowed to 65 per cent of its speed
@@ -63,8 +67,10 @@ downtime: 275 ms, limit: 200 ms, not kept
 standard errors: sent 64 bytes, time 54 ms, downtime 54 ms
 warning: fewer than 100 pages decided the stop; chance moves it
 warning: the plan ends with `rounds`, so nothing bounds the downtime; allow more rounds
+like QEMU: looks 2, time 525 ms, sent 384 bytes, downtime 150 ms, kept
 starts: 21, known: 19, converging: 16, limit kept: 16
 over known starts: sent 256 bytes to 384 bytes, time 400 ms to 525 ms, downtime 150 ms to 275 ms
+share of the link: does not converge at 50 to 100 per cent
 enough: one of these, changed alone
 enough: --link 21Kbit
 enough: --downtime 275000us

@@ -233,16 +233,18 @@ fn unknown_words_are_told(rt: HostRuntime) -> Result<(), Fail> {
 
 /// A prediction for a guest of which one page in four was recorded, over a link of 64 pages of the guest in 1,000
 /// ticks: 16 of the trace. The first round sends 4 pages in 250 ticks. The 2 that are left take 125 ticks. The standard
-/// errors come from `redrawn.py` in `python/precopy_dev/models`, and what is enough from `remedies.py` there. Neither
-/// shares code with the crates.
+/// errors come from `redrawn.py` in `python/precopy_dev/models`, what comes of it like QEMU from `looks.py` there, and
+/// what is enough from `remedies.py`. None shares code with the crates.
 static PREDICTION: &str = "converges: yes, rounds: 1
 total time: 385 ms
 sent: 384 bytes
 downtime: 135 ms, limit: 200 ms, kept
 standard errors: sent 64 bytes, time 54 ms, downtime 60 ms
 warning: fewer than 100 pages decided the stop; chance moves it
+like QEMU: looks 2, time 398 ms, sent 320 bytes, downtime 198 ms, kept
 starts: 21, known: 19, converging: 19, limit kept: 19
 over known starts: sent 256 bytes to 384 bytes, time 260 ms to 385 ms, downtime 10 ms to 135 ms
+share of the link: converges at 50 to 100 per cent
 enough: what is asked; also one of these, changed alone
 enough: --link 2Kbit
 enough: --downtime 10009us
@@ -263,6 +265,7 @@ fn predicts_a_migration(rt: HostRuntime) -> Result<(), Fail> {
 /// From tick 2400 on the trace has 100 ticks, and the first round takes 250.
 static UNKNOWN: &str = "converges: unknown, the trace ends before the migration does; record longer
 total time: more than 100 ms
+like QEMU: looks 1, time 298 ms, sent 256 bytes, downtime 198 ms, kept
 starts: 21, known: 19, converging: 19, limit kept: 19
 over known starts: sent 256 bytes to 384 bytes, time 260 ms to 385 ms, downtime 10 ms to 135 ms
 enough: unknown, since the trace ends before the migration does

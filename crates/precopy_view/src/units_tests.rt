@@ -122,9 +122,11 @@ static PREDICTED: &str =
 \"migration\":{\"why\":\"few\",\"rounds\":1,\"time_seconds\":0.385000,\"sent_bytes\":384,\
 \"down_seconds\":0.135000,\"left_pages\":2,\"errors\":{\"sent_bytes\":64,\
 \"time_seconds\":0.054082,\"down_seconds\":0.060686}},\
+\"like_qemu\":{\"looks\":2,\"time_seconds\":0.398000,\"sent_bytes\":320,\"down_seconds\":0.198000,\"kept\":true},\
 \"starts\":{\"count\":21,\"known\":19,\"converging\":19,\"kept\":19,\
 \"least\":{\"time_seconds\":0.260000,\"sent_bytes\":256,\"down_seconds\":0.010000},\
 \"greatest\":{\"time_seconds\":0.385000,\"sent_bytes\":384,\"down_seconds\":0.135000}},\
+\"link_shares\":{\"converges\":\"yes\",\"percent\":50},\
 \"enough\":{\"answer\":\"asked\",\"link_bytes\":250,\"down_seconds\":0.010009},\
 \"hosts\":{\"bandwidth_bytes\":1024,\"down_milliseconds\":190}}\n";
 
@@ -134,6 +136,7 @@ static UNKNOWN: &str =
 \"guest_pages\":16},\"limits\":{\"link_bytes\":1024,\"down_seconds\":0.200000,\"reserve_seconds\":0.010000},\
 \"settings\":{\"min\":16,\"max\":16,\"inc\":0,\"threshold\":4,\"limit\":30,\"skip\":false,\"start\":2400},\
 \"converges\":\"unknown\",\"kept\":\"unknown\",\"recorded_seconds\":0.100000,\
+\"like_qemu\":{\"looks\":1,\"time_seconds\":0.298000,\"sent_bytes\":256,\"down_seconds\":0.198000,\"kept\":true},\
 \"starts\":{\"count\":21,\"known\":19,\"converging\":19,\"kept\":19,\
 \"least\":{\"time_seconds\":0.260000,\"sent_bytes\":256,\"down_seconds\":0.010000},\
 \"greatest\":{\"time_seconds\":0.385000,\"sent_bytes\":384,\"down_seconds\":0.135000}},\

@@ -1,7 +1,6 @@
 -- The standard errors of a plan are determined.
 use Rattle.std.proofs.Common.{◌≡◌, ◌∙◌, ◌-◌, ◌*◌, ℕ, List, [], ◌∷◌, Option, Some, None, map, refl, sym, ap, subst}
 use Rattle.std.proofs.Common.{arith}
-use Rattle.std.specs.List.{AllZip}
 use Rattle.migration_model.specs.Rates.{MigrationSettings}
 use Rattle.migration_model.specs.Sweeps.{PlanOutcome}
 use Rattle.migration_model.specs.Touches.{GuestTouch}

@@ -7,3 +7,5 @@ pub mod Units
 pub mod Redrawn
 pub mod Remedies
 pub mod Starts
+pub mod Looks
+pub mod Shares

@@ -1,4 +1,4 @@
-//! Laws of the definitions that errors and starts are proved to meet.
+//! Laws of the definitions that errors, starts and refusals are proved to meet.
 //!
 //! A law is a function with an empty body: its contract is the law, and a call brings it into the caller's proof.
 
@@ -6,11 +6,21 @@ ghost use Rattle.std.specs.Prelude.{ℕ, ◌≡◌, List, Option};
 ghost use Rattle.migration_model.specs.Rates.{MigrationSettings};
 ghost use Rattle.migration_model.specs.Sweeps.{SweepLine};
 ghost use Rattle.migration_model.specs.Touches.{GuestTouch};
+ghost use Rattle.predictions.specs.Questions.{RefusesQuestion};
 ghost use Rattle.predictions.specs.Redrawn.Errors.{AreErrors, SampleErrors};
+ghost use Rattle.predictions.specs.Remedies.Trials.{MigrationTrial};
+ghost use Rattle.predictions.specs.Shares.{IsLinkShare, VerdictAt};
+ghost use Rattle.predictions.specs.Starts.{AreAccepted, RefusesStart};
 ghost use Rattle.predictions.specs.Starts.Choices.{IsBest};
 ghost use Rattle.predictions.specs.Starts.Costs.{CostAtStart};
+ghost use Rattle.predictions.specs.Units.Limits.{RefusesLimits};
 ghost use Rattle.predictions.specs.Units.Scales.{TraceScale};
+ghost use Rattle.predictions.specs.declared.question.Question.{Question};
+ghost use Rattle.predictions.specs.declared.shares.share.LinkShare.{LinkShare};
+ghost use Rattle.predictions.specs.declared.starts.cases.Starts.{Starts};
+ghost use Rattle.predictions.specs.declared.units.error.UnitsError.{UnitsError};
 ghost use Rattle.predictions.specs.declared.units.limits.Limits.{Limits};
+ghost use Rattle.rate_limit.specs.declared.error.SettingsError.{SettingsError};
 
 /// The plan of a sample has one value of its standard errors, or none.
 pub fn one_errors()
@@ -23,4 +33,34 @@ pub fn one_best()
     ensures { (pages : ℕ) (touches : List GuestTouch) (scale : TraceScale) (limits : Limits) (lines : List SweepLine)
         (n : ℕ) (a b : Option CostAtStart) → IsBest pages touches scale limits lines n a
         → IsBest pages touches scale limits lines n b → a ≡ b }
+{}
+
+/// Limits are refused for one thing.
+pub fn one_refused_limit()
+    ensures { (scale : TraceScale) (limits : Limits) (increment : Option ℕ) (others : MigrationSettings)
+        (a b : UnitsError) → RefusesLimits scale limits increment others a
+        → RefusesLimits scale limits increment others b → a ≡ b }
+{}
+
+/// A question is refused for one thing.
+pub fn one_refused_question()
+    ensures { (q : Question) (a b : UnitsError) → RefusesQuestion q a → RefusesQuestion q b → a ≡ b }
+{}
+
+/// Starts are refused for one of them, and its one cause.
+pub fn one_refused_start()
+    ensures { (settings : MigrationSettings) (starts : Starts) (last_tick : ℕ) (a b : SettingsError)
+        → RefusesStart settings starts last_tick a → RefusesStart settings starts last_tick b → a ≡ b }
+{}
+
+/// Starts that are in range are not refused.
+pub fn accepted_starts_are_not_refused()
+    ensures { (settings : MigrationSettings) (starts : Starts) (last_tick : ℕ) (e : SettingsError)
+        → AreAccepted settings starts last_tick → ¬ RefusesStart settings starts last_tick e }
+{}
+
+/// A migration has one least share of its link from which on its verdict is the same.
+pub fn one_link_share()
+    ensures { (pages : ℕ) (touches : List GuestTouch) (trial : MigrationTrial) (a b : LinkShare)
+        → IsLinkShare (VerdictAt pages touches trial) a → IsLinkShare (VerdictAt pages touches trial) b → a ≡ b }
 {}

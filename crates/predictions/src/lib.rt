@@ -6,12 +6,14 @@ mod answer;
 mod cost;
 mod hosts;
 mod laws;
+pub mod looks;
 mod prediction;
 mod prediction_text;
 mod quantities;
 mod question;
 pub mod redrawn;
 pub mod remedies;
+pub mod shares;
 pub mod starts;
 pub mod units;
 mod verdict;
@@ -19,7 +21,10 @@ mod verdict;
 pub use answer::{Answer, ErrorNumbers, number_of_reason};
 pub use cost::Cost;
 pub use hosts::{link_in_mib, millis_for_pages, push_hosts};
-pub use laws::{one_best, one_errors};
+pub use laws::{
+    accepted_starts_are_not_refused, one_best, one_errors, one_link_share, one_refused_limit,
+    one_refused_question, one_refused_start,
+};
 pub use prediction::Prediction;
 pub use prediction_text::push_prediction;
 pub use quantities::{push_bytes, push_error, push_moment, push_time, push_wide};

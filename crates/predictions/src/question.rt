@@ -1,6 +1,6 @@
 //! Questions about a migration, in the numbers that C and a web page have.
 
-// `IsMisfit` holds of one value alone: `one_misfit`.
+// `IsMisfit` holds of one value alone: `one_misfit`. `RefusesQuestion` does: `one_refused_question`.
 
 ghost use Rattle.std.specs.Prelude.{◌≡◌, ℕ, IfErr, IsOk, OnOk};
 ghost use Rattle.predictions.specs.Questions.{Fits, IsMisfit, given};

@@ -4,8 +4,10 @@ pub mod AdviceText
 pub mod Views
 pub mod PredictionJson
 pub mod RangesJson
+pub mod ShareJson
 pub mod Enough
 pub mod EnoughJson
+pub mod LooksJson
 pub mod Outlooks
 pub mod PredictionViews
 pub mod StartsJson

@@ -5,9 +5,11 @@ use Rattle.predictions.specs.Remedies.Trials.{MigrationTrial}
 use Rattle.migration_model.specs.Rounds.{IsPlan, MigrationPlan}
 use Rattle.migration_model.specs.Sweeps.{AreLines, SweepLine}
 use Rattle.migration_model.specs.Touches.{GuestTouches, last_tick_of}
+use Rattle.predictions.specs.Shares.{IsLinkShare, VerdictAt}
 use Rattle.predictions.specs.Starts.Ranges.{AreRanges, RangesOfStarts, spread_starts}
 use Rattle.predictions.specs.Starts.{cases_from}
 use Rattle.predictions.specs.Predictions.{prediction_of}
+use Rattle.predictions.specs.Looks.{IsForecast}
 use Rattle.predictions.specs.Redrawn.Errors.{AreErrors}
 use Rattle.trace_views.specs.declared.outlook.Outlook.{Outlook}
 use Rattle.trace_views.specs.declared.view.AskedPrediction.{AskedPrediction}
@@ -28,13 +30,16 @@ trial_of asked = record {
   others = asked.settings;
 }
 
--- what the plan predicts, how far chance moves that if pages were sampled, the ranges over starts, and what is enough
--- for the limit
+-- what the plan predicts, how far chance moves that if pages were sampled, what comes of it if the hypervisor looks as
+-- QEMU does, the ranges over starts, down to which share of the link the verdict is the same, and what is enough for
+-- the limit
 pub record IsOutlook (log : GuestTouches) (asked : AskedPrediction) (outlook : Outlook) : Type 0 where
   pub plan : MigrationPlan
   pub is_plan : IsPlan log.pages log.touches asked.settings plan
   pub prediction_is : outlook.prediction
       ≡ prediction_of asked.scale asked.limits asked.settings.start plan (last_tick_of log.touches)
   pub are_errors : AreErrors log.pages log.touches asked.settings asked.scale outlook.errors
+  pub is_forecast : IsForecast log.pages log.touches asked.scale asked.limits asked.settings outlook.looks
   pub are_ranges : AreRangesOver log asked outlook.ranges
+  pub is_share : IsLinkShare (VerdictAt log.pages log.touches (trial_of asked)) outlook.share
   pub are_remedies : AreRemedies log.pages log.touches (trial_of asked) outlook.remedies

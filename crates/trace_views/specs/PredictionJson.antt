@@ -10,7 +10,9 @@ use Rattle.predictions.specs.Redrawn.Errors.{SampleErrors}
 use Rattle.trace_views.specs.EnoughJson.{enough_member}
 use Rattle.trace_views.specs.Json.{member_of, number_member, object_of, scale_object, seconds_member, settings_members}
 use Rattle.trace_views.specs.Json.{text_member}
+use Rattle.trace_views.specs.LooksJson.{looks_member}
 use Rattle.trace_views.specs.RangesJson.{ranges_member}
+use Rattle.trace_views.specs.ShareJson.{share_member}
 use Rattle.trace_views.specs.StartsJson.{cost_numbers, errors_member}
 use Rattle.trace_views.specs.declared.outlook.Outlook.{Outlook}
 
@@ -70,12 +72,12 @@ asked_members settings scale limits =
     (codes "settings") (settings_object settings)
     ∷ []
 
--- what is predicted: the answers, the migration if it is known, the ranges over starts if there are any, and what is
--- enough for the limit
+-- what is predicted: the answers, the migration if it is known, the ranges over starts if there are any, the shares of
+-- the link, and what is enough for the limit
 abbrev pub outlook_members : Outlook → List (List Token)
 outlook_members outlook = answer_members outlook.prediction
-    ++ migration_member outlook.prediction outlook.errors ∷ ranges_member outlook.ranges
-    ∷ enough_member outlook.remedies ∷ []
+    ++ migration_member outlook.prediction outlook.errors ∷ looks_member outlook.looks
+    ∷ ranges_member outlook.ranges ∷ share_member outlook.share ∷ enough_member outlook.remedies ∷ []
 
 -- what was asked, what is predicted, and the same limits for others
 abbrev pub prediction_object : MigrationSettings → TraceScale → Limits → Outlook → List Token

@@ -4,8 +4,10 @@ use Rattle.predictions.specs.Units.Scales.{TraceScale}
 use Rattle.predictions.specs.declared.units.limits.Limits.{Limits}
 use Rattle.migration_model.specs.Rates.{MigrationSettings}
 use Rattle.migration_model.specs.Touches.{GuestTouches}
+use Rattle.predictions.specs.Shares.Texts.{share_text}
 use Rattle.predictions.specs.Starts.RangeTexts.{ranges_text}
 use Rattle.predictions.specs.Hosts.{hosts_text}
+use Rattle.predictions.specs.Looks.Texts.{look_text}
 use Rattle.predictions.specs.Predictions.{kept_of}
 use Rattle.predictions.specs.Texts.{prediction_text}
 use Rattle.predictions.specs.declared.verdict.Verdict.{Verdict}
@@ -19,10 +21,12 @@ use Rattle.trace_views.specs.declared.view.AskedPrediction.{AskedPrediction}
 use Rattle.trace_views.specs.declared.view.PredictionForm.{PredictionForm}
 use Rattle.trace_views.specs.declared.view.PredictionForm.TheVariants as forms
 
--- a prediction beside the limit of its downtime, the ranges over starts, and what is enough for the limit
+-- a prediction beside the limit of its downtime, what comes of it if the hypervisor looks as QEMU does, the ranges over
+-- starts, the shares of the link, and what is enough for the limit
 abbrev pub outlook_text : ℕ → Outlook → List ℕ
 outlook_text limit outlook = prediction_text limit outlook.prediction outlook.errors
-    ++ (ranges_text outlook.ranges ++ enough_text outlook.remedies)
+    ++ (look_text outlook.looks
+    ++ (ranges_text outlook.ranges ++ (share_text outlook.share ++ enough_text outlook.remedies)))
 
 -- these, and the words that set the same limits
 abbrev pub predicted_text : MigrationSettings → Limits → Outlook → List ℕ

@@ -1,6 +1,7 @@
 //! What is predicted of a migration over a log of touches.
 
 ghost use Rattle.std.specs.Prelude.{◌≡◌, ◌<◌, ◌^◌, IfErr, IfOk};
+ghost use Rattle.predictions.specs.Looks.{IsForecast};
 ghost use Rattle.trace_views.specs.Outlooks.{AreRangesOver, IsOutlook, trial_of};
 
 use crate::error::ViewError;
@@ -8,8 +9,10 @@ use crate::sweeping::planned;
 use crate::view::AskedPrediction;
 use guest_log::last_tick;
 use predictions::Prediction;
+use predictions::looks::LookForecast;
 use predictions::redrawn::Errors;
 use predictions::remedies::{Remedies, Trial};
+use predictions::shares::LinkShare;
 use predictions::starts::{StartRanges, ranges_over, spread_cases};
 use round_planner::plan;
 use std::alloc::Global;
@@ -23,8 +26,12 @@ pub struct Outlook {
     pub prediction: Prediction,
     /// How far chance moves that, if pages were sampled.
     pub errors: Option<Errors>,
+    /// What comes of it if the hypervisor looks as QEMU does, if it begins within the trace.
+    pub looks: Option<LookForecast>,
     /// What it costs from several starts, if it is known from any.
     pub ranges: Option<StartRanges>,
+    /// Down to which share of its link the verdict is the same.
+    pub share: LinkShare,
     /// What is enough for its limit, and to end within the trace.
     pub remedies: Remedies,
 }
@@ -44,6 +51,21 @@ fn ranges_from<R: Threads + Sync>(
     let workers = asked.settings.asked().workers as usize;
     let lines = planned(rt, alloc, &cases, workers, log)?;
     Ok(ranges_over(alloc, &asked.scale, &asked.limits, &lines, last)?)
+}
+
+/// Returns what comes of a migration over a log if the hypervisor looks as QEMU does.
+fn looks_over(
+    alloc: Global,
+    asked: &AskedPrediction,
+    log: &TouchLog,
+) -> Result<Option<LookForecast>, ViewError>
+    ensures made { IfOk result (IsForecast log.now.pages log.now.touches asked.now.scale asked.now.limits
+        asked.now.settings) }
+    ensures refused { IfErr result (λ e. e ≡ ViewError.Memory) }
+{
+    let (scale, limits) = (&asked.scale, &asked.limits);
+    let made = LookForecast::of_trace(alloc, log, &asked.settings, scale, limits);
+    Ok(made.or(Err(ViewError::Memory))?)
 }
 
 /// Returns the migration that is asked for, as one whose limits are changed.
@@ -73,12 +95,17 @@ pub(crate) fn outlook_over<R: Threads + Sync>(
     let start = asked.settings.asked().start;
     let prediction = Prediction::new(scale, limits, start, &plan, last_tick(log));
     let errors = Errors::of_trace(alloc, log, &asked.settings, scale)?;
+    let looks = looks_over(alloc, asked, log)?;
     let ranges = ranges_from(rt, alloc, asked, log)?;
-    let remedies = Remedies::of_trace(alloc, log, &trial_of(asked))?;
+    let trial = trial_of(asked);
+    let share = LinkShare::of_trace(alloc, log, &trial)?;
+    let remedies = Remedies::of_trace(alloc, log, &trial)?;
     Ok(Outlook {
         prediction,
         errors,
+        looks,
         ranges,
+        share,
         remedies,
     })
 }

@@ -10,6 +10,8 @@ use crate::error::ViewError;
 use crate::outlook::{Outlook, outlook_over};
 use crate::prediction_document::json_prediction;
 use crate::view::{AskedPrediction, PredictionForm, ViewText};
+use predictions::looks::push_forecast;
+use predictions::shares::push_share;
 use predictions::starts::push_ranges;
 use predictions::units::Limits;
 use predictions::{Prediction, Verdict, push_hosts, push_prediction};
@@ -18,13 +20,15 @@ use std::alloc::{AllocError, Global};
 use std::thread::Threads;
 use trace_readers::TouchLog;
 
-/// Appends what the migration will be, beside the limit of its downtime, its ranges over starts, and what is enough for
-/// the limit.
+/// Appends what the migration will be, beside the limit of its downtime, what comes of it if the hypervisor looks as
+/// QEMU does, its ranges over starts, the shares of its link, and what is enough for the limit.
 fn push_outlook(text: &mut Vec<u8>, limit: u64, outlook: &Outlook) -> Result<(), AllocError>
     ensures { OnOk result (text.new.items ≡ text.old.items ++ outlook_text limit outlook.now) }
 {
     push_prediction(text, limit, &outlook.prediction, &outlook.errors)?;
+    push_forecast(text, &outlook.looks)?;
     push_ranges(text, &outlook.ranges)?;
+    push_share(text, &outlook.share)?;
     push_enough(text, &outlook.remedies)?;
     Ok(())
 }

@@ -10,8 +10,10 @@ ghost use Rattle.trace_views.specs.PredictionJson.{settings_object};
 
 use crate::document::Document;
 use crate::enough_document::write_enough;
+use crate::looks_document::write_looks;
 use crate::outlook::Outlook;
 use crate::ranges_document::write_ranges;
+use crate::share_document::write_share;
 use crate::starts_document::{write_cost_numbers, write_errors};
 use crate::sweep_document::{write_scale, write_settings};
 use predictions::redrawn::Errors;
@@ -171,14 +173,17 @@ fn write_asked(
     Ok(())
 }
 
-/// Writes what is predicted: the answers, the migration if the trace does not end before it, the ranges over starts if
-/// there are any, and what is enough for the limit, as members.
+/// Writes what is predicted: the answers, the migration if the trace does not end before it, what comes of it if the
+/// hypervisor looks as QEMU does, the ranges over starts if there are any, the shares of the link, and what is enough
+/// for the limit, as members.
 fn write_outlook(alloc: Global, out: &mut Document, outlook: &Outlook) -> Result<(), AllocError>
     ensures { OnOk result (out.new ≡ out.old ++ flat_map (λ m. m) (outlook_members outlook.now)) }
 {
     write_answers(alloc, out, &outlook.prediction)?;
     write_migration(alloc, out, &outlook.prediction, &outlook.errors)?;
+    write_looks(alloc, out, &outlook.looks)?;
     write_ranges(alloc, out, &outlook.ranges)?;
+    write_share(out, &outlook.share)?;
     write_enough(alloc, out, &outlook.remedies)?;
     Ok(())
 }
@@ -205,7 +210,8 @@ fn write_prediction(
 }
 
 /// Returns a prediction as a JSON document, in one line: what was asked, the answers, the migration if the trace does
-/// not end before it, the ranges over starts, what is enough for the limit, and the same limits for QEMU and libvirt.
+/// not end before it, the ranges over starts, the shares of the link, what is enough for the limit, and the same limits
+/// for QEMU and libvirt.
 pub fn json_prediction(
     alloc: Global,
     settings: &Settings,

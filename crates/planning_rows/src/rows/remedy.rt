@@ -15,7 +15,7 @@ use trace_codec::Trace;
 use worked_guest::ASKED;
 
 /// A row of a buffer, with numbers that no round has.
-const OLD_ROW: RoundRow = RoundRow {
+pub(crate) const OLD_ROW: RoundRow = RoundRow {
     from: 9,
     to: 8,
     rate: 7,
@@ -26,7 +26,7 @@ const OLD_ROW: RoundRow = RoundRow {
 
 /// What is tried: ticks of so many microseconds, of so many pages of a guest 6 in the trace, the link and the first
 /// round, the downtime and the reserve, the increment, and the other settings.
-type Tried = (
+pub(crate) type Tried = (
     u64,
     u64,
     (u64, Option<u64>),
@@ -48,7 +48,7 @@ type Found = (bool, Option<u64>, Option<u64>, Option<u64>, Ends);
 
 /// The settings that limits do not make.
 #[derive(Clone, Copy)]
-enum Others {
+pub(crate) enum Others {
     Worked,
     /// A warm start of 30 rounds, or of three.
     Long,
@@ -108,7 +108,7 @@ impl Others {
 }
 
 /// Returns a trial.
-fn trial(tried: &Tried) -> Result<Trial, Fail> {
+pub(crate) fn trial(tried: &Tried) -> Result<Trial, Fail> {
     let (tick, guest, (link, first), (downtime, reserve), increment, others) = *tried;
     Ok(Trial {
         scale: Scale::new(tick, 16, 6, guest)?,

@@ -49,7 +49,7 @@ impl Model for Trial {
 
 impl Trial {
     /// Returns the settings of the trial, if its limits make any.
-    fn settings(&self) -> Option<Settings>
+    pub(crate) fn settings(&self) -> Option<Settings>
         ensures made { IfSome result (λ settings. settings ≡ settings_of self.now) }
         ensures some { IfSome result (λ settings. MakesSettings self.now) }
         ensures none { result ≡ None → ¬ MakesSettings self.now }

@@ -1,5 +1,7 @@
 //! At which ticks a migration may begin.
 
+// `RefusesStart` holds of one value alone: `one_refused_start`.
+
 ghost use Rattle.std.specs.Prelude.{◌≡◌, ◌≤◌, ◌<◌, ◌+◌, ◌-◌, ◌*◌, ◌/◌, IfErr, IfOk, None, OnOk, Some, max};
 ghost use Rattle.predictions.specs.Starts.{AreAccepted, RefusesStart, RefusesStarts, cases_from, count_of};
 ghost use Rattle.predictions.specs.Starts.{last_start, spacing_of};

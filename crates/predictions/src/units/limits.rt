@@ -1,7 +1,10 @@
 //! What a migration may take, and the settings that keep to it.
 
+// `RefusesLimits` holds of one value alone: `one_refused_limit`.
+
 ghost use Rattle.std.specs.Prelude.{◌≡◌, IfErr, IfOk, None};
 ghost use Rattle.predictions.specs.Units.Limits.{RefusesLimits, limits_refusal, settings_in};
+ghost use Rattle.rate_limit.specs.Refusals.{refusal_of};
 
 use crate::units::error::UnitsError;
 use crate::units::scale::Scale;
@@ -37,6 +40,8 @@ impl Limits {
     ) -> Result<Settings, UnitsError>
         ensures made { IfOk result (λ settings. settings ≡ settings_in scale.now self.now increment others) }
         ensures accepted { IfOk result (λ settings. limits_refusal scale.now self.now ≡ None) }
+        ensures in_range { IfOk result (λ settings. refusal_of (settings_in scale.now self.now increment others)
+            ≡ None) }
         ensures refused { IfErr result (λ e. RefusesLimits scale.now self.now increment others e) }
     {
         let max = scale.rate(self.link);

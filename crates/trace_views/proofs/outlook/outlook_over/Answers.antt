@@ -4,6 +4,7 @@ use Rattle.migration_model.specs.Rounds.{IsPlan}
 use Rattle.predictions.specs.Predictions.{prediction_of}
 use Rattle.predictions.specs.Remedies.{AreRemedies}
 use Rattle.predictions.specs.Remedies.Trials.{MigrationTrial}
+use Rattle.predictions.specs.Shares.{IsLinkShare, VerdictAt}
 use Rattle.trace_views.proofs.outlook.outlook_over.Goals as goal
 
 pub returns-clause-made : goal.returns-clause-made
@@ -21,7 +22,10 @@ returns-clause-made g c =
           ∙ ap (λ (n : ℕ). prediction_of asked.scale asked.limits n plan c.last_tick.result) start
           ∙ ap (λ (n : ℕ). prediction_of asked.scale asked.limits settings.start plan n) c.last_tick.ensures.value;
       are_errors = c.in_ok-errors.ensures;
+      is_forecast = c.in_ok-looks.ensures.made;
       are_ranges = c.in_ok-ranges.ensures.made;
+      is_share = subst (λ (trial : MigrationTrial). IsLinkShare (VerdictAt c.args.log.now.pages c.args.log.now.touches
+          trial) c.in_ok-share.share) c.trial_of-trial.ensures c.in_ok-share.ensures;
       are_remedies = subst (λ (trial : MigrationTrial). AreRemedies c.args.log.now.pages c.args.log.now.touches trial
-          c.in_ok-remedies.remedies) c.trial_of.ensures c.in_ok-remedies.ensures;
+          c.in_ok-remedies.remedies) c.trial_of-trial.ensures c.in_ok-remedies.ensures;
     }

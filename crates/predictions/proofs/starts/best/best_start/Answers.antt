@@ -1,4 +1,4 @@
-use Rattle.std.proofs.Common.{◌≡◌, ℕ, ◌+◌, Option, subst, sym, arith}
+use Rattle.std.proofs.Common.{◌≡◌, ◌+◌, Option, subst, sym, arith}
 use Rattle.std.specs.Prelude.{slice_index_or}
 use Rattle.std.proofs.lemmas.List.{get_or_read}
 use Rattle.migration_model.specs.Sweeps.{SweepLine}

@@ -1,0 +1,136 @@
+//! What a hypervisor's plan predicts.
+
+// `IsForecast` holds of one value alone: `one_forecast`.
+
+ghost use Rattle.std.specs.Prelude.{◌≡◌, ◌<◌, ◌≤◌, ◌^◌, ℕ, IfNone, IfSome, List, Option};
+ghost use Rattle.migration_model.specs.Rates.{MigrationSettings};
+ghost use Rattle.migration_model.specs.Touches.{GuestTouch};
+ghost use Rattle.predictions.specs.Looks.{IsForecast, LookForecast, look_settings};
+ghost use Rattle.predictions.specs.Units.Scales.{TraceScale};
+ghost use Rattle.predictions.specs.declared.units.limits.Limits.{Limits};
+
+use crate::units::{Limits, Scale};
+use guest_log::{Timeline, last_tick};
+use look_planner::{LookAsked, LookPlan, LookSettings, PlanEnd, look_plan};
+use rate_limit::Settings;
+use round_planner::PlanError;
+use std::alloc::Global;
+use std::marker::Model;
+
+/// How often QEMU asks how many pages are left, in microseconds.
+const WINDOW: u64 = 100_000;
+
+/// What a migration will be: how it ends, and what it costs. Its hypervisor sends with the whole link, asks each 100 ms
+/// how many pages of its list are left, and looks at its dirty bitmap again when these go within the downtime.
+#[derive(Debug, Drop)]
+pub struct LookForecast {
+    /// Why it ends.
+    pub end: PlanEnd,
+    /// How many looks there are.
+    pub looks: u64,
+    /// From its start until the guest runs again, or the trace ends, in microseconds.
+    pub time: u128,
+    /// How many bytes of the guest are sent, in all lists and at the end.
+    pub bytes: u128,
+    /// How many of them are left at the end.
+    pub left: u128,
+    /// How long the guest does not run, in microseconds.
+    pub downtime: u128,
+    /// Whether the downtime is within its limit.
+    pub is_kept: bool,
+}
+
+impl Model for LookForecast {
+    ghost use Rattle.std.specs.Prelude.{◌<◌, ◌^◌};
+    ghost use Rattle.look_planner.specs.Plans.{end_of};
+    ghost use Rattle.predictions.specs.Looks.{LookForecast};
+
+    ghost Value = { LookForecast };
+
+    ghost view = { λ f. record {
+      end = end_of f.end;
+      looks = f.looks;
+      time = f.time;
+      bytes = f.bytes;
+      left = f.left;
+      downtime = f.downtime;
+      is_kept = f.is_kept;
+    } };
+
+    ghost invariant = { λ f. (f.bytes < 2 ^ 110) × (f.left < 2 ^ 110) };
+}
+
+/// Returns the settings of the hypervisor, if the trace does not end before its start.
+fn settings_of(scale: &Scale, settings: &Settings, last: u64) -> Option<LookSettings>
+    requires { last < 2 ^ 40 }
+    ensures none { IfNone result (last < settings.now.start) }
+    ensures some { IfSome result (λ s. settings.now.start ≤ last) }
+    ensures settings { IfSome result (λ s. s ≡ look_settings scale.now settings.now last) }
+{
+    let asked = settings.asked();
+    if asked.start > last {
+        return None;
+    }
+    let looks = LookAsked {
+        start: asked.start,
+        base: asked.base,
+        rate: asked.max,
+        window: scale.ticks(WINDOW),
+        threshold: asked.threshold,
+        looks: None,
+        end: last,
+    };
+    let Ok(settings) = LookSettings::new(looks) else {
+        unreachable!()
+    };
+    Some(settings)
+}
+
+impl LookForecast {
+    ghost use Rattle.std.specs.Prelude.{◌≡◌, IfErr, IfOk};
+    ghost use Rattle.predictions.specs.Looks.{IsForecast, forecast_of};
+
+    /// Returns what a plan that begins at a tick comes to, over a trace of this scale.
+    fn of_plan(scale: &Scale, limits: &Limits, start: u64, plan: &LookPlan) -> LookForecast
+        ensures { result ≡ forecast_of scale.now limits.now start plan.now }
+    {
+        let downtime = scale.micros(plan.down) + limits.reserve as u128;
+        LookForecast {
+            end: plan.end,
+            looks: plan.looks() as u64,
+            time: scale.micros(plan.stop.saturating_sub(start)) + downtime,
+            bytes: scale.bytes(plan.total()),
+            left: scale.bytes(plan.last.len() as u64),
+            downtime,
+            is_kept: downtime <= limits.downtime as u128,
+        }
+    }
+
+    /// Returns what a migration over a timeline will be, or None if it begins after the last tick. The only error is
+    /// that memory runs out.
+    pub fn of_trace<T: Timeline>(
+        alloc: Global,
+        timeline: &T,
+        settings: &Settings,
+        scale: &Scale,
+        limits: &Limits,
+    ) -> Result<Option<LookForecast>, PlanError>
+        ensures made { IfOk result (IsForecast (T.pages timeline.now) (T.touches timeline.now) scale.now limits.now
+            settings.now) }
+        ensures refused { IfErr result (λ e. e ≡ PlanError.Memory) }
+    {
+        let Some(looks) = settings_of(scale, settings, last_tick(timeline)) else {
+            return Ok(None);
+        };
+        let plan = look_plan(alloc, timeline, &looks)?;
+        let start = settings.asked().start;
+        Ok(Some(LookForecast::of_plan(scale, limits, start, &plan)))
+    }
+}
+
+/// A hypervisor's migration has one forecast, or none.
+pub fn one_forecast()
+    ensures { (pages : ℕ) (touches : List GuestTouch) (scale : TraceScale) (limits : Limits) (s : MigrationSettings)
+        (a b : Option LookForecast) → IsForecast pages touches scale limits s a
+        → IsForecast pages touches scale limits s b → a ≡ b }
+{}
