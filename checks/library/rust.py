@@ -54,7 +54,7 @@ def check_statuses(tally):
     tally.add(all("mean nothing" in it for it in told), "header and crate differ about pages that did not come")
     tally.add("#[non_exhaustive]\n#[repr(u32)]\npub enum Status" in source, "statuses are not said to become more")
     declared = set(re.findall(r"\b(precopy_\w+)\(", re.sub(r"/\*.*?\*/", "", read(HEADER, "r"), flags=re.S)))
-    called = set(re.findall(r"\bcalls::(precopy_\w+)\(", "".join(read(f"{CRATE}/src/{it}", "r") for it in SOURCES)))
+    called = set(re.findall(r"\bcalls::(precopy_\w+)", "".join(read(f"{CRATE}/src/{it}", "r") for it in SOURCES)))
     tally.add(declared == called, f"the crate does not have the calls {sorted(declared ^ called)}")
 
 

@@ -43,16 +43,14 @@ else:
 """
 
 
-class Writing:
-    """Writes to all pages of a guest again and again, in the block."""
+class Beside:
+    """Something that goes on in a thread of its own, in the block."""
 
-    def __init__(self, guest, pause=0.06):
-        self.guest, self.pause, self.is_over = guest, pause, threading.Event()
-        self.thread = threading.Thread(target=self._go_on)
+    def __init__(self):
+        self.is_over, self.thread = threading.Event(), threading.Thread(target=self.go_on)
 
-    def _go_on(self):
-        while not self.is_over.wait(self.pause):
-            self.guest.ask("write")
+    def go_on(self):
+        raise NotImplementedError
 
     def __enter__(self):
         self.thread.start()
@@ -63,14 +61,26 @@ class Writing:
         self.thread.join()
 
 
-class Reading:
-    """Reads the text again and again, in the block: it is always whole, and what only grows never becomes less."""
+class Writing(Beside):
+    """Writes to all pages of a guest again and again."""
+
+    def __init__(self, guest, pause=0.06):
+        super().__init__()
+        self.guest, self.pause = guest, pause
+
+    def go_on(self):
+        while not self.is_over.wait(self.pause):
+            self.guest.ask("write")
+
+
+class Reading(Beside):
+    """Reads the text again and again: it is always whole, and what only grows never becomes less."""
 
     def __init__(self, run):
-        self.run, self.is_over, self.count, self.fault = run, threading.Event(), 0, None
-        self.thread = threading.Thread(target=self._go_on)
+        super().__init__()
+        self.run, self.count, self.fault = run, 0, None
 
-    def _go_on(self):
+    def go_on(self):
         before = {}
         try:
             while not self.is_over.wait(0.01):
@@ -81,13 +91,8 @@ class Reading:
         except Exception as fault:
             self.fault = fault
 
-    def __enter__(self):
-        self.thread.start()
-        return self
-
     def __exit__(self, *_):
-        self.is_over.set()
-        self.thread.join()
+        super().__exit__()
         expect(self.fault is None, self.fault)
         expect_in_time(self.count > 10, f"the text was read {self.count} times")
 

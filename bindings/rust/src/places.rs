@@ -46,19 +46,22 @@ pub fn version_after(trace: &[u8], page: u32, count: u32) -> Result<u32, Refused
     with_record(record, checked(status).map(|()| version))
 }
 
-/// Writes the versions of all pages after the first `count` writes of a trace to the front of a slice, and returns how
-/// many they are.
-pub fn versions_after_into(trace: &[u8], count: u32, versions: &mut [u32]) -> Result<usize, Refused> {
+/// The form of the calls that write the versions of all pages: a trace, a number of writes or a tick, an array, and
+/// what they tell.
+type VersionsCall<P> = unsafe extern "C" fn(*const u8, usize, P, *mut u32, usize, *mut usize, *mut u32) -> u32;
+
+fn versions_into<P>(call: VersionsCall<P>, trace: &[u8], place: P, versions: &mut [u32]) -> Result<usize, Refused> {
     let mut needed = 0;
     let mut record = NO_RECORD;
+    let (room, length) = (versions.as_mut_ptr(), versions.len());
     // SAFETY: as in `memory_step`.
     let status = unsafe {
-        calls::precopy_versions_after(
+        call(
             trace.as_ptr(),
             trace.len(),
-            count,
-            versions.as_mut_ptr(),
-            versions.len(),
+            place,
+            room,
+            length,
             &mut needed,
             &mut record,
         )
@@ -66,36 +69,31 @@ pub fn versions_after_into(trace: &[u8], count: u32, versions: &mut [u32]) -> Re
     with_record(record, checked_buffer(status, needed))
 }
 
+fn versions<P>(call: VersionsCall<P>, trace: &[u8], place: P) -> Result<Vec<u32>, Refused> {
+    let mut versions = room::filled(check_trace(trace)?.pages as usize, 0)?;
+    versions_into(call, trace, place, &mut versions).map(|_| versions)
+}
+
+/// Writes the versions of all pages after the first `count` writes of a trace to the front of a slice, and returns how
+/// many they are.
+pub fn versions_after_into(trace: &[u8], count: u32, versions: &mut [u32]) -> Result<usize, Refused> {
+    versions_into(calls::precopy_versions_after, trace, count, versions)
+}
+
 /// Returns the versions of all pages after the first `count` writes of a trace.
 pub fn versions_after(trace: &[u8], count: u32) -> Result<Vec<u32>, Refused> {
-    let mut versions = room::filled(check_trace(trace)?.pages as usize, 0)?;
-    versions_after_into(trace, count, &mut versions).map(|_| versions)
+    versions(calls::precopy_versions_after, trace, count)
 }
 
 /// Writes the versions of all pages after the writes before a tick to the front of a slice, and returns how many they
 /// are.
 pub fn versions_before_into(trace: &[u8], tick: u64, versions: &mut [u32]) -> Result<usize, Refused> {
-    let mut needed = 0;
-    let mut record = NO_RECORD;
-    // SAFETY: as in `memory_step`.
-    let status = unsafe {
-        calls::precopy_versions_before(
-            trace.as_ptr(),
-            trace.len(),
-            tick,
-            versions.as_mut_ptr(),
-            versions.len(),
-            &mut needed,
-            &mut record,
-        )
-    };
-    with_record(record, checked_buffer(status, needed))
+    versions_into(calls::precopy_versions_before, trace, tick, versions)
 }
 
 /// Returns the versions of all pages after the writes before a tick.
 pub fn versions_before(trace: &[u8], tick: u64) -> Result<Vec<u32>, Refused> {
-    let mut versions = room::filled(check_trace(trace)?.pages as usize, 0)?;
-    versions_before_into(trace, tick, &mut versions).map(|_| versions)
+    versions(calls::precopy_versions_before, trace, tick)
 }
 
 /// Writes the bytes of a page at a stamp to the front of a slice, and returns how many they are: as the write to the
