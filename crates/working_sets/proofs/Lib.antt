@@ -9,3 +9,4 @@ pub mod Whole
 pub mod Open
 pub mod OtherWords
 pub mod Lent
+pub mod Carried

@@ -44,7 +44,7 @@ turned_is : (w tick : ℕ) (at : OpenWindow) (rows : List WindowRow) (marks : Li
     ≡ state_of w (turned_open w tick at) (with_closed rows (row_closed tick at)) marks
 turned_is w tick at rows marks = turned_either (ltb tick at.end) w tick at rows marks
 
-room_turned : (b : Bool) (w tick : ℕ) (at : OpenWindow) → HasRoom at.row → tick / w + 1 < 2 ^ 64
+pub room_turned : (b : Bool) (w tick : ℕ) (at : OpenWindow) → HasRoom at.row → tick / w + 1 < 2 ^ 64
     → HasRoom (cond b at (window_at w tick)).row
 room_turned true w tick at room low = room
 room_turned false w tick at room low = record {

@@ -119,6 +119,11 @@ pub record CanCount (row : WindowRow) (marks : List PageSeen) (page : ℕ) : Typ
   pub room : HasRoom row
   pub mark : (slice_index_or marks page unmarked).windows + 1 < 2 ^ 64
 
+-- marks after a write to a page in the window of a number, if nothing is counted
+abbrev pub passed : List PageSeen → ℕ → ℕ → List PageSeen
+passed marks page number =
+    slice_set marks page (record (slice_index_or marks page unmarked) { last = number + 1 })
+
 -- ---- the end
 
 -- the pages whose marks have at least `hot` windows, in ascending order

@@ -29,7 +29,7 @@ pub(crate) struct OpenWindow {
 }
 
 /// Returns the row of a window without writes.
-fn blank_row(number: u64) -> Window
+pub(crate) fn blank_row(number: u64) -> Window
     ensures { result ≡ blank number }
 {
     Window {
@@ -68,9 +68,9 @@ fn mark_after(mark: PageSeen, number: u64) -> PageSeen
 }
 
 impl OpenWindow {
-    ghost use Rattle.std.specs.Prelude.{◌≡◌, slice_index_or, slice_set};
-    ghost use Rattle.working_sets.specs.Counting.{CanCount, CanOpen, blank, counted, marked, row_closed, turned_open};
-    ghost use Rattle.working_sets.specs.Counting.{unmarked, window_at};
+    ghost use Rattle.std.specs.Prelude.{◌≡◌, ◌+◌, ◌^◌, ◌<◌, length, slice_index_or, slice_set};
+    ghost use Rattle.working_sets.specs.Counting.{CanCount, CanOpen, blank, counted, marked, passed, row_closed};
+    ghost use Rattle.working_sets.specs.Counting.{turned_open, unmarked, window_at};
 
     /// Returns the first window of this many ticks, without writes.
     pub(crate) fn first(window: u64) -> OpenWindow
@@ -106,6 +106,15 @@ impl OpenWindow {
         let closed = self.row;
         *self = OpenWindow::of(window, tick);
         Some(closed)
+    }
+
+    /// Notes that a page is written in this window, and counts nothing.
+    pub(crate) fn pass(&self, marks: &mut [PageSeen], page: u32)
+        requires page { page < length marks.old }
+        requires number { self.now.row.number + 1 < 2 ^ 64 }
+        ensures { marks.new ≡ passed marks.old page self.now.row.number }
+    {
+        marks[page as usize].last = self.row.number + 1;
     }
 
     /// Counts a write to the page.

@@ -4,8 +4,10 @@
 mod counting;
 mod error;
 mod hot;
+mod joining;
 mod laws;
 mod lending;
+mod pieces;
 mod window;
 mod window_tables;
 
