@@ -1,7 +1,7 @@
 //! Worked examples.
 
 use rate_limit::{Asked, Settings, SettingsError};
-use std::alloc::Global;
+use std::alloc::{AllocError, Global};
 use std::test::Fail;
 use std::thread::Threads;
 use trace_codec::decode;
@@ -71,22 +71,53 @@ fn one_long_window(rt: HostRuntime) -> Result<(), Fail> {
 fn are_same_by<R: Threads + Sync>(
     rt: &R,
     alloc: Global,
+    log: &TouchLog,
     settings: &Settings,
     workers: usize,
 ) -> Result<bool, Fail> {
-    let log = TouchLog::parse(alloc, &TRACE)?;
-    let alone = tables(alloc, &log, settings)?;
-    let by_workers = par_tables(rt, alloc, &log, settings, workers)?;
+    let alone = tables(alloc, log, settings)?;
+    let by_workers = par_tables(rt, alloc, log, settings, workers)?;
     Ok(parts(&by_workers) == parts(&alone))
 }
 
 #[test]
 fn any_number_of_workers(rt: HostRuntime) -> Result<(), Fail> {
+    let log = TouchLog::parse(rt.alloc(), &TRACE)?;
     for (window, hot) in [(5000, 1), (1000, 2)] {
         let settings = settings(window, hot)?;
         for workers in [1, 2, 16] {
             assert!(rt;
-                are_same_by(&rt, rt.alloc(), &settings, workers)?,
+                are_same_by(&rt, rt.alloc(), &log, &settings, workers)?,
+                "{workers}"
+            );
+        }
+    }
+    Ok(())
+}
+
+/// Returns a trace of this many writes to 3,000 pages, 17 of them at each tick, so long that workers count pieces of it.
+fn long_trace(alloc: Global, writes: u32) -> Result<Vec<u8>, AllocError> {
+    let mut bytes = Vec::from_slice(alloc, &[0x50, 0x43, 0x57, 0x54, 1, 12, 0, 0, 0xb8, 0x0b, 0, 0])?;
+    bytes.extend_from_slice(&writes.to_le_bytes())?;
+    let mut drawn: u32 = 1;
+    for index in 0..writes {
+        drawn = drawn.wrapping_mul(1_664_525).wrapping_add(1_013_904_223);
+        bytes.extend_from_slice(&u64::from(index / 17).to_le_bytes())?;
+        bytes.extend_from_slice(&(drawn / 65_536 % 3_000).to_le_bytes())?;
+        bytes.extend_from_slice(&[0, 0, 1, 0, 1])?;
+    }
+    Ok(bytes)
+}
+
+#[test]
+fn windows_that_pieces_cut(rt: HostRuntime) -> Result<(), Fail> {
+    let bytes = long_trace(rt.alloc(), 200_000)?;
+    let log = TouchLog::parse(rt.alloc(), &bytes)?;
+    for (window, hot) in [(1, 60), (1000, 11), (20_000, 1)] {
+        let settings = settings(window, hot)?;
+        for workers in [2, 3] {
+            assert!(rt;
+                are_same_by(&rt, rt.alloc(), &log, &settings, workers)?,
                 "{workers}"
             );
         }
