@@ -2,3 +2,4 @@ pub mod Tabled
 pub mod Taken
 pub mod Imaged
 pub mod Fated
+pub mod FirstRefused

@@ -11,6 +11,7 @@ use Rattle.migration_model.specs.Frames.{SpellsStream}
 use Rattle.migration_model.specs.Parts.{GuestPart, with_frame, with_frames}
 use Rattle.migration_model.proofs.Frames.{same_front, one_stream_lem, length-frame_text}
 use Rattle.page_message.proofs.Found.{never_refused}
+use Rattle.page_message.specs.Refusals.{RefusesFrame}
 use Rattle.page_message.specs.declared.error.FrameError.{FrameError}
 use Rattle.page_message.specs.declared.error.FrameError.TheVariants.{Memory}
 use Rattle.collector.specs.Streams.{TakesFrames, RefusesStream}
@@ -74,6 +75,15 @@ Takes-more old mid new bytes rest behind count a b =
           ∙ sym (fold-append with_frame old a.frames b.frames);
     }
 
+-- a frame that is refused, or for which memory ran out
+pub stopped : (old new : GuestPart) (bytes rest : List ℕ) (count : ℕ) (e : FrameError)
+    → TakesFrames old new bytes count rest → 0 < length rest → RefusesFrame old.shape rest e
+    → RefusesStream old new bytes (count, e)
+stopped old new bytes rest count e takes some (inl lacks) =
+    inl (lacks.0, record { rest = rest; takes = takes; accepted = lacks.1 })
+stopped old new bytes rest count e takes some (inr cause) =
+    inr (record { rest = rest; takes = takes; some = some; refused = cause })
+
 -- frames at the front of a stream are its first ones, and the others follow
 front_frames : (shape : GuestShape) (fs gs : List PageFrame) (rest : List ℕ) → IsGuestShape shape
     → All (IsFrame shape) fs → All (IsFrame shape) gs → 0 < length rest
@@ -102,15 +112,12 @@ takes_only old new bytes (Ok count) is taken refused frames spells =
     one_stream_lem old.shape taken.frames frames is taken.are_frames spells.are_frames
     (sym (append-nil (flat_map frame_text taken.frames)) ∙ sym taken.text ∙ spells.text) in
     (sym taken.count_is ∙ ap length same, taken.part ∙ ap (λ (fs : List PageFrame). with_frames old fs) same)
-takes_only old new bytes (Err e) is taken refused frames spells =
-    let takes = refused.1 in
-    let next = front_frames old.shape takes.frames frames refused.0 is takes.are_frames spells.are_frames refused.2
+takes_only old new bytes (Err e) is taken (inl lacks) frames spells = lacks.0
+takes_only old new bytes (Err e) is taken (inr stops) frames spells =
+    let takes = stops.takes in
+    let next = front_frames old.shape takes.frames frames stops.rest is takes.are_frames spells.are_frames stops.some
     (sym takes.text ∙ spells.text) in
-    elim refused.3 [
-      | inl memory ↦ memory
-      | inr cause ↦ absurd (cc (
-        cause,
-        never_refused old.shape refused.0 (flat_map frame_text next.1) next.0 is next.2
-            next.3,
-      ))
-    ]
+    absurd (cc (
+      stops.refused,
+      never_refused old.shape stops.rest (flat_map frame_text next.1) next.0 is next.2 next.3,
+    ))

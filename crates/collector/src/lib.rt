@@ -3,10 +3,12 @@
 
 mod error;
 mod fate;
+mod laws;
 mod of_image;
 mod part;
 mod table;
 
 pub use error::PartError;
 pub use fate::{Fate, one_fate};
+pub use laws::one_refused_frame;
 pub use part::{Part, merge};

@@ -1,6 +1,7 @@
 //! A part of a guest's memory.
 
 // `SpellsStream` holds of one value alone: `one_frame`. `IsFate` does: `one_fate`.
+// `IsFirstRefused` holds of one value alone, and of none if all frames are taken: `one_refused_frame`.
 
 ghost use Rattle.std.specs.Prelude.{◌≡◌, ◌≤◌, List, [], IfErr, IfOk, IfSome, MatchResult, None, OnErr, OnOk, drop};
 ghost use Rattle.std.specs.Prelude.{length, option_map};

@@ -4,3 +4,4 @@ pub mod EveryPlace
 pub mod RealPages
 pub mod Runs
 pub mod Outcomes
+pub mod OneStep

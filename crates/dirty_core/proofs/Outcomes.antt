@@ -9,7 +9,7 @@ use Rattle.dirty_core.proofs.RealPages.{sizes-after}
 use Rattle.dirty_core.specs.Kept.{Kept, kept_sizes, History, core_with, Goes, FindsNeeds, Refuses, Outcome}
 
 -- a history of nothing
-no_history : History
+pub no_history : History
 no_history = record { reads = λ copier. []; stores = λ guest. []; at_opening = no_page; returned = no_page }
 
 pub done : (old : Kept) (event : Event) (r : Result Answer CoreRefusal) (new : Kept) → Outcome old event r new

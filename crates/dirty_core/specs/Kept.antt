@@ -1,6 +1,7 @@
 -- What the code keeps of a core: all but its history, with sets of pages by words. This project's own.
-use Rattle.std.specs.Prelude.{◌≡◌, ℕ, ◌<◌, ◌≤◌, ◌&&◌, ◌==◌, List, length, Option, Some, None, Result, Ok, Err}
+use Rattle.std.specs.Prelude.{◌≡◌, ℕ, ◌^◌, ◌<◌, ◌≤◌, ◌&&◌, ◌==◌, List, length, Option, Some, None, Result, Ok, Err}
 use Rattle.std.specs.Prelude.{slice_index, slice_index_or}
+use Rattle.std.specs.List.{All}
 use Rattle.dirty_core.specs.declared.event.Event.{Event}
 use Rattle.dirty_core.specs.declared.answer.Answer.{Answer}
 use Rattle.dirty_core.specs.declared.refusal.CoreRefusal.{CoreRefusal}
@@ -29,6 +30,12 @@ pub record IsKept (kept : Kept) : Type 0 where
   pub guests : 1 ≤ length kept.pending
   pub copiers : 1 ≤ kept.copiers
   pub pending : (guest page : ℕ) → slice_index_or kept.pending guest None ≡ Some page → page < length kept.places
+
+-- it is kept in words of 64 bits
+pub record HasWords (core : Kept) : Type 0 where
+  pub kept : IsKept core
+  pub dirty : All (λ word. word < 2 ^ 64) core.dirty
+  pub held : All (λ word. word < 2 ^ 64) core.held
 
 abbrev pub kept_sizes : Kept → Sizes
 kept_sizes kept = record { pages = length kept.places; guests = length kept.pending; copiers = kept.copiers }

@@ -4,6 +4,7 @@
 
 mod answer;
 mod event;
+mod laws;
 mod machine;
 mod opening;
 mod refusal;
@@ -11,6 +12,7 @@ mod running;
 
 pub use answer::Answer;
 pub use event::Event;
+pub use laws::{one_step, one_stop};
 pub use machine::{Core, step};
 pub use opening::{MAX_PAGES, MAX_SEATS, Opening};
 pub use refusal::CoreRefusal;

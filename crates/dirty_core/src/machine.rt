@@ -1,5 +1,7 @@
 //! The core, and its six events. No program runs it: it serves users of the library, and tests.
 
+// `Goes` holds of one answer and one core alone: `one_step`. `Refuses` holds of one value alone: `one_step`.
+
 ghost use Rattle.std.specs.Prelude.{◌≡◌, ◌↔◌, ◌<◌, length, replicate, None, IfOk, IfErr, OnErr, IsOk, IsTrue};
 ghost use Rattle.dirty_core.specs.Start.{sizes_of, GuestOwns, CopierOwns, CopierOwnsPage};
 ghost use Rattle.dirty_core.specs.Runs.{opened};

@@ -1,5 +1,7 @@
 //! Whole runs of events. No program runs it: it serves users of the library, and tests.
 
+// `Stops` holds of one value alone, and of none if the run is legal: `one_stop`.
+
 ghost use Rattle.std.specs.Prelude.{◌≡◌, ℕ, List, IfOk, IfErr, OnOk};
 ghost use Rattle.dirty_core.specs.declared.event.Event.{Event as AnyEvent};
 ghost use Rattle.page_bitmap.specs.Pages.{in_words};

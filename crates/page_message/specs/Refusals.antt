@@ -19,6 +19,7 @@ frame_refusal shape bytes =
     else (if list_all (λ byte. byte == 0) (bytes_in shape bytes) then Some ZeroData
     else None))))))
 
--- memory ran out, or that is the cause
+-- that is the cause, or there is none and memory ran out
 abbrev pub RefusesFrame : GuestShape → List ℕ → FrameError → Type 0
-RefusesFrame shape bytes e = (e ≡ Memory) ⊎ (frame_refusal shape bytes ≡ Some e)
+RefusesFrame shape bytes e =
+    ((e ≡ Memory) × (frame_refusal shape bytes ≡ None)) ⊎ (frame_refusal shape bytes ≡ Some e)

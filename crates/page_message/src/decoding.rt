@@ -92,6 +92,7 @@ fn read_view<'a>(shape: &Shape, bytes: &'a [u8]) -> Result<(FrameView<'a>, usize
     ensures found { IfOk result (λ read. SpellsFrame (shape_of shape.now) (take read.1 bytes.now) read.0) }
     ensures within { IfOk result (λ read. read.1 ≤ length bytes.now) }
     ensures refused { IfErr result (λ e. frame_refusal (shape_of shape.now) bytes.now ≡ Some e) }
+    ensures accepted { OnOk result (frame_refusal (shape_of shape.now) bytes.now ≡ None) }
 {
     let size = checked_size(shape, bytes)?;
     let page = u32_in(bytes);
@@ -106,6 +107,7 @@ pub fn view_frame<'a>(shape: &Shape, bytes: &'a [u8]) -> Result<(FrameView<'a>, 
     ensures found { IfOk result (λ read. SpellsFrame (shape_of shape.now) (take read.1 bytes.now) read.0) }
     ensures within { IfOk result (λ read. read.1 ≤ length bytes.now) }
     ensures refused { IfErr result (λ e. frame_refusal (shape_of shape.now) bytes.now ≡ Some e) }
+    ensures accepted { OnOk result (frame_refusal (shape_of shape.now) bytes.now ≡ None) }
     ensures only { (frame : PageFrame) (rest : List ℕ) → IsFrame (shape_of shape.now) frame
         → bytes.now ≡ frame_text frame ++ rest
         → result ≡ Ok (frame, length (frame_text frame)) }

@@ -6,3 +6,4 @@ pub mod Sources
 pub mod Readers
 pub mod Spelling
 pub mod Made
+pub mod OneRecord

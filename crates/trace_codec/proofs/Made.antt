@@ -135,7 +135,7 @@ sizes_pass trace is =
     (passes _ _ _ (is_within 1 65_536 trace.pages is.size.pages_low is.size.pages_high)
     (passes _ _ _ (le-ltb (2 ^ 20) (length trace.writes) is.count) refl))))
 
-record_passes : (version shift pages before i : ℕ) (write : GuestWrite) → IsGuestWrite version shift pages write
+pub record_passes : (version shift pages before i : ℕ) (write : GuestWrite) → IsGuestWrite version shift pages write
     → before ≤ write.tick → record_refusal version shift pages before i write ≡ None
 record_passes version shift pages before i write fits order =
     passes _ _ _ (le-ltb write.tick before order)

@@ -1,6 +1,8 @@
 //! A trace that owns its writes. No program runs it: it serves users of the library, and tests.
 
-ghost use Rattle.std.specs.Prelude.{◌≡◌, length, IfErr, IfOk, IsOk};
+// `RefusesTrace` holds of one value alone: `Trace::new: first`.
+
+ghost use Rattle.std.specs.Prelude.{◌≡◌, Err, IfErr, IfOk, IsOk, length};
 ghost use Rattle.migration_model.specs.Trace.{GuestTrace, IsTrace, trace_with};
 ghost use Rattle.trace_codec.specs.Refusals.{RefusesTrace};
 
@@ -40,6 +42,8 @@ impl Trace {
         ensures valid { IfOk result IsTrace }
         ensures refused { IfErr result (RefusesTrace (trace_with version shift pages writes.items)) }
         ensures accepted { IsTrace (trace_with version shift pages writes.items) → IsOk result }
+        ensures first { (e : TraceError) → RefusesTrace (trace_with version shift pages writes.items) e
+            → result ≡ Err e }
     {
         check_trace(version, shift, pages, &writes)?;
         Ok(Trace {

@@ -274,6 +274,9 @@ def is_look(tree):
 
 
 def is_memory(tree):
+    """Returns whether a case says that memory ran out, and maybe what else is then so."""
+    if tree[0] == "bin" and tree[1] == "×":
+        return is_memory(tree[2]) or is_memory(tree[3])
     return (
         tree[0] == "bin" and tree[1] == "≡" and tree[3][0] == "id" and re.search(r"\bMemory$", tree[3][1]) is not None
     )

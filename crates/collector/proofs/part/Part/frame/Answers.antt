@@ -1,7 +1,6 @@
-use Rattle.std.proofs.Common.{◌≡◌, Option, Some, None, subst, sym, ap, ◌∙◌}
+use Rattle.std.proofs.Common.{◌≡◌, Some, None, subst, sym, ◌∙◌}
 use Rattle.std.proofs.lemmas.Bool.{ltb-true}
 use Rattle.std.proofs.lemmas.List.{get_or_default}
-use Rattle.migration_model.specs.Frames.{PageFrame}
 use Rattle.migration_model.specs.Parts.{GuestPart}
 use Rattle.page_message.specs.Shapes.{shape_of}
 use Rattle.collector.specs.Tables.{frame_at}
