@@ -7,6 +7,7 @@ import sys
 
 from checks.harness.small import small_check
 from checks.lib.harness import Run, cases_of, expect, run
+from checks.lib.tally import LATE
 from precopy_dev.tree import TOP
 
 
@@ -96,10 +97,25 @@ def check(tally, given):
     told = "1 flaky: a_case\n", "FLAKY a_case: it failed: it was late\n    and passed alone, in ", "2 tries\n"
     expect_told(done, 0, "1 passed, 0 failed", *told)
     done = small_check(folder, body.format('expect_in_time(False, "it was late")'))
-    expect_told(done, 1, "0 passed, 1 failed", "  FAILED a_case: it was late\n", "2 tries\n")
+    expect_told(done, 1, "0 passed, 1 failed", f"  FAILED a_case: it was late\n    {LATE}\n", "2 tries\n")
     done = small_check(folder, body.format('expect(len(tries) > 1, "it is wrong")'))
     expect_told(done, 1, "0 passed, 1 failed", "  FAILED a_case: it is wrong\n", "1 tries\n")
-    expect(not re.search(b"flaky|FLAKY", done.output), f"{done}")
+    expect(not re.search(b"flaky|FLAKY|late", done.output), f"{done}")
+
+
+def late_in_part(_, folder):
+    """A case is late if nothing else is wrong with it."""
+    body = """\
+def check(tally, given):
+    with tally.case("a case") as case:
+        case.add({}, "it is wrong")
+        expect_in_time(False, "it was late")
+"""
+    done = small_check(folder, body.format(True))
+    expect_told(done, 1, "0 passed, 1 failed", f"  FAILED a case: it was late\n    {LATE}\n")
+    done = small_check(folder, body.format(False))
+    expect_told(done, 1, "0 passed, 1 failed", "  FAILED a case: it is wrong\n    it was late\n")
+    expect(LATE not in done.output.decode(), f"{done}")
 
 
 # Checks of which little can be tried without some tools: their words, and how much they try and leave out.

@@ -60,6 +60,28 @@ def sweep_facts(text):
     return {"cases": [{**case, "skip": case["skip"] == 1} for case in cases], "best": int(best[1])}
 
 
+# ---- The texts of facts.
+
+
+def words_of(facts):
+    """The line of some names and numbers."""
+    return " ".join(f"{name} {int(it) if isinstance(it, bool) else it}" for name, it in facts.items())
+
+
+def report_text(report):
+    """The text of a report, byte for byte."""
+    hot, ends = report["hot"], dict(report["stop"])
+    lines = [f"trace {words_of(report['trace'])}", *map(words_of, report["windows"])]
+    lines += [f"hot {hot['windows']} pages {len(hot['pages'])}", *(f"page {page}" for page in hot["pages"])]
+    lines += [*map(words_of, report["rounds"]), f"stop {ends.pop('why')} {words_of(ends)}"]
+    return "".join(f"{line}\n" for line in lines)
+
+
+def sweep_text(sweep):
+    """The text of a sweep."""
+    return "".join(f"{line}\n" for line in (*map(words_of, sweep["cases"]), f"best {sweep['best']}"))
+
+
 # ---- Documents.
 
 

@@ -2,6 +2,7 @@
 
 import itertools
 import random
+from collections import Counter
 from collections.abc import Iterator
 from dataclasses import replace
 from fractions import Fraction
@@ -28,6 +29,8 @@ RATES = {
     "GiB": 1 << 30,
 }
 REPORTS, STARTS, SELDOM = 200, 120, 8
+# What came of the questions, by what was asked for, as the model has it.
+SEEN: Counter = Counter()
 # A trace in a file.
 Known = Trace.at
 
@@ -49,6 +52,7 @@ def is_refused(view, command: list[str], asked: Question, words: list[str], trac
     """Whether the question is refused; then the program must say so in the words of the model."""
     refusal = asked.refusal(trace)
     if refusal:
+        SEEN[command[-1], "refused"] += 1
         found = list(ran(view, [*command, *words], trace.path))
         expect(found == refusal.of_view(), f"{command} {words}: {found} in place of {refusal}")
     return refusal is not None
@@ -94,6 +98,7 @@ def check_measured(view, _, asked, length, hot, trace):
         expect(status == 0 and not faults, f"{words}: status {status}, {faults!r}")
         found, wanted = parsed("report", text), measured_report(asked, trace, length, hot)
         expect(found == wanted, f"{words}: {found} in place of {wanted}")
+        SEEN["report", Cost.of(asked, trace, asked.start).verdict()] += 1
 
 
 def report_tries(traces):
@@ -151,6 +156,7 @@ def check_starts(view, _, asked, starts, workers, trace):
     found, text, faults = ran(view, ["json", "when", *words], trace.path)
     expect(found == status and not faults, f"{words}: status {found}, {faults!r}")
     expect(parsed("when", text) == document, f"{words}: {text} in place of {document}")
+    SEEN["when", next(verdict for verdict, number in STATUSES.items() if number == status)] += 1
 
 
 def start_tries(traces):
