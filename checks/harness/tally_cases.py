@@ -7,7 +7,7 @@ import sys
 
 from checks.harness.small import small_check
 from checks.lib.harness import Run, cases_of, expect, run
-from checks.lib.tally import LATE
+from checks.lib.tally import LATE, LeftOut
 from precopy_dev.tree import TOP
 
 
@@ -133,6 +133,40 @@ def without_tools(_, folder):
         expect_told(done, 0, f"{tried} passed, 0 failed, {count} skipped")
         reasons = re.findall(rb"^  SKIPPED .*: there is no [\w-]+, and .* could not be installed$", done.output, re.M)
         expect(len(reasons) == count, f"{name}: {done.output}")
+
+
+# Stands for apt-get: whether it can update is its status, and it installs nothing.
+NO_PACKAGES = """\
+#!/bin/sh
+[ "$4" != update ] || exit {}
+exit 1
+"""
+
+
+def tools_that_are_not_installed(_, folder):
+    """A tool that is not installed fails its case where packages can be had; elsewhere the case is left out."""
+    if os.geteuid() != 0:
+        raise LeftOut("only root installs packages")
+    body = """\
+from checks.lib.tally import need
+
+
+def a_case(_, folder):
+    need("valgrind")
+
+
+def check(tally, given):
+    run_cases(tally, [a_case], None)
+"""
+    path = os.path.join(folder, "apt-get")
+    for status, ends, last, told in (
+        (0, 1, "0 passed, 1 failed", "  FAILED a_case: apt-get works, and does not install valgrind\n"),
+        (100, 0, "0 passed, 0 failed, 1 skipped", "  SKIPPED a_case: there is no valgrind, and valgrind could not be"),
+    ):
+        with open(path, "w", encoding="utf-8") as file:
+            file.write(NO_PACKAGES.format(status))
+        os.chmod(path, 0o755)
+        expect_told(small_check(folder, body, PATH=folder), ends, last, told)
 
 
 CASES = cases_of(__name__)
