@@ -1,7 +1,5 @@
 """Cases of checks/view about limits in time and bytes: reports and starts, worked out again by a plain model."""
 
-import itertools
-import random
 from collections import Counter
 from collections.abc import Iterator
 from dataclasses import replace
@@ -13,7 +11,7 @@ from checks.lib.migration_model import STATUSES, Cost, Question
 from checks.lib.tally import expect
 from checks.lib.traces import Trace
 from checks.lib.view_texts import parsed, ran
-from checks.predictions.questions import random_question
+from checks.predictions.questions import in_range
 from precopy_dev.models import redrawn  # noqa: F401, checks/page takes it from here
 
 TIMES = {"us": 1, "ms": 1_000, "s": 1_000_000}
@@ -33,12 +31,6 @@ REPORTS, STARTS, SELDOM = 200, 120, 8
 SEEN: Counter = Counter()
 # A trace in a file.
 Known = Trace.at
-
-
-def in_range(draw: random.Random, trace: Trace, is_refused: bool = False, **changed) -> Question:
-    """A question about a trace that is not refused, or one that is, with some of its numbers changed."""
-    asked = (replace(random_question(draw, trace), **changed) for _ in itertools.count())
-    return next(it for it in asked if (it.refusal(trace) is not None) == is_refused)
 
 
 def some(kind: str, traces: list[Trace], count: int, **changed) -> Iterator[tuple[Draw, Trace, Question]]:
