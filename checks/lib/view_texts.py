@@ -8,7 +8,8 @@ from checks.lib.harness import run
 from checks.lib.tally import Failure, module
 from precopy_dev.tree import TOP
 
-SECONDS = 60
+# A program that waits for a processor beside other work is slow, and not wrong.
+SECONDS = 300
 
 
 def ran(program, words, trace):
