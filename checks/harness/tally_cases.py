@@ -135,6 +135,15 @@ def without_tools(_, folder):
         expect(len(reasons) == count, f"{name}: {done.output}")
 
 
+def of_another_tree(_, folder):
+    """A check that is run in another tree takes nothing from there."""
+    os.makedirs(os.path.join(folder, "checks"))
+    with open(os.path.join(folder, "checks", "__init__.py"), "w", encoding="utf-8") as file:
+        file.write('raise SystemExit("another tree")\n')
+    done = run([os.path.join(TOP, "checks", "run"), "words", "--help"], cwd=folder)
+    expect(done.status == 0 and done.output.startswith(b"usage: checks/run words "), f"{done}")
+
+
 # Stands for apt-get: whether it can update is its status, and it installs nothing.
 NO_PACKAGES = """\
 #!/bin/sh
