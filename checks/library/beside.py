@@ -62,10 +62,10 @@ def report_of(trace, settings):
 # ---- A trace with some settings.
 
 
-def expect_all(case, wanted, **found):
+def expect_all(case, what, wanted, **found):
     """What is told at each door is what the model tells."""
     for door, told in found.items():
-        case.add(told == wanted, f"{door}: {told!r:.300}, and the model {wanted!r:.300}")
+        case.add(told == wanted, f"{what} by the {door}: {told!r:.300}, and the model {wanted!r:.300}")
 
 
 def compare(case, program, text, settings):
@@ -81,27 +81,27 @@ def compare(case, program, text, settings):
 
 def check_refused(case, program, text, settings, line):
     for words in (["report", *options_of(settings)], ["image"]):
-        expect_all(case, line, program=program_says(program, words, text))
+        expect_all(case, words[0], line, program=program_says(program, words, text))
     for call in (precopy.report, precopy.plan, precopy.rounds):
-        expect_all(case, line, library=refusal_by_library(call, text, settings))
-    expect_all(case, line, library=refusal_by_library(precopy.sweep, text, [settings]))
-    expect_all(case, line, library=refusal_by_library(precopy.memory, text))
+        expect_all(case, call.__name__, line, library=refusal_by_library(call, text, settings))
+    expect_all(case, "sweep", line, library=refusal_by_library(precopy.sweep, text, [settings]))
+    expect_all(case, "memory", line, library=refusal_by_library(precopy.memory, text))
 
 
 def check_report(case, program, trace, settings):
     model = report_of(trace, settings)
     told = program_says(program, ["report", *options_of(settings)], trace.text)
     wanted = report_text(model)
-    expect_all(case, wanted.encode(), program=told, library=precopy.report(trace.text, settings).encode())
+    expect_all(case, "report", wanted.encode(), program=told, library=precopy.report(trace.text, settings).encode())
     names = {"start": "from", "end": "to"}
     rounds = [
         {names.get(name, name): number for name, number in vars(it).items()}
         for it in precopy.rounds(trace.text, settings)
     ]
     numbered = [{"round": number, **it} for number, it in enumerate(rounds)]
-    expect_all(case, model["rounds"], library=numbered)
+    expect_all(case, "rounds", model["rounds"], library=numbered)
     plan = redrawn.planned(trace.guest, settings_of(settings))
-    expect_all(case, sums_of(plan), library=sums_of(precopy.plan(trace.text, settings)))
+    expect_all(case, "plan", sums_of(plan), library=sums_of(precopy.plan(trace.text, settings)))
 
 
 def sums_of(it):
@@ -115,19 +115,22 @@ def check_sweep(case, program, trace, settings):
     model = migration_model.sweep_of(trace, list(map(settings_of, asked)))
     base = [f"--base={settings.base}"] if settings.base is not None else []
     words = [*map(migration_model.case_word, map(settings_of, asked)), f"--start={settings.start}", *base]
-    expect_all(case, sweep_text(model).encode(), program=program_says(program, ["sweep", *words], trace.text))
+    told = program_says(program, ["sweep", *words], trace.text)
+    expect_all(case, "sweep", sweep_text(model).encode(), program=told)
     sums, best = precopy.sweep(trace.text, asked)
     plans = [redrawn.planned(trace.guest, settings_of(it)) for it in asked]
     wanted = list(map(sums_of, plans)), model["best"]
-    expect_all(case, wanted, library=(list(map(sums_of, sums)), best))
+    expect_all(case, "sweep", wanted, library=(list(map(sums_of, sums)), best))
 
 
 def check_memory(case, program, trace):
     whole = trace.memory()
-    expect_all(case, whole, program=program_says(program, ["image"], trace.text), library=precopy.memory(trace.text))
+    told = program_says(program, ["image"], trace.text)
+    expect_all(case, "memory", whole, program=told, library=precopy.memory(trace.text))
     if len(trace.text) < 4096:
         for tick in {0, 1, trace.last, trace.last + 1, *(tick + 1 for tick, _ in trace.writes[:2])}:
-            expect_all(case, trace.memory(tick), library=precopy.memory_before(trace.text, tick))
+            found = precopy.memory_before(trace.text, tick)
+            expect_all(case, f"memory before tick {tick}", trace.memory(tick), library=found)
 
 
 # ---- All of it.
@@ -140,7 +143,7 @@ def check_ends(case, program, name, low, high):
         wanted = "" if low <= value <= high else f"precopy: settings S{REFUSED[name]}"
         told = program_says(program, ["report", *options_of(settings)], read(EXAMPLES[0]))
         found = refusal_by_library(precopy.check_settings, settings)
-        expect_all(case, wanted, program=told if isinstance(told, str) else "", library=found)
+        expect_all(case, f"{name} {value}", wanted, program=told if isinstance(told, str) else "", library=found)
 
 
 def check(tally, program):

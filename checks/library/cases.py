@@ -268,6 +268,11 @@ def check_parts(tally, folder, program):
             part(case, *words)
 
 
+def check_rust(tally, folder, program):
+    if is_compiled(tally, folder, "examples/c/receiver.c", "-std=c99"):
+        rust.check(tally, folder, program)
+
+
 def check(tally, folder, program, only):
     """All of it, or some parts, in a folder that is empty."""
     parts = {
@@ -278,7 +283,7 @@ def check(tally, folder, program, only):
         "streams": lambda: (check_streams(tally), streams.check(tally)),
         "places": lambda: places.check(tally),
         "python": lambda: python.check(tally, folder),
-        "rust": lambda: rust.check(tally, folder, program),
+        "rust": lambda: check_rust(tally, folder, program),
     }
     expect(set(only or ()) <= set(parts), f"the parts are {' '.join(parts)}")
     for name, part in parts.items():
