@@ -2,7 +2,8 @@
 
     checks/run baselines [PRECOPY]
 
-bench/README.md tells of them. It needs cargo, but no network. An output that was compared is a case.
+bench/README.md tells of them. It needs cargo, but no network. An output that was compared is a case;
+there must be at least 600.
 """
 
 import os
@@ -12,7 +13,7 @@ from checks.lib.harness import run, run_main
 from checks.lib.tally import left_out, why_not
 from precopy_dev.tree import TOP
 
-SECONDS = 1200
+SECONDS, LEAST = 1200, 600
 
 
 def check(tally, given):
@@ -22,7 +23,7 @@ def check(tally, given):
     done = run([os.path.join(TOP, "bench", "run"), "--quick", "--program", given.precopy], seconds=SECONDS)
     told = (done.output + done.faults).decode(errors="replace")
     equal = re.search(r"^\.*([0-9]+) outputs compared and equal, 0 faults$", told, re.M)
-    if done.status == 0 and equal and int(equal[1]):
+    if done.status == 0 and equal and int(equal[1]) >= LEAST:
         tally.passed += int(equal[1])
     else:
         tally.add(False, "\n".join([f"bench/run: {done.ended()}", *told.splitlines()[-40:]]))

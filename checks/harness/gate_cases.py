@@ -4,15 +4,18 @@ import os
 import shutil
 
 from checks.lib.harness import Run, cases_of, expect, run
+from checks.lib.tally import LATE
 from precopy_dev.tree import TOP
 
-# Says what a case wants of a step, or that it passed.
+# Says what a case wants of a step, or that it passed; when the page is tried again, what is wanted of that.
 STEP = """\
 #!/bin/sh
 name=$1
 [ -f "said/$name" ] || { echo "1 passed, 0 failed"; exit 0; }
 cat "said/$name"
-exit "$(cat "said/$name.status")"
+status=$(cat "said/$name.status")
+[ "$name" != page ] || [ ! -f said/again ] || { mv said/again said/page; mv said/again.status said/page.status; }
+exit "$status"
 """
 WELL = "#!/bin/sh\nexit 0\n"
 
@@ -83,10 +86,25 @@ def failures(_, folder):
     expect(done.status == 1, f"a test command that tries nothing: {done.output}")
 
 
+LATE_PAGE = f"  FAILED a button: it is slow\n    {LATE}\n5 passed, 1 failed\n"
+
+
 def a_page_again(_, folder):
-    """The page is tried once more, alone; that it passed then is told."""
-    done = gate(folder, page=(1, "  FAILED a button\n5 passed, 1 failed\n"))
-    expect(done.status == 1 and done.output.count(b"checks/page is tried once more, alone\n") == 1, f"{done.output}")
+    """The page is tried once more, alone, if all that failed was late; what was wrong is not."""
+    again = b"checks/page is tried once more, alone\n"
+    done = gate(folder, page=(1, LATE_PAGE))
+    expect(done.status == 1 and done.output.count(again) == 1, f"{done.output}")
+    for wrong in ("  FAILED a button: it is wrong\n", "Killed\n"):
+        done = gate(folder, page=(1, wrong + LATE_PAGE if wrong[:2] == "  " else wrong))
+        expect(done.status == 1 and again not in done.output, f"{done.output}")
+
+
+def a_page_that_was_late(_, folder):
+    """That it passed when it was tried again is told with what failed, and counted."""
+    others = all_passed(folder) - 1
+    done = gate(folder, page=(1, LATE_PAGE), again=(0, "6 passed, 0 failed\n"))
+    told = "  FAILED a button: it is slow\n", "FLAKY page: it failed, as shown above, and passed alone\n", "\n1 flaky\n"
+    expect_gate(done, 0, others + 6, 0, 0, told=told)
 
 
 def left_out_and_flaky(_, folder):
@@ -94,7 +112,7 @@ def left_out_and_flaky(_, folder):
     others = all_passed(folder) - 2
     said = {"view": (0, "  SKIPPED a case: no tool\n0 passed, 0 failed, 2 skipped\n")}
     said |= {"load": (0, "  FLAKY a run: it was late\n1 flaky: a run\n3 passed, 0 failed\n")}
-    told = "SKIPPED view: a case: no tool\n", "FLAKY load: a run: it was late\n"
+    told = "SKIPPED view: a case: no tool\n", "FLAKY load: a run: it was late\n1 flaky\n"
     done = gate(folder, **said)
     expect_gate(done, 0, others + 3, 0, 2, told=told)
     expect(

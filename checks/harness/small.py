@@ -25,12 +25,12 @@ def keep(folder: str, text: str) -> None:
         file.write(text)
 
 
-def small_check(folder: str, body: str, *words: str, seed: int | None = 7) -> Run:
-    """Runs a check with this body, which defines check(tally, given)."""
+def small_check(folder: str, body: str, *words: str, seed: int | None = 7, **more: str) -> Run:
+    """Runs a check with this body, which defines check(tally, given), and with more variables of the environment."""
     path = path_in(folder, "__main__.py")
     with open(path, "w", encoding="utf-8") as file:
         file.write(HEAD + body + TAIL)
-    environment = {**os.environ, "PYTHONPATH": f"{TOP}:{TOP}/python", SEED: str(seed)}
+    environment = {**os.environ, "PYTHONPATH": f"{TOP}:{TOP}/python", SEED: str(seed), **more}
     if seed is None:
         del environment[SEED]
     return run([sys.executable, "-B", path, *words], env=environment, cwd=folder)

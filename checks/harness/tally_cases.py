@@ -7,6 +7,7 @@ import sys
 
 from checks.harness.small import small_check
 from checks.lib.harness import Run, cases_of, expect, run
+from checks.lib.tally import LATE, LeftOut
 from precopy_dev.tree import TOP
 
 
@@ -96,10 +97,25 @@ def check(tally, given):
     told = "1 flaky: a_case\n", "FLAKY a_case: it failed: it was late\n    and passed alone, in ", "2 tries\n"
     expect_told(done, 0, "1 passed, 0 failed", *told)
     done = small_check(folder, body.format('expect_in_time(False, "it was late")'))
-    expect_told(done, 1, "0 passed, 1 failed", "  FAILED a_case: it was late\n", "2 tries\n")
+    expect_told(done, 1, "0 passed, 1 failed", f"  FAILED a_case: it was late\n    {LATE}\n", "2 tries\n")
     done = small_check(folder, body.format('expect(len(tries) > 1, "it is wrong")'))
     expect_told(done, 1, "0 passed, 1 failed", "  FAILED a_case: it is wrong\n", "1 tries\n")
-    expect(not re.search(b"flaky|FLAKY", done.output), f"{done}")
+    expect(not re.search(b"flaky|FLAKY|late", done.output), f"{done}")
+
+
+def late_in_part(_, folder):
+    """A case is late if nothing else is wrong with it."""
+    body = """\
+def check(tally, given):
+    with tally.case("a case") as case:
+        case.add({}, "it is wrong")
+        expect_in_time(False, "it was late")
+"""
+    done = small_check(folder, body.format(True))
+    expect_told(done, 1, "0 passed, 1 failed", f"  FAILED a case: it was late\n    {LATE}\n")
+    done = small_check(folder, body.format(False))
+    expect_told(done, 1, "0 passed, 1 failed", "  FAILED a case: it is wrong\n    it was late\n")
+    expect(LATE not in done.output.decode(), f"{done}")
 
 
 # Checks of which little can be tried without some tools: their words, and how much they try and leave out.
@@ -117,6 +133,49 @@ def without_tools(_, folder):
         expect_told(done, 0, f"{tried} passed, 0 failed, {count} skipped")
         reasons = re.findall(rb"^  SKIPPED .*: there is no [\w-]+, and .* could not be installed$", done.output, re.M)
         expect(len(reasons) == count, f"{name}: {done.output}")
+
+
+def of_another_tree(_, folder):
+    """A check that is run in another tree takes nothing from there."""
+    os.makedirs(os.path.join(folder, "checks"))
+    with open(os.path.join(folder, "checks", "__init__.py"), "w", encoding="utf-8") as file:
+        file.write('raise SystemExit("another tree")\n')
+    done = run([os.path.join(TOP, "checks", "run"), "words", "--help"], cwd=folder)
+    expect(done.status == 0 and done.output.startswith(b"usage: checks/run words "), f"{done}")
+
+
+# Stands for apt-get: whether it can update is its status, and it installs nothing.
+NO_PACKAGES = """\
+#!/bin/sh
+[ "$4" != update ] || exit {}
+exit 1
+"""
+
+
+def tools_that_are_not_installed(_, folder):
+    """A tool that is not installed fails its case where packages can be had; elsewhere the case is left out."""
+    if os.geteuid() != 0:
+        raise LeftOut("only root installs packages")
+    body = """\
+from checks.lib.tally import need
+
+
+def a_case(_, folder):
+    need("valgrind")
+
+
+def check(tally, given):
+    run_cases(tally, [a_case], None)
+"""
+    path = os.path.join(folder, "apt-get")
+    for status, ends, last, told in (
+        (0, 1, "0 passed, 1 failed", "  FAILED a_case: apt-get works, and does not install valgrind\n"),
+        (100, 0, "0 passed, 0 failed, 1 skipped", "  SKIPPED a_case: there is no valgrind, and valgrind could not be"),
+    ):
+        with open(path, "w", encoding="utf-8") as file:
+            file.write(NO_PACKAGES.format(status))
+        os.chmod(path, 0o755)
+        expect_told(small_check(folder, body, PATH=folder), ends, last, told)
 
 
 CASES = cases_of(__name__)

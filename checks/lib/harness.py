@@ -176,7 +176,7 @@ def run_cases(tally: Tally, cases, *words, at_once: int = 1, only=None) -> None:
         elif isinstance(wrong, Late) and not is_last:
             again.append((case, wrong))
         else:
-            tally.add(wrong is None, f"{case.__name__}: {wrong}", wrong and wrong.draw)
+            tally.add(wrong is None, f"{case.__name__}: {wrong}", wrong and wrong.draw, isinstance(wrong, Late))
 
     with ThreadPoolExecutor(at_once) as pool:
         for case, wrong in zip(cases, pool.map(lambda case: outcome(case, words), cases)):

@@ -462,10 +462,6 @@ def case_of(number: int, settings: redrawn.Settings, plan: redrawn.Outcome) -> d
     return {"case": number, **asked, "rounds": plan.rounds, **ends}
 
 
-def case_line(case: dict) -> str:
-    return " ".join(f"{name} {int(it) if name == 'skip' else it}" for name, it in case.items())
-
-
 def sweep_of(trace: Trace, cases: list[redrawn.Settings]) -> dict:
     """The facts of a sweep."""
     found = [case_of(number, it, redrawn.planned(trace.guest, it)) for number, it in enumerate(cases)]

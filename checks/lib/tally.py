@@ -3,11 +3,13 @@ tried again. A case is what somebody would name: a trace, a page of documents, a
 """
 
 import contextlib
+import fcntl
 import importlib
 import importlib.util
 import os
 import shutil
 import subprocess
+import tempfile
 import threading
 import traceback
 
@@ -15,6 +17,8 @@ SECONDS_TO_INSTALL = 300
 # Of the expectations of one case that failed, so many are told.
 MOST_TOLD = 5
 TOOLS = os.path.join(os.path.dirname(os.path.abspath(__file__)), "tools.txt")
+# What is told of a case that fails only since something was late. The gate knows by it what may be tried again.
+LATE = "late: other work on this machine may be why"
 # What this process left out, each with its reason.
 SKIPPED: list[tuple[str, str]] = []
 
@@ -30,7 +34,7 @@ class LeftOut(Failure):
 
 
 class Late(Failure):
-    """Something was not in time, which other work on this machine may cause."""
+    """Something was not in time, which other work on this machine may cause: only that may be tried again."""
 
 
 def expect(holds: object, told: object) -> None:
@@ -69,10 +73,10 @@ def drawn_from(draw):
 
 
 class Case:
-    """What was expected of a case, and what of it does not hold."""
+    """What was expected of a case, and what of it does not hold; how many of these are only late."""
 
     def __init__(self):
-        self.tried, self.faults = 0, []
+        self.tried, self.faults, self.late = 0, [], 0
 
     def add(self, good, told) -> bool:
         self.tried += 1
@@ -89,14 +93,15 @@ class Tally:
         self.failed_draws: list[str] = []
         self.lock = threading.Lock()
 
-    def add(self, good, told, draw=None) -> bool:
-        """A case of one expectation."""
+    def add(self, good, told, draw=None, is_late=False) -> bool:
+        """A case of one expectation. If it is only late, that is told in a line of its own."""
         draw = draw or draw_now()
         with self.lock:
             self.passed, self.failed = self.passed + bool(good), self.failed + (not good)
         if not good:
             self.failed_draws += [draw.line] if draw else []
-            print(f"  FAILED {told}" + (f"\n    drawn: {draw}" if draw else ""), flush=True)
+            more = [f"    drawn: {draw}"] * bool(draw) + [f"    {LATE}"] * is_late
+            print("\n".join([f"  FAILED {told}", *more]), flush=True)
             if "CHECKS_END_EARLY" in os.environ:
                 # Other threads may work on, and would be waited for.
                 print(self, flush=True)
@@ -112,6 +117,9 @@ class Tally:
         except LeftOut as why:
             left_out(name, why)
             return
+        except Late as wrong:
+            case.add(False, wrong)
+            case.late += 1
         except Failure as wrong:
             case.add(False, wrong)
         except Exception:
@@ -120,7 +128,7 @@ class Tally:
             case.add(False, "nothing was tried")
         more = len(case.faults) - MOST_TOLD
         told = [*case.faults[:MOST_TOLD], *([f"and {more} more"] if more > 0 else [])]
-        self.add(not case.faults, f"{name}: " + "\n    ".join(told))
+        self.add(not case.faults, f"{name}: " + "\n    ".join(told), is_late=case.late == len(case.faults))
 
     def tries(self, name: str, act, *words) -> None:
         """A case that raises what it does not want."""
@@ -147,20 +155,29 @@ def tools() -> dict[str, list[str]]:
 
 
 def apt_get(*words: str) -> bool:
+    """Whether apt-get does something. One check at a time asks it."""
     environment = {**os.environ, "DEBIAN_FRONTEND": "noninteractive"}
     command = ["apt-get", "-q", "-o", "DPkg::Lock::Timeout=120", *words]
     how = {"stdin": subprocess.DEVNULL, "stdout": subprocess.DEVNULL, "stderr": subprocess.DEVNULL}
-    with contextlib.suppress(subprocess.TimeoutExpired):
-        return subprocess.run(command, env=environment, timeout=SECONDS_TO_INSTALL, **how).returncode == 0
+    with open(os.path.join(tempfile.gettempdir(), "precopy-checks.lock"), "w", encoding="ascii") as lock:
+        fcntl.flock(lock, fcntl.LOCK_EX)
+        with contextlib.suppress(subprocess.TimeoutExpired):
+            return subprocess.run(command, env=environment, timeout=SECONDS_TO_INSTALL, **how).returncode == 0
     return False
 
 
 def is_installed(packages: list[str]) -> bool:
-    """Whether packages could be installed."""
+    """Whether packages could be installed. If those of Debian can be had and these cannot, that is a failure: the list
+    of tools names what there is not."""
     if os.geteuid() != 0 or not shutil.which("apt-get"):
         return False
     words = ("install", "-y", "--no-install-recommends", *packages)
-    return apt_get(*words) or (apt_get("update") and apt_get(*words))
+    if apt_get(*words):
+        return True
+    if not apt_get("update", "--error-on=any"):
+        return False
+    expect(apt_get(*words), f"apt-get works, and does not install {' '.join(packages)}")
+    return True
 
 
 def why_not(command: str) -> str:

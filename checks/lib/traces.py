@@ -9,6 +9,7 @@ from precopy_dev.models import redrawn
 from precopy_dev.tree import TOP
 
 MAGIC = b"PCWT"
+MOST_BYTES, MOST_PAGES, MOST_WRITES, LAST_TICK = 1 << 28, 1 << 16, 1 << 20, (1 << 40) - 1
 EXAMPLES = sorted(glob.glob(os.path.join(TOP, "examples", "*.pcwt")))
 
 
@@ -70,6 +71,49 @@ class Trace:
         """The trace without the writes from a tick on."""
         kept = [record(*it) for it in self.records if it[0] < before]
         return self.text[:12] + struct.pack("<I", len(kept)) + b"".join(kept)
+
+
+# ---- Refusals, in the order of their table.
+
+
+def refusal(text: bytes) -> str:
+    """Why a text is no trace, with the record where one is named; or nothing."""
+    pages, writes = struct.unpack_from("<II", text.ljust(16, b"\0"), 8)
+    causes = {
+        "E15": len(text) > MOST_BYTES,
+        "E1": len(text) < 16,
+        "E2": text[:4] != MAGIC,
+        "E3": text[4:5] not in (b"\1", b"\2"),
+        "E4": not 4 <= text[5:6].ljust(1, b"\0")[0] <= 12,
+        "E5": text[6:8] != b"\0\0",
+        "E6": not 1 <= pages <= MOST_PAGES,
+        "E7": writes > MOST_WRITES,
+    }
+    return next((name for name, holds in causes.items() if holds), "") or refusal_of_records(text, pages, writes)
+
+
+def refusal_of_records(text: bytes, pages: int, writes: int) -> str:
+    at, before, size = 16, 0, 1 << text[5]
+    for number in range(writes):
+        if len(text) - at < 16:
+            return f"E8 record {number}"
+        tick, page, offset, length = struct.unpack_from("<QIHH", text, at)
+        at += 16 + length
+        causes = {
+            "E8": at > len(text),
+            "E9": tick < before,
+            "E10": tick > LAST_TICK,
+            "E11": page >= pages,
+            "E12": length == 0 and (text[4] == 1 or offset > 0),
+            "E13": offset + length > size,
+        }
+        if why := next((name for name, holds in causes.items() if holds), ""):
+            return f"{why} record {number}"
+        before = tick
+    return "E14" if at < len(text) else ""
+
+
+# ---- Random traces.
 
 
 def generated(chosen) -> bytes:

@@ -1,9 +1,9 @@
 """Tries the library for C from outside: its form, its calls beside the program precopy, streams of frames, examples.
 
-    checks/run library [--seed N] [PRECOPY]
+    checks/run library [--seed N] [--only PART] [PRECOPY]
 
-`make lib` builds the library if need be. What it answers is compared with what the program writes, byte for byte, and
-with a plain model, over the examples and 500 traces, of which half are damaged. checks/library/rows.c has worked
+`make lib` builds the library if need be. What it answers and what the program writes must be what a plain model says,
+byte for byte, over the examples and 500 traces, of which half are damaged. checks/library/rows.c has worked
 examples of each call, checks/library/edges.c null pointers and the order of refusals. checks/library/library.c refuses
 each request for memory, calls from eight threads, and gives short buffers. Its buffers, also those that are read, have
 a page that nobody may touch in front of them or behind them, and each trial is made with both; for the library itself
@@ -11,8 +11,8 @@ is the proved archive, which is built without sanitizers. The address and undefi
 programs around it. Frames are shuffled, repeated, damaged, and cut at every byte. Mistakes are planted in random frames
 of 2,000 streams, of which the library's check must name each (checks/library/streams.py). Versions, writes and steps of
 memory are worked out once more for random traces (checks/library/places.py). Numbers out of range and bytes of all
-kinds go to Python, which pip installs in a fresh environment, and to Rust, whose answers are compared with those of
-Python. Python is also given memory that overlaps a trace, streams that are cut off, too little memory, and arrays of
+kinds go to Python, which pip installs in a fresh environment, and to Rust, whose answers must be the model's too.
+Python is also given memory that overlaps a trace, streams that are cut off, too little memory, and arrays of
 numpy if it has that. The crate is linked with each form of the library. The examples run, and so does what
 docs/LIBRARY.md and the head of the header show. The library is installed, used and taken away again. It needs `cc` and
 `make`.
@@ -33,7 +33,7 @@ def check(tally, given):
         from checks.library import cases
 
         with tempfile.TemporaryDirectory() as folder:
-            cases.check(tally, folder, given.precopy)
+            cases.check(tally, folder, given.precopy, given.only)
 
 
 if __name__ == "__main__":

@@ -6,18 +6,14 @@ import shutil
 import sys
 
 import precopy
-from checks.lib import migration_model
 from checks.lib import traces as all_traces
-from checks.lib.harness import drawn, draws
+from checks.lib.harness import drawn, draws, expect
 from checks.lib.library_runs import LIBRARY, is_done, program_says, read, run
-from checks.lib.traces import EXAMPLES, Trace
-from checks.lib.view_texts import report_facts
-from checks.library import header, installs, places, python, rust, streams, traces
-from precopy_dev.models import redrawn
+from checks.lib.traces import EXAMPLES
+from checks.library import beside, header, installs, places, python, rust, streams, traces
 from precopy_dev.tree import TOP
 from precopy_tools import version
 
-GENERATED = 500
 WARNINGS = ["-Wall", "-Wextra", "-pedantic", "-Werror"]
 SANITIZERS = ["-fsanitize=address,undefined", "-fno-sanitize-recover=all", "-g", "-O1"]
 # The guard page at which the buffers of a call lie, as checks/library/fences.c is told.
@@ -83,121 +79,6 @@ def check_header(tally, folder):
     words = {number: told(number) for name, number in numbers.items() if name not in REASONS}
     unknown = told(1234)
     tally.add(len({*words.values(), unknown}) == len(words) + 1, f"statuses share words: {words}")
-
-
-# ---- Beside the program.
-
-
-def library_says(call, *words):
-    """What a call returns, or the line that the program writes for the refusal."""
-    try:
-        return call(*words)
-    except precopy.TraceRefused as refused:
-        name = str(refused).split(":")[0].replace("trace ", "")
-        try:
-            precopy.check_trace(words[0])
-        except precopy.TraceRefused as again:
-            record = f" record {again.record}" if again.record is not None else ""
-            return f"precopy: trace {name}{record}"
-        return f"precopy: trace {name}, and check_trace does not refuse it"
-
-
-def options_of(settings):
-    words = [f"--min={settings.min}", f"--max={settings.max}", f"--inc={settings.increment}"]
-    words += [f"--threshold={settings.threshold}", f"--rounds={settings.rounds}"]
-    words += [f"--window={settings.window}", f"--hot={settings.hot}"]
-    words += [f"--start={settings.start}", *(["--skip"] if settings.skip else [])]
-    return words + ([f"--base={settings.base}"] if settings.base is not None else [])
-
-
-def case_line(number, case, sums):
-    skip, word = int(case.skip), sums.reason.name.lower()
-    limits = f"min {case.min} max {case.max} inc {case.increment} threshold {case.threshold} limit {case.rounds}"
-    ends = f"rounds {sums.rounds} stop {word} at {sums.stop} down {sums.down} total {sums.total}"
-    return f"case {number} {limits} skip {skip} {ends}\n"
-
-
-def round_line(number, it):
-    sizes = f"pages {it.pages} sent {it.sent} dirtied {it.dirtied}"
-    return f"round {number} from {it.start} to {it.end} rate {it.rate} {sizes}\n"
-
-
-def compare(tally, program, trace, settings, name):
-    """One trace with some settings: report, image, sweep, rounds, memory before ticks."""
-    wanted = program_says(program, ["report", *options_of(settings)], trace)
-    found = library_says(precopy.report, trace, settings)
-    found = found.encode() if isinstance(found, str) and not found.startswith("precopy: ") else found
-    tally.add(found == wanted, f"{name}: report {found!r:.300}, and the program {wanted!r:.300}")
-    wanted = program_says(program, ["image"], trace)
-    found = library_says(precopy.memory, trace)
-    tally.add(found == wanted, f"{name}: memory {found!r:.100}, and the program {wanted!r:.100}")
-    if isinstance(wanted, str):
-        return
-    others = traces.cases_like(settings)
-    words = [f"{c.min},{c.max},{c.increment},{c.threshold},{c.rounds},{int(c.skip)}" for c in others]
-    base = [f"--base={settings.base}"] if settings.base is not None else []
-    wanted = program_says(program, ["sweep", *words, f"--start={settings.start}", *base], trace)
-    lines, best = precopy.sweep(trace, others)
-    found = "".join(case_line(i, *it) for i, it in enumerate(zip(others, lines))) + f"best {best}\n"
-    tally.add(found.encode() == wanted, f"{name}: sweep {found}, and the program {wanted!r}")
-    report, lines = precopy.report(trace, settings), precopy.rounds(trace, settings)
-    model = migration_model.report_of(Trace(trace), settings_of(settings), settings.window, settings.hot)
-    tally.add(report_facts(report) == model, f"{name}: report {report}, and the model {model}")
-    found = "".join(round_line(i, it) for i, it in enumerate(lines))
-    tally.add(found in report and len(lines) == report.count("\nround "), f"{name}: rounds {found}, report {report}")
-    sums = precopy.plan(trace, settings)
-    ends = f"stop {sums.reason.name.lower()} at {sums.stop} pages {lines[-1].dirtied}"
-    ends += f" down {sums.down} total {sums.total}"
-    tally.add(report.endswith(f"{ends}\n") and sums.rounds == len(lines), f"{name}: sums {sums}, report {report}")
-    if len(trace) < 4096:
-        for tick in (0, 1, sums.stop, settings.start):
-            found, wanted = precopy.memory_before(trace, tick), Trace(trace).memory(tick)
-            tally.add(found == wanted, f"{name}: memory before tick {tick}")
-
-
-def settings_of(it):
-    """Settings as the model has them."""
-    numbers = it.min, it.max, it.increment, it.threshold, it.rounds, it.start
-    return redrawn.Settings(*numbers, bool(it.skip), it.base)
-
-
-def check_beside(tally, program):
-    few = precopy.Settings(min=500, max=4000, threshold=10, window=1200, hot=3)
-    for path in EXAMPLES:
-        for settings in (precopy.Settings(), few, precopy.Settings(min=2, max=4, increment=1, threshold=1, rounds=8)):
-            with tally.case(f"{os.path.basename(path)} with {settings}") as case:
-                compare(case, program, read(path), settings, os.path.basename(path))
-    for chosen in drawn("traces beside the program", range(GENERATED)):
-        trace = all_traces.generated(chosen)
-        if chosen.number % 2:
-            trace = all_traces.damaged(chosen, trace)
-        with tally.case(str(chosen)) as case:
-            compare(case, program, trace, traces.settings(chosen), str(chosen))
-    # Where a plan stops the guest, a live run leaves what is written before that tick.
-    for path in EXAMPLES:
-        trace = read(path)
-        stop = precopy.plan(trace, few).stop
-        wanted = program_says(program, ["live", "--at-stop", *options_of(few)[:5]], trace)
-        tally.add(precopy.memory_before(trace, stop) == wanted, f"{path}: memory at the stop of a live run")
-
-
-def check_settings(tally, program):
-    """Each setting at both ends of its range and one beyond them."""
-    for name, low, high in traces.RANGES:
-        with tally.case(f"the ends of {name}") as case:
-            check_ends(case, program, name, {low, high, low - 1, high + 1} - {-1})
-
-
-def check_ends(tally, program, name, values):
-    for value in values:
-        settings = precopy.Settings(**{"min": 1, "max": 1_000_000, name: value})
-        try:
-            precopy.check_settings(settings)
-            found = ""
-        except precopy.SettingsRefused as refused:
-            found = f"precopy: {str(refused).split(':')[0]}"
-        wanted = program_says(program, ["report", *options_of(settings)], read(EXAMPLES[0]))
-        tally.add(found == (wanted if isinstance(wanted, str) else ""), f"{name} {value}: {found}, {wanted!r:.80}")
 
 
 # ---- Streams of frames.
@@ -368,10 +249,7 @@ def check_page(tally, folder):
     tally.add(done.returncode == 0 and b"equal" in done.stdout, f"examples/left_out.py --mended: {done}")
 
 
-def check(tally, folder, program):
-    """All of it, in a folder that is empty."""
-    check_rows(tally, folder)
-    check_sanitized(tally, folder)
+def check_parts(tally, folder, program):
     for name, part, *words in (
         ("the form of the library", check_form),
         ("guard pages", check_fences),
@@ -388,10 +266,26 @@ def check(tally, folder, program):
     ):
         with tally.case(name) as case:
             part(case, *words)
-    check_settings(tally, program)
-    check_beside(tally, program)
-    check_streams(tally)
-    streams.check(tally)
-    places.check(tally)
-    python.check(tally, folder)
-    rust.check(tally, folder, program)
+
+
+def check_rust(tally, folder, program):
+    if is_compiled(tally, folder, "examples/c/receiver.c", "-std=c99"):
+        rust.check(tally, folder, program)
+
+
+def check(tally, folder, program, only):
+    """All of it, or some parts, in a folder that is empty."""
+    parts = {
+        "rows": lambda: check_rows(tally, folder),
+        "calls": lambda: check_sanitized(tally, folder),
+        "forms": lambda: check_parts(tally, folder, program),
+        "beside": lambda: beside.check(tally, program),
+        "streams": lambda: (check_streams(tally), streams.check(tally)),
+        "places": lambda: places.check(tally),
+        "python": lambda: python.check(tally, folder),
+        "rust": lambda: check_rust(tally, folder, program),
+    }
+    expect(set(only or ()) <= set(parts), f"the parts are {' '.join(parts)}")
+    for name, part in parts.items():
+        if not only or name in only:
+            part()

@@ -1,4 +1,5 @@
-"""Trials of the crate for Rust and its example, and of frames that examples receive."""
+"""Trials of the crate for Rust and its example, whose answers must be those of plain models, and of frames that
+examples receive."""
 
 import dataclasses
 import os
@@ -6,14 +7,19 @@ import re
 import shutil
 
 import precopy
+from checks.lib import stream_model, stream_rows
 from checks.lib import traces as all_traces
 from checks.lib.harness import drawn, draws
 from checks.lib.library_runs import LIBRARY, TOP, is_done, program_says, read, run
+from checks.lib.migration_model import Question, answer_of, sweep_of
 from checks.lib.tally import left_out, why_not
 from checks.lib.traces import EXAMPLES, Trace
-from checks.library import traces
+from checks.lib.view_texts import report_text
+from checks.library import beside, traces
+from precopy_dev.models import redrawn
 
 HEADER, CRATE = "include/precopy.h", "bindings/rust"
+BAD_ROUNDS = 25
 SOURCES = ("flat.rs", "lib.rs", "places.rs", "predictions.rs", "refusals.rs", "streams.rs")
 
 
@@ -58,71 +64,102 @@ def check_statuses(tally):
     tally.add(declared == called, f"the crate does not have the calls {sorted(declared ^ called)}")
 
 
-def sums_line(it):
-    return f"{it.rounds} {it.reason.name.capitalize()} {it.stop} {it.down} {it.total}"
+def sums_line(plan):
+    return f"{plan.rounds} {plan.reason.capitalize()} {plan.stop} {plan.down} {plan.total}"
 
 
-def question(sizes, settings):
+def question(trace, settings):
     """What examples/answers.rs asks: its numbers do not grow beyond 64 bits."""
-    page, most = sizes.page_length, (1 << 64) - 1
+    page, most = trace.size, (1 << 64) - 1
     asked = {name: getattr(settings, name) for name in ("rounds", "start", "base", "skip")}
     asked |= {"link": min(most, 3 * page * settings.max), "first": min(most, 3 * page * settings.min)}
     asked |= {"downtime": min(most, 1000 * settings.threshold), "reserve": 500, "page": page}
-    return precopy.Question(sampled=sizes.pages, guest=3 * sizes.pages, **asked)
+    return precopy.Question(sampled=trace.pages, guest=3 * trace.pages, **asked)
 
 
-def prediction_lines(it):
-    yield f"plan {sums_line(it)} {it.left}"
-    verdicts = f"{it.converges.name.capitalize()} {it.kept.name.capitalize()}"
-    yield f"migration {it.time} {it.bytes} {it.downtime} {it.recorded} {verdicts}"
-    if it.errors:
-        yield f"errors {it.errors.bytes} {it.errors.time} {it.errors.downtime}"
+def refused_line(number, call, *words):
+    """The line of a refusal: the number is the model's, and the words are those of the Python module."""
+    try:
+        call(*words)
+        return "the Python module does not refuse it"
+    except precopy.Refused as refused:
+        return f"refused {number} {refused}"
+
+
+def prediction_lines(trace, asked):
+    told = Question(**vars(asked))
+    if refusal := told.refusal(trace, by_library=True):
+        yield refused_line(refusal.number, precopy.predict, trace.text, asked)
+        return
+    it = answer_of(told, trace)
+    yield f"plan {sums_line(it.plan)} {it.left}"
+    verdicts = f"{it.converges.capitalize()} {it.kept.capitalize()}"
+    yield f"migration {it.time} {it.sent} {it.downtime} {it.recorded} {verdicts}"
+    # The library tells standard errors of what is unknown too.
+    if 2 <= told.sampled <= 65_536:
+        sent, time, down = redrawn.errors(trace.guest, told.settings(), told.scale())
+        yield f"errors {sent} {time} {down}"
+    yield amounts_line(it.enough)
 
 
 def amounts_line(it):
-    amounts = (it.link, it.downtime, it.speed, it.ending_link, it.ending_start)
+    links = [link and 125 * link for link in (it.link, it.ending.link)]
+    amounts = [links[0], it.downtime, it.speed, links[1], it.ending.start]
     link, downtime, speed, *ending = ["-" if amount is None else str(amount) for amount in amounts]
-    is_kept, ends = str(it.is_kept).lower(), str(it.ends).lower()
+    is_kept, ends = str(it.is_kept).lower(), str(it.ending.ends).lower()
     return f"enough {is_kept} {link} {downtime} {speed} {ends} {' '.join(ending)}"
 
 
-def finding_lines(trace, sizes, tick):
+def finding_lines(trace, tick):
     """What is wrong in streams of the frames of the memory at the stop: all of them, without the first, with another
-    stamp in the first, and without the last byte, in pieces."""
-    stop, memory, size = precopy.writes_before(trace, tick), precopy.memory_before(trace, tick), sizes.page_length
-    pages = [(page, precopy.version_after(trace, page, stop)) for page in range(sizes.pages)]
-    frames = [precopy.encode_frame(sizes, *it, memory[it[0] * size :][:size]) for it in pages]
+    stamp in the first, and without the last byte, in pieces. The words are those of the Python module."""
+    guest = stream_model.Guest(trace.text)
+    stop = guest.writes_before(tick)
+    versions = [(number, page.version(stop)) for number, page in enumerate(guest.pages)]
+    frames = [stream_rows.frame(*it, bytes(guest.pages[it[0]].after(it[1]))) for it in versions]
     stream = b"".join(frames)
     other = stream[:4] + bytes([stream[4] ^ 1]) + stream[5:]
     for each in (stream, b"".join(frames[1:]), other, stream[:-1]):
-        found = precopy.check_streams(trace, stop, [each])
-        yield f"finding {found.status:d} {found.place}: {found}" if found else "finding 0"
+        wanted = stream_rows.told_by_model(stream_model.first_wrong(guest, stop, [each]))
+        found = precopy.check_streams(trace.text, stop, [each])
+        if stream_rows.told_by_library(found) != wanted:
+            yield f"the model finds {wanted}, and the Python module {found}"
+        else:
+            yield f"finding {wanted[0]} {found.place}: {found}" if found else "finding 0"
 
 
-def answer_lines(trace, settings):
-    """What examples/answers.rs of the crate prints, as the Python module tells it."""
-    try:
-        sizes = precopy.check_trace(trace)
-        yield f"sizes {sizes.shift} {sizes.pages} {sizes.writes}"
-        sums = precopy.plan(trace, settings)
-        yield f"sums {sums_line(sums)}"
-        for it in precopy.rounds(trace, settings):
-            yield f"round {it.start} {it.end} {it.rate} {it.pages} {it.sent} {it.dirtied}"
-        yield precopy.report(trace, settings).rstrip("\n")
-        cases, best = precopy.sweep(trace, [settings, dataclasses.replace(settings, skip=not settings.skip)])
-        yield from (f"case {sums_line(it)}" for it in cases)
-        yield f"best {best}"
-        yield f"memory {precopy.memory(trace).hex()}"
-        yield f"before {precopy.memory_before(trace, sums.stop).hex()}"
-        yield from finding_lines(trace, sizes, sums.stop)
-        yield from prediction_lines(precopy.predict(trace, question(sizes, settings)))
-        yield amounts_line(precopy.enough(trace, question(sizes, settings)))
-    except precopy.Refused as refused:
-        yield f"refused {refused.status:d} {refused}"
+def plan_lines(trace, settings):
+    asked = beside.settings_of(settings)
+    plan = redrawn.planned(trace.guest, asked)
+    yield f"sums {sums_line(plan)}"
+    for it in redrawn.rounds(trace.guest, asked)[0]:
+        yield f"round {it.start} {it.end} {it.rate} {it.pages} {it.sent} {it.dirtied}"
+    yield report_text(beside.report_of(trace, settings)).rstrip("\n")
+    cases = [asked, asked._replace(skip=not asked.skip)]
+    yield from (f"case {sums_line(redrawn.planned(trace.guest, it))}" for it in cases)
+    yield f"best {sweep_of(trace, cases)['best']}"
+    yield f"memory {trace.memory().hex()}"
+    yield f"before {trace.memory(plan.stop).hex()}"
+    yield from finding_lines(trace, plan.stop)
+    yield from prediction_lines(trace, question(trace, settings))
+
+
+def answer_lines(text, settings):
+    """What examples/answers.rs of the crate prints, as a plain model tells it."""
+    if why := all_traces.refusal(text):
+        # The status of a refused trace is the number in its name.
+        yield refused_line(int(why.split()[0].removeprefix("E")), precopy.check_trace, text)
+        return
+    trace = Trace(text)
+    yield f"sizes {trace.size.bit_length() - 1} {trace.pages} {len(trace.records)}"
+    if 1 <= settings.rounds <= 64:
+        yield from plan_lines(trace, settings)
+    else:
+        yield refused_line(BAD_ROUNDS, precopy.plan, text, settings)
 
 
 def check_crate(tally, crate, target, environment):
-    """The crate's own tests, its form, and its answers beside those of the Python module."""
+    """The crate's own tests, its form, and its answers beside those of the models."""
     done = run("cargo", "test", "--offline", cwd=crate, env=environment)
     counts = [int(count) for count in re.findall(rb"test result: ok\. (\d+) passed; 0 failed", done.stdout)]
     if is_done(tally, done, "the tests of bindings/rust"):
@@ -145,7 +182,7 @@ def check_crate(tally, crate, target, environment):
         words = [getattr(settings, it) for it in "min max increment threshold rounds start window hot".split()]
         done = run(f"{target}/debug/examples/answers", *map(str, [*words, base, int(settings.skip)]), input=trace)
         wanted = "".join(f"{line}\n" for line in answer_lines(trace, settings))
-        tally.add(done.stdout.decode() == wanted, f"{chosen}: {done}, and in Python\n{wanted}")
+        tally.add(done.stdout.decode() == wanted, f"{chosen}: {done}, and the model\n{wanted}")
 
 
 def check_example(tally, folder, source, target, environment, program):

@@ -10,6 +10,8 @@ import subprocess
 import tempfile
 import time
 
+from checks.lib.tally import Late
+
 SECONDS = 60
 # Memory that is free goes back to the system some seconds later. Readings differ by less than a grain if none goes.
 SECONDS_TO_SETTLE, GRAIN = 12, 1 << 20
@@ -35,8 +37,12 @@ class BrowserError(Exception):
     """The browser did not do what it was asked."""
 
 
-class NoAnswer(BrowserError):
+class NoAnswer(BrowserError, Late):
     """The browser said nothing for too long."""
+
+
+class NotThere(BrowserError, Late):
+    """What was waited for did not come."""
 
 
 class Driven:
@@ -83,7 +89,7 @@ class Driven:
             if found := self.value(expression, seconds):
                 return found
             time.sleep(0.02)
-        raise BrowserError(f"after {seconds} s there is no {expression}")
+        raise NotThere(f"after {seconds} s there is no {expression}")
 
     def take_lines(self):
         """The lines that the console has got since the last call."""

@@ -4,7 +4,7 @@ import base64
 import json
 import time
 
-from checks.lib.view_texts import Failure
+from checks.lib.tally import Failure, Late
 from checks.page.browser import NoAnswer
 
 SECONDS_TO_BECOME = 10
@@ -184,7 +184,7 @@ class Page:
         until = time.monotonic() + seconds
         while (found := self.browser.value(expression)) != wanted:
             if time.monotonic() > until:
-                raise Failure(f"{told}: {found!r} in place of {wanted!r}")
+                raise Late(f"{told}: {found!r} in place of {wanted!r}")
             time.sleep(0.05)
 
 

@@ -20,6 +20,7 @@ from precopy_dev.tree import TOP
 from precopy_tools.predict import command
 
 LIBRARY = os.path.join(TOP, "out", "library")
+SECONDS, HOW = 600, {"capture_output": True, "text": True, "check": False}
 # Lines of tools/predict that are its own, and not those of precopy-view.
 OF_TOOL = (
     "taken: ",
@@ -172,7 +173,7 @@ class Page(Door):
         ]
         script, module = os.path.join(self.programs.web, "predictions.mjs"), self.programs.module
         command = [*self.programs.node, "--no-warnings", script, module, some[0].trace.path]
-        done = subprocess.run(command, input=json.dumps(questions), capture_output=True, text=True, check=False)
+        done = subprocess.run(command, input=json.dumps(questions), timeout=SECONDS, **HOW)
         if done.returncode:
             raise Failure(done.stderr[-300:])
         return [found.get("refusal", found) for found in json.loads(done.stdout)]
@@ -257,7 +258,7 @@ class C(Library):
     def all_told(self, some: list[Asked]) -> list[object]:
         lines = "".join(f"{' '.join(map(str, self.numbers(asked)))}\n" for asked in some)
         command = [self.programs.asker, some[0].trace.path]
-        done = subprocess.run(command, input=lines, capture_output=True, text=True, check=False)
+        done = subprocess.run(command, input=lines, timeout=SECONDS, **HOW)
         told = [self.answer(list(map(int, line.split()))) for line in done.stdout.splitlines()]
         if done.returncode or len(told) != len(some):
             raise Failure(f"status {done.returncode}, {done.stderr[-300:]!r}, {len(told)} answers")

@@ -4,6 +4,7 @@ Traces are examples, or from `page_shapes` and `traces`. Records are an example,
 of `page_shapes` with a NAME.json of random numbers.
 """
 
+import itertools
 import json
 import math
 import os
@@ -26,6 +27,8 @@ from precopy_tools.formats import samples
 EXAMPLES = os.path.join(TOP, "examples")
 SMALL, SHAPES, RECORDS = 2, 4, 2
 OF_TRACE, OF_RECORD = 17, 16
+# One of so many questions about a trace is refused.
+SELDOM = 8
 # More pages than these take the model too long, and fewer writes decide nothing.
 MOST_PAGES, LEAST_WRITES = 5_000, 50
 
@@ -143,6 +146,12 @@ def random_question(draw: random.Random, trace: Trace) -> Question:
     )
 
 
+def in_range(draw: random.Random, trace: Trace, is_refused: bool = False, **changed) -> Question:
+    """A question about a trace that is not refused, or one that is, with some of its numbers changed."""
+    asked = (replace(random_question(draw, trace), **changed) for _ in itertools.count())
+    return next(it for it in asked if (it.refusal(trace) is not None) == is_refused)
+
+
 def limited(draw: random.Random, asked: Question, trace: Trace) -> Question:
     """With a link that moves all pages in about the time of the trace or less, and a downtime for some of them."""
     pages = trace.pages
@@ -173,7 +182,7 @@ def of_record(draw: random.Random, folder: str, trace: Trace, told: dict) -> Ask
 
 def asked_of_trace(draw: Draw, path: str) -> list[Asked]:
     trace = Trace.at(path)
-    return [Asked(random_question(draw, trace), trace, draw=draw) for _ in range(OF_TRACE)]
+    return [Asked(in_range(draw, trace, number % SELDOM == 0), trace, draw=draw) for number in range(OF_TRACE)]
 
 
 def asked_of_record(draw: Draw, folder: str, path: str) -> list[Asked]:

@@ -2,15 +2,16 @@
 
     checks/run qemu [PRECOPY]
 
-The guest has 128 MiB and is emulated. All of that is one run of tools/compare-qemu. What it tells of the migration must
-be near what it planned: the guest writes at a steady pace. The trace that it keeps is one that precopy takes, and has
-as many pages as the guest. It takes about a minute and a half; QEMU, a kernel and busybox are installed if they can be,
-or else all of it is left out.
+The guest has 128 MiB and is emulated. All of that is one run of tools/compare-qemu. Its plan must be that of precopy,
+and the migration near the plan for the bandwidth that QEMU reached: the guest writes at a steady pace. The trace that
+it keeps is one that precopy takes, and has as many pages as the guest. It takes about a minute and a half; QEMU, a
+kernel and busybox are installed if they can be, or else all of it is left out.
 """
 
 import glob
 import os
 import re
+from typing import NamedTuple
 
 from checks.lib.harness import expect, run, run_cases, run_main
 from checks.lib.tally import LeftOut, expect_in_time, need
@@ -35,17 +36,50 @@ def migrated(program, folder):
     memory = re.search(r"^memory: 0 of ([\d,]+) pages differ at the destination$", told, re.M)
     expect(memory, told)
     trace = Trace.at(path)
-    report = run([program, "report", *re.search(r"^plan: (--start .*)$", told, re.M)[1].split()], trace.text)
-    first = int(re.search(rb"^round 0 .* sent (\d+) ", report.output, re.M)[1])
-    (sent, sent_by_qemu), times = numbers(told, "pages sent"), numbers(told, "time, ms")
-    expect_near("pages sent", sent, sent_by_qemu, MOST_APART, told)
-    expect_near("time, ms", *times, MOST_APART, told)
+    settings = settings_of(re.search(r"^plan: (--start .*)$", told, re.M)[1])
+    (sent, sent_by_qemu), (time, time_of_qemu) = numbers(told, "pages sent"), numbers(told, "time, ms")
+    plan = planned(program, trace, settings)
+    expect((sent, time) == (plan.sent, plan.time), f"the tool tells {sent} pages in {time} ms, and the plan is {plan}")
+    expect(abs(plan.rate() / settings["--min"] - 1) < 0.05, f"{plan} does not use the link of {settings}")
+    # A busy machine does not give QEMU all of the bandwidth. What it reached is planned too.
+    reached = min(settings["--min"], round(1000 * sent_by_qemu / time_of_qemu))
+    limit = settings["--threshold"] * reached // settings["--min"] + 1
+    again = planned(program, trace, {**settings, "--min": reached, "--max": reached, "--threshold": limit})
+    print(f"  {plan}; with what QEMU reached, {100 * reached // settings['--min']} per cent, {again}", flush=True)
+    expect_near("pages sent", again.sent, sent_by_qemu, MOST_APART, told)
+    expect_near("time, ms", again.time, time_of_qemu, MOST_APART, told)
     # Most pages go in the first round, whatever the guest writes meanwhile.
-    expect_near("pages sent again", sent - first, sent_by_qemu - first, MOST_APART_AGAIN, told)
+    expect_near("pages sent again", again.sent - again.first, sent_by_qemu - again.first, MOST_APART_AGAIN, told)
     expect(trace.records and trace.last > 5_000, f"{len(trace.records)} writes up to tick {trace.last}")
     image = run([program, "image"], trace.text)
     expect(image.status == 0 and image.output == trace.memory(), f"the image of the recorded trace: {image}")
     print("\n".join(f"  {line}" for line in told.splitlines()[-12:]), flush=True)
+
+
+class Plan(NamedTuple):
+    """Pages of the first round, all that are sent, and the ticks from the start until the guest runs again."""
+
+    first: int
+    sent: int
+    time: int
+
+    def rate(self):
+        return 1000 * self.sent / self.time
+
+
+def settings_of(line):
+    """The options of a plan by their names."""
+    words = line.split()
+    return dict(zip(words[::2], map(int, words[1::2])))
+
+
+def planned(program, trace, settings):
+    done = run([program, "report", *(f"{name}={value}" for name, value in settings.items())], trace.text)
+    expect(done.status == 0, f"{settings}: {done}")
+    first = re.search(rb"^round 0 .* sent (\d+) ", done.output, re.M)
+    stop = re.search(rb"^stop \w+ at (\d+) pages \d+ down (\d+) total (\d+)$", done.output, re.M)
+    at, down, total = map(int, stop.groups())
+    return Plan(int(first[1]), total, at - settings["--start"] + down)
 
 
 def numbers(told, name):

@@ -8,9 +8,9 @@ report` or `precopy sweep`, under the names of that text; both must be what a mo
 lines that are no wider than asked. A picture must have its bars and texts inside, and no text over another, also with
 1, 30 and 10,000 windows; 200 random pictures of reports and starts are read back, each mark to the numbers that it may
 stand for. Random questions in time and bytes are asked of `json report`, `when`, `json when`, `advise` and `json
-sweep`; at most a fifth of them may be refused, and then by the words of the model. Words of limits are tried at the
-ends of their ranges, and with misspellings; times, rates and sizes as words are those of checks/view/quantities.tsv
-and random decimals, for the program and for the tools.
+sweep`; of each answer there are a number, and at most a fifth is refused, in the words of the model. Words of limits
+are tried at the ends of their ranges, and with misspellings; times, rates and sizes as words are those of
+checks/view/quantities.tsv and random decimals, for the program and for the tools.
 """
 
 import collections
@@ -21,12 +21,12 @@ import tempfile
 import xml.etree.ElementTree
 
 from checks.lib.harness import expect, run_main
-from checks.lib.migration_model import Question, report_of, sweep_of
+from checks.lib.migration_model import report_of, sweep_of
 from checks.lib.tally import Failure
 from checks.lib.traces import EXAMPLES, Trace, made
 from checks.lib.view_texts import document_of, report_facts, sweep_facts, told
 from checks.view.advice_cases import advice_tries
-from checks.view.limit_cases import report_tries, start_tries, word_tries
+from checks.view.limit_cases import SEEN, report_tries, start_tries, word_tries
 from checks.view.nearest_cases import nearest_tries
 from checks.view.picture_cases import picture_tries
 from checks.view.quantity_cases import quantity_tries
@@ -181,28 +181,29 @@ def tries_of(folder):
     yield from picture_tries(folder)
 
 
-def expect_few_refused(asked):
-    """Of the random questions of each kind at most a fifth is refused."""
-    for name, refused in asked.items():
-        told = f"{name}: {refused[True]} of {refused.total()} are refused"
-        expect(refused[False] and 5 * refused[True] <= refused.total(), told)
-        print(told)
-    expect(len(asked) == 3, f"{sorted(asked)}")
+# How often each must come of the random questions, at least; and at most a fifth of each kind is refused.
+LEAST = {"report": {"yes": 50, "no": 10, "unknown": 15, "refused": 1}}
+LEAST |= {"when": {"yes": 15, "no": 6, "unknown": 15, "refused": 1}, "advise": {"fits": 30, "refused": 1}}
+
+
+def expect_each():
+    for name, least in LEAST.items():
+        found = {kind: count for (asked, kind), count in SEEN.items() if asked == name}
+        few = [kind for kind, count in least.items() if found.get(kind, 0) < count]
+        expect(not few, f"{name}: {few} are seldom: {found}")
+        expect(5 * found["refused"] <= sum(found.values()), f"{name}: more than a fifth is refused: {found}")
+        print(f"{name}: {found}")
 
 
 def check(tally, given):
-    counts, asked = collections.Counter(), collections.defaultdict(collections.Counter)
+    counts = collections.Counter()
     with tempfile.TemporaryDirectory() as folder:
         for act, *words in tries_of(folder):
             tally.tries(f"{act.__name__} {words}", act, given.precopy_view, given.precopy, *words)
             counts[act.__name__] += 1
-            if isinstance(words[0], Question) and act.__name__ in MAY_BE_REFUSED:
-                asked[act.__name__][words[0].refusal(words[-1]) is not None] += 1
-    tally.tries("refused questions", expect_few_refused, asked)
+    tally.tries("what came of the questions", expect_each)
     print(", ".join(f"{name} {count}" for name, count in counts.items()))
 
-
-MAY_BE_REFUSED = ("check_measured", "check_starts", "check_measured_advice")
 
 if __name__ == "__main__":
     run_main(check, __doc__, "precopy_view", "precopy")

@@ -6,8 +6,8 @@ from checks.lib import migration_model
 from checks.lib.amount_texts import size_text, time_text
 from checks.lib.harness import drawn
 from checks.lib.tally import expect
-from checks.lib.view_texts import facts, parsed, ran
-from checks.view.limit_cases import in_range, is_refused, some
+from checks.lib.view_texts import facts, parsed, ran, words_of
+from checks.view.limit_cases import SEEN, in_range, is_refused, some
 from precopy_dev.models import redrawn
 
 BUDGETS = [
@@ -79,7 +79,7 @@ def advised(trace, asked, down, total, question=None):
     if question:
         time, downtime, sent = question.cost(asked.start, outcomes[chosen])
         lines.append(f"time {time_text(time)}, sent {size_text(sent)}, downtime {time_text(downtime)}")
-    return [*lines, migration_model.case_line(plans[chosen]), migration_model.live_line(cases[chosen])]
+    return [*lines, words_of(plans[chosen]), migration_model.live_line(cases[chosen])]
 
 
 def expect_advice(view, words, trace, wanted):
@@ -100,7 +100,9 @@ def check_measured_advice(view, _, asked, total, trace):
     words += [] if total is None else [f"--total={total}"]
     if not is_refused(view, ["advise"], asked, words, trace):
         down = (asked.downtime - asked.reserve) // asked.tick
-        expect_advice(view, words, trace, advised(trace, asked.settings(), down, total, asked))
+        wanted = advised(trace, asked.settings(), down, total, asked)
+        expect_advice(view, words, trace, wanted)
+        SEEN["advise", "none" if any(" none within " in line for line in wanted) else "fits"] += 1
 
 
 def check_refused_advice(view, _, words, line, trace):

@@ -1,7 +1,6 @@
 """Cases of checks/view about limits in time and bytes: reports and starts, worked out again by a plain model."""
 
-import itertools
-import random
+from collections import Counter
 from collections.abc import Iterator
 from dataclasses import replace
 from fractions import Fraction
@@ -12,7 +11,7 @@ from checks.lib.migration_model import STATUSES, Cost, Question
 from checks.lib.tally import expect
 from checks.lib.traces import Trace
 from checks.lib.view_texts import parsed, ran
-from checks.predictions.questions import random_question
+from checks.predictions.questions import in_range
 from precopy_dev.models import redrawn  # noqa: F401, checks/page takes it from here
 
 TIMES = {"us": 1, "ms": 1_000, "s": 1_000_000}
@@ -28,14 +27,10 @@ RATES = {
     "GiB": 1 << 30,
 }
 REPORTS, STARTS, SELDOM = 200, 120, 8
+# What came of the questions, by what was asked for, as the model has it.
+SEEN: Counter = Counter()
 # A trace in a file.
 Known = Trace.at
-
-
-def in_range(draw: random.Random, trace: Trace, is_refused: bool = False, **changed) -> Question:
-    """A question about a trace that is not refused, or one that is, with some of its numbers changed."""
-    asked = (replace(random_question(draw, trace), **changed) for _ in itertools.count())
-    return next(it for it in asked if (it.refusal(trace) is not None) == is_refused)
 
 
 def some(kind: str, traces: list[Trace], count: int, **changed) -> Iterator[tuple[Draw, Trace, Question]]:
@@ -49,6 +44,7 @@ def is_refused(view, command: list[str], asked: Question, words: list[str], trac
     """Whether the question is refused; then the program must say so in the words of the model."""
     refusal = asked.refusal(trace)
     if refusal:
+        SEEN[command[-1], "refused"] += 1
         found = list(ran(view, [*command, *words], trace.path))
         expect(found == refusal.of_view(), f"{command} {words}: {found} in place of {refusal}")
     return refusal is not None
@@ -94,6 +90,7 @@ def check_measured(view, _, asked, length, hot, trace):
         expect(status == 0 and not faults, f"{words}: status {status}, {faults!r}")
         found, wanted = parsed("report", text), measured_report(asked, trace, length, hot)
         expect(found == wanted, f"{words}: {found} in place of {wanted}")
+        SEEN["report", Cost.of(asked, trace, asked.start).verdict()] += 1
 
 
 def report_tries(traces):
@@ -151,6 +148,7 @@ def check_starts(view, _, asked, starts, workers, trace):
     found, text, faults = ran(view, ["json", "when", *words], trace.path)
     expect(found == status and not faults, f"{words}: status {found}, {faults!r}")
     expect(parsed("when", text) == document, f"{words}: {text} in place of {document}")
+    SEEN["when", next(verdict for verdict, number in STATUSES.items() if number == status)] += 1
 
 
 def start_tries(traces):

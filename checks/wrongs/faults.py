@@ -7,8 +7,8 @@ from typing import NamedTuple
 class Fault(NamedTuple):
     """A text that is wrong in a source, or in what a program does by a wrong of wrong.c, with what stands there
     otherwise; or a wrong call of the library, by a wrong of wrong_library.c. `sign` is what the failure of a check, or
-    of some of its cases, must tell of. What is wrong in two places alike has both places, words and texts, between
-    them &."""
+    of some of its cases, must tell of. What is wrong in two places alike has both places, words and texts, and two
+    wrongs if they have other names, between them &."""
 
     check: str
     cases: str
@@ -26,8 +26,9 @@ class Fault(NamedTuple):
         """The fault, place by place."""
         if not self.is_alike():
             return [self]
-        places = zip(*(text.split("&") for text in (self.where, self.when, self.old)))
-        return [self._replace(where=where, when=when, old=old) for where, when, old in places]
+        names = self.name if "&" in self.name else f"{self.name}&{self.name}"
+        places = zip(*(text.split("&") for text in (self.where, names, self.when, self.old)))
+        return [self._replace(where=where, name=name, when=when, old=old) for where, name, when, old in places]
 
     def __str__(self):
         return f"{self.check}: {' '.join(filter(None, (self.where, self.name, self.when)))} {self.old!r} {self.new!r}"

@@ -16,6 +16,7 @@
 #define ALL_RIGHT 8      /* check_streams: nothing is ever wrong */
 #define ONE_MORE 9       /* plan: the downtime is a tick longer */
 #define COUNTED_ON 10    /* report: another digit behind OLD */
+#define NEXT_BEST 11     /* sweep: the best case has a number that is greater by one */
 
 static inline void touch(const void *at) { (void)*(const volatile uint8_t *)at; }
 
@@ -102,15 +103,18 @@ uint32_t precopy_report(const uint8_t *trace, size_t trace_length, const struct 
 }
 #endif
 
-#if WRONG == WRITES_REFUSED
+#if WRONG == WRITES_REFUSED || WRONG == NEXT_BEST
 __typeof__(precopy_sweep) right_sweep;
 
 uint32_t precopy_sweep(const uint8_t *trace, size_t trace_length, const struct precopy_settings *cases,
                        size_t cases_length, struct precopy_sums *sums, size_t sums_length, size_t *best,
                        uint32_t *record) {
     uint32_t status = right_sweep(trace, trace_length, cases, cases_length, sums, sums_length, best, record);
-    if (status != PRECOPY_OK) {
+    if (status != PRECOPY_OK && WRONG == WRITES_REFUSED) {
         *best = 0;
+    }
+    if (status == PRECOPY_OK && cases_length && WRONG == NEXT_BEST) {
+        *best += 1;
     }
     return status;
 }
