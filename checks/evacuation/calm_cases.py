@@ -190,6 +190,21 @@ def guests_apart_in_a_window(programs: Programs, folder: str) -> None:
     expect(told["schedules"][told["best"]["schedule"]]["kept"], f"{told['schedules']}")
 
 
+def held_up_to_a_deadline(programs: Programs, folder: str) -> None:
+    """A deadline within the window bounds how long a guest waits: it moves in a calm before it, and not in the calmest
+    part of the window."""
+    begin = int(time.time() // 60 * 60 + 7200) % DAY
+    for number, hot in enumerate((1600, 1600, 1600, 100, 100, 20, 20, 20)):
+        segment(folder, "db", begin + 60 * number, guest_of(2048, hot, 60, 2))
+    words = [f"{folder}/db.light.pcwt", "--window", f"{clock(begin)}-{clock(begin + 480)}", "--at-once", "1"]
+    for deadline, first in (("5m", 180), ("7m", 300), (None, 300)):
+        told, _ = told_at(programs, folder, *words, *(["--deadline", deadline] if deadline else []))
+        (move,) = told["best"]["moves"]
+        last = told.get("deadline_seconds", 480)
+        is_calm = first <= move["start_seconds"] < first + 60 and move["end_seconds"] <= last
+        expect(is_calm and move["cost"]["kept"], f"{deadline}: {move}")
+
+
 def windows_too_short(programs: Programs, folder: str) -> None:
     """A window in which not all guests have room is told, with status 3."""
     begin = int(time.time() // 60 * 60 + 7200) % DAY

@@ -126,9 +126,9 @@ def answered(
     numbers = [number for number in found.asked.numbers if options.at_once or number <= len(found.guests)]
     if hour.window:
         numbers = gathering.numbers_of(found.guests, numbers)
-        held = calm.Held(found.guests, starts, settings.groups(), micros_of(hour.window.length))
-        answer = calm.planned(options.scheduler, held, numbers, deadline)
-        deadline = min(deadline or held.end, held.end)
+        deadline = min(deadline or math.inf, micros_of(hour.window.length))
+        held = calm.Held(found.guests, starts, settings.groups(), deadline)
+        answer = calm.planned(options.scheduler, held, numbers)
     else:
         schedules = gathering.schedules_of(found.guests, numbers)
         answer = host_schedules.answered(options.scheduler, schedules, deadline, settings.groups())
