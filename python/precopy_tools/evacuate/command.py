@@ -110,10 +110,10 @@ def rounds_of(options: argparse.Namespace, found: Gathered, moves: list[Placed])
     return {move.guest.name: [move.start + end for end in ends] for move, ends in zip(moves, ends_of)}
 
 
-def draw(options: argparse.Namespace, found: Gathered, answer: Answer) -> None:
+def draw(options: argparse.Namespace, found: Gathered, answer: Answer, opens: float) -> None:
     best, deadline = answer.best, micros_of(options.deadline or 0)
     title = f"{texts.counted(answer.moves)} in {time_text(best.time)}: {best.at_once} at once, {best.order}"
-    write(options.picture, chart.drawn(answer.moves, rounds_of(options, found, answer.moves), title, deadline))
+    write(options.picture, chart.drawn(answer.moves, rounds_of(options, found, answer.moves), title, deadline, opens))
 
 
 def answered(
@@ -172,13 +172,13 @@ def show(
         print("".join(f"{line}\n" for line in days.lines(spread)), end="")
         print("" if options.run else f"\n{lines.printed(options.lines, steps, found_ways)}".rstrip("\n"), flush=True)
     if options.picture:
-        draw(options, found, answer)
+        draw(options, found, answer, hour.opens)
     if options.run:
         run.expect_ready(options, steps, found_ways, status)
         outcome = run.performed(options, steps, found_ways, hour.opens)
         told["run"], status = outcome.document(), outcome.status()
         if options.picture:
-            write(options.picture, report_chart.drawn(outcome, outcome.title()))
+            write(options.picture, report_chart.drawn(outcome, outcome.title(), hour.opens))
     if options.json:
         write(options.json, json.dumps(told, indent=1) + "\n")
     return status
