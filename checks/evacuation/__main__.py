@@ -15,7 +15,8 @@ from checks.lib.harness import run_cases, run_main
 
 def check(tally, given):
     programs = cases.Programs(given.precopy_schedule, given.precopy_view)
-    run_cases(tally, (*cases.CASES, *moving_cases.CASES, *calm_cases.CASES, *ending_cases.CASES), programs, only=given.only)
+    found = (*cases.CASES, *moving_cases.CASES, *calm_cases.CASES, *ending_cases.CASES)
+    run_cases(tally, found, programs, only=given.only)
 
 
 if __name__ == "__main__":
