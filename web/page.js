@@ -140,10 +140,8 @@ class Page {
     this.isAddressed = isRecordOnly ? this.isAddressed : isGiven;
     this.fitted = new Set();
     this.state.settings = this.settingsBeside(this.settingsFor(trace), trace, isRecordOnly);
-    if (!isRecordOnly && this.shown) {
-      this.keptPlans.leave(this.shown, trace);
-    }
-    const kept = isGiven || isRecordOnly ? this.state.kept : [];
+    this.keptPlans.open(trace, isRecordOnly ? null : this.shown);
+    const kept = isGiven || isRecordOnly ? this.state.kept : this.keptPlans.settings();
     const wanted = isGiven ? this.state.print : null;
     this.state = { ...this.state, kept, example, print: wanted ?? trace.print };
     this.keptPlans.forget();

@@ -9,13 +9,14 @@ and lines. Records and settings that it must refuse have their words and status,
 guests have their answer within 5 seconds.
 """
 
-from checks.evacuation import calm_cases, cases, moving_cases
+from checks.evacuation import calm_cases, cases, ending_cases, moving_cases
 from checks.lib.harness import run_cases, run_main
 
 
 def check(tally, given):
     programs = cases.Programs(given.precopy_schedule, given.precopy_view)
-    run_cases(tally, (*cases.CASES, *moving_cases.CASES, *calm_cases.CASES), programs, only=given.only)
+    found = (*cases.CASES, *moving_cases.CASES, *calm_cases.CASES, *ending_cases.CASES)
+    run_cases(tally, found, programs, only=given.only)
 
 
 if __name__ == "__main__":

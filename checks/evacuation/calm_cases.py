@@ -9,9 +9,10 @@ import re
 import signal
 import subprocess
 import time
+import xml.etree.ElementTree
 
 from checks.evacuation import model, monitors
-from checks.evacuation.cases import Programs, document_of, expect, micros, run_tool, write_record
+from checks.evacuation.cases import SVG, Programs, document_of, expect, micros, run_tool, write_record
 from checks.evacuation.moving_cases import write_settings
 from checks.lib.harness import cases_of, draws
 from checks.lib.tally import expect_in_time
@@ -144,7 +145,9 @@ def held_until_calm(programs: Programs, folder: str) -> None:
     known = nights(folder, begin)
     names = [f"{folder}/{name}.light.pcwt" for name in known]
     window = f"{clock(begin)}-{clock(begin + 480)}"
-    told, text = told_at(programs, folder, *names, "--window", window, "--at-once", "1,2")
+    picture = f"{folder}/window.svg"
+    told, text = told_at(programs, folder, *names, "--window", window, "--at-once", "1,2", "--picture", picture)
+    expect_clocks(picture, told)
     moves = {move["guest"]: move for move in told["best"]["moves"]}
     opens = datetime.datetime.fromisoformat(told["opens"]).timestamp()
     expect(opens % DAY == begin and 0 < opens - time.time() < 7300, f"{told['opens']}")
@@ -163,6 +166,26 @@ def held_until_calm(programs: Programs, folder: str) -> None:
     expect(sent[0] < 0.8 * sent[1], f"{sent}: nothing is saved")
     expect(re.search(rf"not before \d{{4}}-\d\d-\d\d {clock(begin + 240)[:3]}", text), text)
     expect(all(each["time_seconds"] <= 480 for each in told["schedules"] if each["kept"]), f"{told['schedules']}")
+
+
+def expect_clocks(path: str, told: dict) -> None:
+    """The picture has times of day below it and behind each bar, and a bar for how long a guest is held back."""
+    root = xml.etree.ElementTree.parse(path).getroot()
+    opens, moves = datetime.datetime.fromisoformat(told["opens"]), told["best"]["moves"]
+    scale = 640 / max(move["end_seconds"] for move in moves)
+    labels = [(part.text, float(part.get("x"))) for part in root.findall(f"{SVG}text[@class='note']")]
+    marks = [(text, x) for text, x in labels if re.fullmatch(r"\d\d:\d\d", text)]
+    expect(len(marks) > 2 and labels[-1][0] == "UTC", f"{labels}")
+    for text, x in marks:
+        wanted = 170 + scale * (60 * (60 * int(text[:2]) + int(text[3:])) - opens.timestamp() % DAY)
+        expect(abs(x - wanted) < 1, f"{text} is at {x}, and not at {wanted}")
+    for move, group in zip(moves, root.findall(f"{SVG}g"), strict=True):
+        end = (opens + datetime.timedelta(seconds=move["end_seconds"])).strftime("%H:%M:%S")
+        expect(group.find(f"{SVG}text[@class='end']").text == end, f"{move}: it does not end at {end}")
+        held = [(float(bar.get("x")), float(bar.get("width"))) for bar in group.findall(f"{SVG}rect[@class='held']")]
+        wait, start = scale * move["held_seconds"], 170 + scale * move["start_seconds"]
+        expect(len(held) == bool(wait), f"{move}: {held}")
+        expect(all(abs(x + width - start) < 1 and abs(width - wait) < 1 for x, width in held), f"{move}: {held}")
 
 
 def expect_as_scheduled(programs: Programs, told: dict) -> None:
@@ -188,6 +211,21 @@ def guests_apart_in_a_window(programs: Programs, folder: str) -> None:
     one, other = sorted(told["best"]["moves"], key=lambda move: move["start_seconds"])
     expect(one["end_seconds"] <= other["start_seconds"], f"{told['best']}")
     expect(told["schedules"][told["best"]["schedule"]]["kept"], f"{told['schedules']}")
+
+
+def held_up_to_a_deadline(programs: Programs, folder: str) -> None:
+    """A deadline within the window bounds how long a guest waits: it moves in a calm before it, and not in the calmest
+    part of the window."""
+    begin = int(time.time() // 60 * 60 + 7200) % DAY
+    for number, hot in enumerate((1600, 1600, 1600, 100, 100, 20, 20, 20)):
+        segment(folder, "db", begin + 60 * number, guest_of(2048, hot, 60, 2))
+    words = [f"{folder}/db.light.pcwt", "--window", f"{clock(begin)}-{clock(begin + 480)}", "--at-once", "1"]
+    for deadline, first in (("5m", 180), ("7m", 300), (None, 300)):
+        told, _ = told_at(programs, folder, *words, *(["--deadline", deadline] if deadline else []))
+        (move,) = told["best"]["moves"]
+        last = told.get("deadline_seconds", 480)
+        is_calm = first <= move["start_seconds"] < first + 60 and move["end_seconds"] <= last
+        expect(is_calm and move["cost"]["kept"], f"{deadline}: {move}")
 
 
 def windows_too_short(programs: Programs, folder: str) -> None:

@@ -58,6 +58,29 @@ def check_second_trace(page):
     page.after("document.querySelector('[data-drops]').click()")
 
 
+def check_undone_trace(page):
+    """A plan that was kept before another trace was opened is shown once if that is undone, and once if it is done
+    again. Over the trace that is opened anew it is there too."""
+    page.open("#trace=sqlite&link=64MiB&first=50&downtime=300ms&start=1000")
+    page.wait_for_plan()
+    page.after("document.getElementById('keep').click()")
+    page.browser.wait("location.hash.includes('kept=')", 5)
+    page.drop(("mid.pcwt", read(example("guests/mid.light.pcwt"))))
+    page.rest()
+    over_its_own, over_another = "Kept plan 1 Exchange Drop", "Kept plan 1 Drop sqlite.light.pcwt"
+    for button, wanted in (("undo", over_its_own), ("redo", over_another), ("undo", over_its_own)):
+        page.after(f"document.getElementById('{button}').click()")
+        page.becomes(HEADS, ["This plan", wanted], f"heads after {button}")
+        page.rest()
+    page.drop(("mid.pcwt", read(example("guests/mid.light.pcwt"))))
+    page.rest()
+    page.drop(("sqlite.pcwt", read(example("guests/sqlite.light.pcwt"))))
+    page.rest()
+    page.becomes(HEADS, ["This plan", over_its_own], "heads over the trace that is opened anew")
+    page.after("document.querySelector('[data-drops]').click()")
+    page.becomes(HEADS, ["This plan"], "heads after a drop")
+
+
 def asked_rounds(page, rounds):
     return typed(page, "rounds", rounds)
 

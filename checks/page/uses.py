@@ -387,6 +387,7 @@ USES = {
     "kept plans": kept.check_comparison,
     "shared axes": kept.check_axes,
     "a second trace": kept.check_second_trace,
+    "a trace that is undone": kept.check_undone_trace,
     "hypervisors": kept.check_hosts,
     "saved files": saves.check_files_saved,
     "a refusal out of sight": check_refused_below,

@@ -267,6 +267,22 @@ def other_userfaultfd(_, folder):
         expect(pages.write(range(40)) == 0, "a system call of the process was disturbed")
 
 
+def beside_another_recorder(_, folder):
+    """A second recorder of the same memory says what may watch it, and the first one goes on by writes."""
+    places = [os.path.join(folder, name) for name in ("first", "second")]
+    for place in places:
+        os.makedirs(place)
+    with Pages("private") as pages:
+        first = Drawn(places[0], pages.source, ["--by", "writes"])
+        falls_back(places[1], pages, ": another recorder, a post-copy migration, or a background snapshot")
+        pages.write(range(100))
+        first.end(signal.SIGINT)
+        _, written, sample = first.expect_whole()
+        pages.expect_as_before()
+    later = {page for tick, page in written if tick > 1000}
+    expect(sample.method == "writes" and len(later) > 50, f"by {sample.method}, {len(later)} pages")
+
+
 def traced_already(_, folder):
     with Pages("private") as pages:
         trace = (

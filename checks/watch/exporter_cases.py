@@ -13,7 +13,7 @@ import urllib.request
 from checks.lib.harness import cases_of, expect
 from checks.lib.tally import expect_in_time, need
 from checks.watch.guest_cases import ODD, Writing
-from checks.watch.watch_runs import SECONDS, Watching, known, metrics_in, of_guest
+from checks.watch.watch_runs import LIMITS, SECONDS, Watching, known, metrics_in, of_guest
 from precopy_dev.tree import TOP
 from precopy_tools.watch.metrics import METRICS
 
@@ -163,7 +163,7 @@ def read_by_prometheus(program, folder):
         for name in ("a.qmp", f"{ODD}.qmp"):
             guest = stack.enter_context(known(folder, name))
         stack.enter_context(Writing(guest, 0.2))
-        run = stack.enter_context(Watching(program, folder))
+        run = stack.enter_context(Watching(program, folder, limits=f'{LIMITS}time = "5m"\n'))
         stack.enter_context(node_exporter(folder, of_exporter))
         stack.enter_context(prometheus(folder, port, of_exporter))
         run.wait_for_value("precopy_guest_verdict", "a", 1, verdict="kept")
@@ -207,7 +207,8 @@ def alerts_when_due(_, folder):
 
 
 def dashboard_of_known_metrics(_, __):
-    """The dashboard and the alerts ask for metrics that there are; each panel has a place, a title and a unit."""
+    """The dashboard and the alerts ask for metrics that there are, and for each limit; each panel has a place, a title and
+    a unit."""
     with open(DASHBOARD, encoding="utf-8") as file:
         dashboard = json.load(file)
     with open(RULES, encoding="utf-8") as file:
@@ -226,6 +227,8 @@ def dashboard_of_known_metrics(_, __):
         named |= {name for target in panel["targets"] for name in re.findall(r"\bprecopy_\w+", target["expr"])}
     named |= set(re.findall(r"\bprecopy_\w+", json.dumps(dashboard["templating"])))
     expect(named <= set(METRICS), f"there are no {named - set(METRICS)}")
+    limits = {name for name in METRICS if name.endswith("_limit_seconds")}
+    expect(len(limits) == 2 and limits <= named, f"limits that nobody sees: {limits - named}")
     expect(len(named) > 10, f"{named}")
 
 

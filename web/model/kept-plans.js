@@ -8,7 +8,14 @@ export class KeptPlans {
   constructor(find) {
     this.find = find;
     this.found = new Map();
-    this.others = [];
+    this.digest = null;
+    // What was kept over each trace when another one was opened. The address tells what is kept over the open one.
+    this.left = [];
+  }
+
+  /** Those over other traces than the open one. */
+  get others() {
+    return this.left.filter(({ digest }) => digest !== this.digest);
   }
 
   /** Forgets what was planned over the trace that was open. */
@@ -16,25 +23,37 @@ export class KeptPlans {
     this.found.clear();
   }
 
-  /** Keeps the plans that were shown over a trace, now that another is open. */
-  leave({ kept, trace: before }, trace) {
-    const left = before.digest === trace.digest ? [] : kept.filter(({ name, found }) => !name && found.value);
+  /** Another trace is open now: keeps the plans that were shown over the one before, if there was one. */
+  open({ digest: opened }, shown) {
+    this.digest = opened;
+    if (!shown || shown.trace.digest === opened) {
+      return;
+    }
+    const { digest, source: { name } } = shown.trace;
+    const plans = shown.kept.filter((plan) => !plan.name && plan.found.value);
     // Errors that are still to come will not come.
-    left.forEach(({ found }) => { found.value.errors ??= null; });
-    const named = left.map(({ settings, found }) => ({ settings, found, name: before.source.name }));
-    this.others = [...this.others, ...named].slice(-MOST_KEPT);
+    plans.forEach(({ found }) => { found.value.errors ??= null; });
+    const named = plans.map(({ settings, found }) => ({ settings, found, name, digest }));
+    this.left = [...this.left.filter((plan) => plan.digest !== digest), ...named].slice(-MOST_KEPT);
+  }
+
+  /** The settings of what was kept over the open trace when it was open before. */
+  settings() {
+    return this.left.filter(({ digest }) => digest === this.digest).map(({ settings }) => settings);
   }
 
   /** Makes room for one more beside those over the open trace. */
   makeRoom(kept) {
-    this.others = this.others.slice(Math.max(0, this.others.length + kept.length + 1 - MOST_KEPT));
+    const { others } = this;
+    const dropped = others.slice(0, Math.max(0, others.length + kept.length + 1 - MOST_KEPT));
+    this.left = this.left.filter((plan) => !dropped.includes(plan));
   }
 
   /** Drops a plan by its place, and returns what is left of those over the open trace. */
   without(place, kept) {
-    const { length } = this.others;
-    this.others = this.others.filter((_, at) => at !== place);
-    return kept.filter((_, at) => at + length !== place);
+    const { others } = this;
+    this.left = this.left.filter((plan) => plan !== others[place]);
+    return kept.filter((_, at) => at + others.length !== place);
   }
 
   /** All plans, with the length of windows that is shown. */

@@ -124,8 +124,8 @@ def chosen(starts: list[Start], ready: int, most: int, end: int) -> tuple[int, C
 
 
 class Held(NamedTuple):
-    """What is scheduled: the guests with their starts, groups that move apart, and how long the window is, in
-    microseconds."""
+    """What is scheduled: the guests with their starts, groups that move apart, and when all have to have moved, in
+    microseconds from the opening: at the end of the window, or at a deadline before that."""
 
     guests: list[Guest]
     starts: dict[str, Starts]
@@ -184,12 +184,11 @@ def best_of_each(schedules: list[Schedule]) -> list[Schedule]:
     return list(found.values())
 
 
-def planned(program: str, held: Held, numbers: list[int], deadline: int) -> Answer:
+def planned(program: str, held: Held, numbers: list[int]) -> Answer:
     """The schedules of a window, and the best of them."""
-    last = min(deadline or held.end, held.end)
-    told = best_of_each(answered(program, held.schedules(numbers), last, held.groups).schedules)
+    told = best_of_each(answered(program, held.schedules(numbers), held.end, held.groups).schedules)
     best = min(told, key=rank)
-    moves = answered(program, [best], last, held.groups).moves
+    moves = answered(program, [best], held.end, held.groups).moves
     return Answer(told, best, moves)
 
 

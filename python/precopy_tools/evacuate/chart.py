@@ -3,6 +3,7 @@
 import html
 import math
 
+from precopy_tools.evacuate import hours
 from precopy_tools.evacuate.schedules import Placed
 from precopy_tools.pictures import picture, round_above
 from precopy_tools.quantities import moment_text, size_text, time_text
@@ -11,20 +12,23 @@ WIDTH, LEFT, RIGHT, TOP, BELOW = 900, 170, 90, 76, 44
 # Rows are lower if there are many guests, and have no texts if those would touch.
 ROW, ROWS, LEAST_ROW, LEAST_TEXT = 26, 3000, 2, 13
 LEAST_DOWN = 2.0
+# Of an axis of times of day: so many seconds are between two lines, and at most so many lines are in the picture.
+CLOCK_STEPS, CLOCK_LINES = (1, 2, 5, 10, 15, 30, 60, 120, 300, 600, 900, 1800, 3600, 7200, 10_800), 8
 STYLE = """<style>
 .paper { fill: #ffffff } text { fill: #1f2328 } .note { fill: #57606a } .grid { stroke: #d8dee4 }
 .moving { fill: #54aeff } .planned { fill: #b6bfc9 } .missed { fill: #e3a008 }
 .unknown { fill: #b6bfc9 } .down { fill: #cf222e }
-.round { stroke: #ffffff } .limit { stroke: #cf222e; stroke-dasharray: 5 3 }
+.round { stroke: #ffffff } .limit { stroke: #cf222e; stroke-dasharray: 5 3 } .held { fill: #d8dee4 }
 .end { fill: #57606a; stroke: #ffffff; stroke-width: 3; paint-order: stroke }
 @media (prefers-color-scheme: dark) {
 .paper { fill: #0d1117 } text { fill: #e6edf3 } .note { fill: #8b949e } .grid { stroke: #30363d }
 .moving { fill: #388bfd } .planned { fill: #6e7681 } .missed { fill: #d29922 }
 .unknown { fill: #6e7681 } .down { fill: #ff7b72 }
-.round { stroke: #0d1117 } .limit { stroke: #ff7b72 } .end { fill: #8b949e; stroke: #0d1117 }
+.round { stroke: #0d1117 } .limit { stroke: #ff7b72 } .held { fill: #30363d } .end { fill: #8b949e; stroke: #0d1117 }
 }
 </style>"""
 KEYS = {
+    "held": ("held back", 95),
     "moving": ("moves; lines end rounds", 190),
     "missed": ("misses a limit", 110),
     "unknown": ("its record is too short", 155),
@@ -67,22 +71,35 @@ def rectangle(kind: str, x: float, y: float, width: float, height: float) -> str
     return f'<rect class="{kind}" x="{x:.1f}" y="{y:.1f}" width="{width:.1f}" height="{height:.1f}"/>'
 
 
-def bar(move: Placed, ends: list[int], rows: Rows, y: float) -> list[str]:
-    """One guest: its name, its bar with a line at the end of each round, its downtime, and when it ends."""
-    name, cost = move.guest.name, move.cost
-    begin, end, stop = (rows.x_of(at) for at in (move.start, move.end, move.end - cost.downtime))
-    told = (
-        f"{name}: {moment_text(move.start)} to {moment_text(move.end)}, {size_text(cost.sent)}, "
-        f"downtime {time_text(cost.downtime)}" + (f"; {cost.why}" if cost.why else "")
-    )
+def moment(at: int, opens: float) -> str:
+    """A moment of a schedule: its time of day, if it opens at a time in Unix seconds."""
+    return hours.clock_text(opens + at / 1e6) if opens else moment_text(at)
+
+
+def told(move: Placed, opens: float) -> str:
+    """What is told of a guest where it is pointed at."""
+    cost = move.cost
+    begin, end = moment(move.start, opens), moment(move.end, opens)
+    held = f", held back for {time_text(cost.hold)}" if cost.hold else ""
+    down = f"downtime {time_text(cost.downtime)}" + (f"; {cost.why}" if cost.why else "")
+    return f"{move.guest.name}: {begin} to {end}{held}, {size_text(cost.sent)}, {down}"
+
+
+def bar(move: Placed, ends: list[int], rows: Rows, y: float, opens: float) -> list[str]:
+    """One guest: its name, how long it is held back, its bar with a line at the end of each round, its downtime, and
+    when it ends."""
+    cost = move.cost
+    free, begin, end = (rows.x_of(at) for at in (move.start - cost.hold, move.start, move.end))
+    stop = rows.x_of(move.end - cost.downtime)
     down = min(stop, end - LEAST_DOWN)
     lines = [
-        f"<g><title>{html.escape(told)}</title>",
+        f"<g><title>{html.escape(told(move, opens))}</title>",
+        *([rectangle("held", free, y + rows.bar / 3, begin - free, rows.bar / 3)] if cost.hold else []),
         rectangle(kind_of(move), begin, y, max(end - begin, LEAST_DOWN), rows.bar),
         *(upright("round", rows.x_of(at), y, y + rows.bar) for at in ends if begin < rows.x_of(at) < stop),
         rectangle("down", down, y, end - down, rows.bar),
     ]
-    return [*lines, *names(name, end, moment_text(move.end), rows, y), "</g>"]
+    return [*lines, *names(move.guest.name, end, moment(move.end, opens), rows, y), "</g>"]
 
 
 def names(name: str, end: float, told: str, rows: Rows, y: float) -> list[str]:
@@ -106,16 +123,33 @@ def keys(kinds: set[str], known: dict[str, tuple[str, int]]) -> list[str]:
     return lines
 
 
-def axis(rows: Rows) -> list[str]:
-    """A line for each round number of seconds, of which at most ten go into the picture."""
-    lines, step, at = [], round_above(max(rows.end / 1e6, 1e-3) / 10), 0.0
-    while at <= rows.end / 1e6 * (1 + 1e-9):
+def marks(seconds: float) -> list[tuple[float, str]]:
+    """The round numbers of seconds, at most ten of them."""
+    step, at, found = round_above(max(seconds, 1e-3) / 10), 0.0, []
+    while at <= seconds * (1 + 1e-9):
+        found.append((at, f"{at:g}"))
+        at = round(at + step, 9)
+    return found
+
+
+def clock_marks(seconds: float, opens: float) -> list[tuple[float, str]]:
+    """The round times of day after the opening."""
+    step = next((each for each in CLOCK_STEPS if seconds <= CLOCK_LINES * each), CLOCK_STEPS[-1])
+    first = math.ceil(opens / step) * step
+    times = (first + step * number for number in range(int(seconds / step) + 1))
+    length = len("00:00:00" if step < hours.MINUTE else "00:00")
+    return [(at - opens, hours.clock_text(at)[:length]) for at in times if at <= opens + seconds]
+
+
+def axis(rows: Rows, opens: float) -> list[str]:
+    """A line for each round number of seconds, or for each round time of day if the schedule opens at one."""
+    lines, seconds = [], rows.end / 1e6
+    for at, words in clock_marks(seconds, opens) if opens else marks(seconds):
         x = rows.x_of(at * 1e6)
         lines.append(upright("grid", x, TOP - 6, rows.bottom))
-        lines.append(f'<text class="note" x="{x:.1f}" y="{rows.bottom + 18:g}" text-anchor="middle">{at:g}</text>')
-        at = round(at + step, 9)
+        lines.append(f'<text class="note" x="{x:.1f}" y="{rows.bottom + 18:g}" text-anchor="middle">{words}</text>')
     end = f'x="{WIDTH - RIGHT:g}" y="{rows.bottom + 36:g}" text-anchor="end"'
-    return [*lines, f'<text class="note" {end}>seconds</text>']
+    return [*lines, f'<text class="note" {end}>{"UTC" if opens else "seconds"}</text>']
 
 
 def limit(rows: Rows, deadline: int) -> list[str]:
@@ -135,10 +169,12 @@ def page(rows: Rows, title: str, parts: list[str]) -> str:
     return picture(WIDTH, height, [*head, text, *parts])
 
 
-def drawn(moves: list[Placed], ends: dict[str, list[int]], title: str, deadline: int) -> str:
+def drawn(moves: list[Placed], ends: dict[str, list[int]], title: str, deadline: int, opens: float) -> str:
     """The picture of some moves: at least one. `ends` are those of each guest's rounds, in microseconds; a deadline of
-    0 is none."""
+    0 is none. If they open at a time in Unix seconds, times are those of the day."""
     rows = Rows(max(move.end for move in moves), len(moves))
-    bars = [bar(move, ends.get(move.guest.name, []), rows, rows.y_of(number)) for number, move in enumerate(moves)]
-    parts = [*keys({"down", *map(kind_of, moves)}, KEYS), *axis(rows), *limit(rows, deadline)]
+    of_guests = [(move, ends.get(move.guest.name, []), rows.y_of(number)) for number, move in enumerate(moves)]
+    bars = [bar(move, of_guest, rows, y, opens) for move, of_guest, y in of_guests]
+    kinds = {"down", *map(kind_of, moves), *("held" for move in moves if move.cost.hold)}
+    parts = [*keys(kinds, KEYS), *axis(rows, opens), *limit(rows, deadline)]
     return page(rows, title, [*parts, *(line for each in bars for line in each)])

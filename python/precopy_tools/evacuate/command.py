@@ -110,10 +110,10 @@ def rounds_of(options: argparse.Namespace, found: Gathered, moves: list[Placed])
     return {move.guest.name: [move.start + end for end in ends] for move, ends in zip(moves, ends_of)}
 
 
-def draw(options: argparse.Namespace, found: Gathered, answer: Answer) -> None:
+def draw(options: argparse.Namespace, found: Gathered, answer: Answer, opens: float) -> None:
     best, deadline = answer.best, micros_of(options.deadline or 0)
     title = f"{texts.counted(answer.moves)} in {time_text(best.time)}: {best.at_once} at once, {best.order}"
-    write(options.picture, chart.drawn(answer.moves, rounds_of(options, found, answer.moves), title, deadline))
+    write(options.picture, chart.drawn(answer.moves, rounds_of(options, found, answer.moves), title, deadline, opens))
 
 
 def answered(
@@ -126,9 +126,9 @@ def answered(
     numbers = [number for number in found.asked.numbers if options.at_once or number <= len(found.guests)]
     if hour.window:
         numbers = gathering.numbers_of(found.guests, numbers)
-        held = calm.Held(found.guests, starts, settings.groups(), micros_of(hour.window.length))
-        answer = calm.planned(options.scheduler, held, numbers, deadline)
-        deadline = min(deadline or held.end, held.end)
+        deadline = min(deadline or math.inf, micros_of(hour.window.length))
+        held = calm.Held(found.guests, starts, settings.groups(), deadline)
+        answer = calm.planned(options.scheduler, held, numbers)
     else:
         schedules = gathering.schedules_of(found.guests, numbers)
         answer = host_schedules.answered(options.scheduler, schedules, deadline, settings.groups())
@@ -172,13 +172,13 @@ def show(
         print("".join(f"{line}\n" for line in days.lines(spread)), end="")
         print("" if options.run else f"\n{lines.printed(options.lines, steps, found_ways)}".rstrip("\n"), flush=True)
     if options.picture:
-        draw(options, found, answer)
+        draw(options, found, answer, hour.opens)
     if options.run:
         run.expect_ready(options, steps, found_ways, status)
         outcome = run.performed(options, steps, found_ways, hour.opens)
         told["run"], status = outcome.document(), outcome.status()
         if options.picture:
-            write(options.picture, report_chart.drawn(outcome, outcome.title()))
+            write(options.picture, report_chart.drawn(outcome, outcome.title(), hour.opens))
     if options.json:
         write(options.json, json.dumps(told, indent=1) + "\n")
     return status

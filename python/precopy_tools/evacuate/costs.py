@@ -9,7 +9,10 @@ named by the file. Times are whole microseconds, and sizes bytes.
 import concurrent.futures
 import json
 import math
+import multiprocessing
+import multiprocessing.connection
 import os
+import threading
 from collections.abc import Callable
 from typing import NamedTuple
 
@@ -202,11 +205,23 @@ def tried(function: Callable, path: str, asked: Asked, limits: Wanted):
         return traces.told(fault)
 
 
+def end_with_parent() -> None:
+    """Has this process end as soon as the one that began it has, also if that is killed."""
+    parent = multiprocessing.parent_process()
+    assert parent
+
+    def wait() -> None:
+        multiprocessing.connection.wait([parent.sentinel])
+        os._exit(1)
+
+    threading.Thread(target=wait, daemon=True).start()
+
+
 def side_by_side(jobs: int, function, rows: list[tuple]) -> list:
     """What a function makes of each row, by this many processes."""
     if min(jobs, len(rows)) < 2:
         return [function(*row) for row in rows]
-    with concurrent.futures.ProcessPoolExecutor(min(jobs, len(rows))) as pool:
+    with concurrent.futures.ProcessPoolExecutor(min(jobs, len(rows)), initializer=end_with_parent) as pool:
         waiting = [pool.submit(function, *row) for row in rows]
         return [each.result() for each in waiting]
 

@@ -5,7 +5,7 @@ import html
 from precopy_tools.evacuate import chart
 from precopy_tools.evacuate.chart import Rows, rectangle
 from precopy_tools.evacuate.outcome import Moved, Outcome, apart
-from precopy_tools.quantities import moment_text, size_text, time_text
+from precopy_tools.quantities import size_text, time_text
 
 ROW = 36
 KEYS = {
@@ -31,13 +31,14 @@ def downtime_of(rows: Rows, end: int, downtime: int, y: float, height: float) ->
     return rectangle("down", begin, y, x - begin, height)
 
 
-def told(move: Moved) -> str:
+def told(move: Moved, opens: float) -> str:
     """What is told of a guest where it is pointed at."""
     name, planned = move.planned.guest.name, move.planned
-    plan = f"planned {moment_text(planned.start)} to {moment_text(planned.end)}, {size_text(planned.cost.sent)}"
+    times = [chart.moment(at, opens) for at in (planned.start, planned.end, move.start, move.end)]
+    plan = f"planned {times[0]} to {times[1]}, {size_text(planned.cost.sent)}"
     if move.state == "not begun":
         return f"{name}: {plan}; not begun"
-    was = f"{moment_text(move.start)} to {moment_text(move.end)}, {size_text(move.sent)}"
+    was = f"{times[2]} to {times[3]}, {size_text(move.sent)}"
     down = "" if move.downtime is None else f", downtime {time_text(move.downtime)}"
     return f"{name}: {plan}; {move.state}, {was}{down}" + (f"; {move.why}" if move.why else "")
 
@@ -48,12 +49,12 @@ def behind(move: Moved) -> str:
     return f"plan {apart(planned.cost.time, move.end - move.start)}" if move.is_moved else move.state
 
 
-def pair(move: Moved, rows: Rows, y: float) -> list[str]:
+def pair(move: Moved, rows: Rows, y: float, opens: float) -> list[str]:
     """The two bars of a guest: the upper one is planned, and the lower one is what was."""
     planned, half = move.planned, rows.bar / 2
     begin, end = rows.x_of(planned.start), rows.x_of(planned.end)
     lines = [
-        f"<g><title>{html.escape(told(move))}</title>",
+        f"<g><title>{html.escape(told(move, opens))}</title>",
         bar_of("planned", begin, end, y, half),
         downtime_of(rows, planned.end, planned.cost.downtime, y, half),
     ]
@@ -65,12 +66,12 @@ def pair(move: Moved, rows: Rows, y: float) -> list[str]:
     return [*lines, *chart.names(planned.guest.name, end, behind(move), rows, y), "</g>"]
 
 
-def drawn(outcome: Outcome, title: str) -> str:
-    """The picture of a run."""
+def drawn(outcome: Outcome, title: str, opens: float) -> str:
+    """The picture of a run. If it opened at a time in Unix seconds, times are those of the day."""
     moves = outcome.moves
     rows = Rows(max(max(move.planned.end, move.end) for move in moves), len(moves), ROW)
-    pairs = [pair(move, rows, rows.y_of(number)) for number, move in enumerate(moves)]
+    pairs = [pair(move, rows, rows.y_of(number), opens) for number, move in enumerate(moves)]
     kinds = {"planned", "down", *(kind_of(move) for move in moves if move.state != "not begun")}
     return chart.page(
-        rows, title, [*chart.keys(kinds, KEYS), *chart.axis(rows), *(line for each in pairs for line in each)]
+        rows, title, [*chart.keys(kinds, KEYS), *chart.axis(rows, opens), *(line for each in pairs for line in each)]
     )

@@ -69,7 +69,8 @@ class WrittenPages:
     @staticmethod
     def _cause(fault: OSError, begin: int, end: int) -> str:
         if fault.errno == errno.EBUSY:
-            return f"another userfaultfd watches {begin:#x}-{end:#x}: a post-copy migration, or a background snapshot"
+            whose = "another recorder, a post-copy migration, or a background snapshot"
+            return f"another userfaultfd watches {begin:#x}-{end:#x}: {whose}"
         if fault.errno == errno.ESRCH:
             return "the process ended"
         return f"the kernel does not watch {begin:#x}-{end:#x}: {fault.strerror}"

@@ -1,0 +1,63 @@
+import assert from "node:assert/strict";
+import { test } from "node:test";
+import { KeptPlans } from "../../../web/model/kept-plans.js";
+
+const A = { digest: "a", source: { name: "a.pcwt" }, sizes: { last: 9 } };
+const B = { digest: "b", source: { name: "b.pcwt" }, sizes: { last: 9 } };
+
+/** Plans over traces that are opened one after another; `shows` opens one, and has what is kept beside its plan. */
+function kept() {
+  const plans = new KeptPlans(async (trace, settings) => ({ value: { settings } }));
+  let shown = null;
+  return {
+    plans,
+    /** What is shown over a trace with some settings kept over it: of each its name, or the link. */
+    async shows(trace, links) {
+      plans.open(trace, shown);
+      plans.forget();
+      const state = { kept: links.map((link) => ({ link })), settings: { window: 5 } };
+      shown = { trace, kept: await plans.all(trace, state) };
+      return shown.kept.map(({ name, settings: { link } }) => `${link}${name ? ` of ${name}` : ""}`);
+    },
+  };
+}
+
+test("a plan that is kept over another trace has the name of that", async () => {
+  const { shows } = kept();
+  assert.deepEqual(await shows(A, [1]), ["1"]);
+  assert.deepEqual(await shows(B, [2]), ["1 of a.pcwt", "2"]);
+});
+
+test("an address of the trace before shows what is kept over it once", async () => {
+  const { shows } = kept();
+  await shows(A, [1]);
+  await shows(B, [2]);
+  assert.deepEqual(await shows(A, [1]), ["2 of b.pcwt", "1"]);
+  assert.deepEqual(await shows(B, [2]), ["1 of a.pcwt", "2"]);
+  assert.deepEqual(await shows(A, []), ["2 of b.pcwt"]);
+  assert.deepEqual(await shows(B, []), []);
+});
+
+test("a trace that is opened again has what was kept over it", async () => {
+  const { plans, shows } = kept();
+  await shows(A, [1, 3]);
+  await shows(B, []);
+  plans.open(A, null);
+  assert.deepEqual(plans.settings().map(({ link }) => link), [1, 3]);
+  assert.deepEqual(plans.others, []);
+});
+
+test("places count what is shown", async () => {
+  const { plans, shows } = kept();
+  await shows(A, [1, 3]);
+  await shows(B, [2]);
+  await shows(A, [1, 3]);
+  assert.deepEqual(plans.without(1, ["1", "3"]), ["3"]);
+  assert.deepEqual(plans.without(0, ["1", "3"]), ["1", "3"]);
+  assert.deepEqual(plans.others, []);
+  assert.deepEqual(await shows(B, []), ["1 of a.pcwt", "3 of a.pcwt"]);
+  plans.makeRoom([]);
+  assert.deepEqual(plans.others.map(({ settings: { link } }) => link), [1, 3]);
+  plans.makeRoom(["2"]);
+  assert.deepEqual(plans.others.map(({ settings: { link } }) => link), [3]);
+});
