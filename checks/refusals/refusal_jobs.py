@@ -114,8 +114,9 @@ WARM = Job(
 WIDE = "2 workers, 2^18 writes"
 WIDE_SWEEP_WORDS = ["sweep", "--workers", "2", *MANY_CASES.split()]
 WIDE_REPORT_WORDS = ["report", *PLAN, *TABLES, "--workers", "2"]
-WIDE_REPORT = Job(f"report, {WIDE}", WIDE_REPORT_WORDS, MANY_REPORT, "many", savers=(threads.TABLES,))
-WIDE_SWEEP = Job(f"sweep, {WIDE}", WIDE_SWEEP_WORDS, MANY_SWEEP, "many", savers=(threads.CASES,))
+WIDE_REPORT_SAVERS = (threads.TABLES, threads.CALLS)
+WIDE_REPORT = Job(f"report, {WIDE}", WIDE_REPORT_WORDS, MANY_REPORT, "many", savers=WIDE_REPORT_SAVERS)
+WIDE_SWEEP = Job(f"sweep, {WIDE}", WIDE_SWEEP_WORDS, MANY_SWEEP, "many", savers=(threads.CALLS,))
 
 
 class Help(Job):

@@ -4,12 +4,12 @@ import re
 
 # The work of one that only saves time is done by its caller, if it is not started: the threads of `thread::join`.
 INDEX, WRITES, TABLES = "half of an index", "half of the writes", "the tables"
-CASES, PIECES = "half of the cases", "half of the pieces"
+CALLS, PIECES = "half of the cases, or of the pieces of a trace", "half of the pieces of memory"
 SAVERS = {
     INDEX: r"page_versions::index::.*",
     WRITES: r"page_versions::packed::.*",
     TABLES: r"migration_jobs::running::.*",
-    CASES: r"std::thread::fork::.*",
+    CALLS: r"std::thread::fork::.*",
     PIECES: r"core::thread::lent::.*",
 }
 # All others are started by a scope, and are needed. How many kinds of them a live run has at least: it plans, receives,
