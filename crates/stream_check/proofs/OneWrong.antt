@@ -29,8 +29,9 @@ use Rattle.stream_check.specs.declared.faults.FrameFault.{FrameFault}
 use Rattle.stream_check.specs.declared.faults.WrongFrame.{WrongFrame}
 use Rattle.stream_check.specs.declared.faults.WrongPage.{WrongPage}
 use Rattle.stream_check.specs.declared.taken.Taken.{Taken}
-use Rattle.stream_check.proofs.Only.{NextRight, StreamAt, front_not, heads, next_right, no_front, older_not, same_streams}
-use Rattle.stream_check.proofs.Only.{shape_is, stream_at, stream_not, tails, takes_not_stops, text_of_frames}
+use Rattle.stream_check.proofs.Only.{NextRight, StreamAt, front_not, heads, next_right, no_front, older_not}
+use Rattle.stream_check.proofs.Only.{same_streams, shape_is, stream_at, stream_not}
+use Rattle.stream_check.proofs.Only.{tails, takes_not_stops, text_of_frames}
 
 -- ---- one frame is wrong for one thing
 
@@ -159,7 +160,8 @@ none_before : (trace : GuestTrace) (stop : ℕ) (last : List (Option ℕ)) (byte
 none_before trace stop last bytes a b is one two fewer =
     front_not trace stop (last_stamps last one.frames) (drop a.offset bytes) a.fault is
     (next_cut trace stop last one.frames two.frames (drop a.offset bytes) (drop b.offset bytes) is
-    one.begins.are_frames two.begins.are_frames two.begins.right (sym one.begins.text ∙ two.begins.text) fewer) one.wrong
+    one.begins.are_frames two.begins.are_frames two.begins.right (sym one.begins.text ∙ two.begins.text) fewer)
+    one.wrong
 
 same_first : (trace : GuestTrace) (stop : ℕ) (last : List (Option ℕ)) (bytes : List ℕ) (a b : WrongFrame)
     → IsTrace trace → (one : IsFirstWrong trace stop last bytes a) → (two : IsFirstWrong trace stop last bytes b)
@@ -289,8 +291,9 @@ none_behind trace stop greatest found current wrong =
 -- ---- the first thing in all streams
 
 -- the stream behind others, among more right ones
-stream_cut : (trace : GuestTrace) (stop : ℕ) (fs gs : List (List PageFrame)) (bytes : List ℕ) (more behind : List (List ℕ))
-    → All (All (IsFrame (shape_of_trace trace))) gs → All (AreRight trace stop (no_stamps trace.pages)) gs
+stream_cut : (trace : GuestTrace) (stop : ℕ) (fs gs : List (List PageFrame)) (bytes : List ℕ)
+    (more behind : List (List ℕ)) → All (All (IsFrame (shape_of_trace trace))) gs
+    → All (AreRight trace stop (no_stamps trace.pages)) gs
     → texts_of fs ++ bytes ∷ more ≡ texts_of gs ++ behind → length fs < length gs → StreamAt trace stop bytes
 stream_cut trace stop fs [] bytes more behind fit right same fewer = absurd (omega (arith, fewer))
 stream_cut trace stop [] (g ∷ gs) bytes more behind fit right same fewer = record {

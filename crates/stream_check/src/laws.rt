@@ -53,7 +53,7 @@ pub fn pieces_are_as_the_whole()
         → StopsAt trace old new (front ++ more) found }
 {}
 
-/// Of some bytes one part is taken, up to one frame that is wrong, for one thing; and none is wrong where all are right.
+/// Of some bytes one part is taken, up to one frame that is wrong, for one thing; none is wrong where all are right.
 pub fn one_wrong_frame()
     ensures taken { (trace : GuestTrace) (old new other : Checked) (bytes : List ℕ) (a b : Taken) → IsTrace trace
         → TakesAll trace old new bytes a → TakesAll trace old other bytes b → a ≡ b }
