@@ -27,8 +27,8 @@ frame_behind shape (f ∷ fs) (g ∷ gs) rest behind is fits_f fits_g same fewer
     (All-head (IsFrame shape) f fs fits_f) (All-head (IsFrame shape) g gs fits_g)
     (sym (append_assoc (frame_text f) (flat_map frame_text fs) rest) ∙ same
     ∙ append_assoc (frame_text g) (flat_map frame_text gs) behind) in
-    frame_behind shape fs gs rest behind is (All-tail (IsFrame shape) f fs fits_f) (All-tail (IsFrame shape) g gs fits_g)
-    front.1 (omega (arith, fewer))
+    frame_behind shape fs gs rest behind is (All-tail (IsFrame shape) f fs fits_f)
+    (All-tail (IsFrame shape) g gs fits_g) front.1 (omega (arith, fewer))
 
 -- if both have as many, they are the same
 pub same_cut : (shape : GuestShape) (fs gs : List PageFrame) (rest behind : List ℕ) → IsGuestShape shape

@@ -56,5 +56,10 @@ pub flat_never : (shape : GuestShape) (old new : List ℕ) (old_states new_state
     → frame_refusal shape rest ≡ Some e → SpellsStream shape stream frames → ⊥
 flat_never shape old new old_states new_states stream taken rest e frames is takes some refused spells =
     let out = takes_only (flat_part shape old old_states) (flat_part shape new new_states) stream
-    (Err (taken.frames, e)) is tt (rest, takes.takes, some, inr refused) frames spells in
+    (Err (taken.frames, e)) is tt (inr (record {
+      rest = rest;
+      takes = takes.takes;
+      some = some;
+      refused = refused;
+    })) frames spells in
     never_memory shape rest (cc (refused, out))

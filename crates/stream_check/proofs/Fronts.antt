@@ -15,7 +15,7 @@ use Rattle.page_message.specs.Refusals.{frame_refusal}
 use Rattle.page_message.specs.declared.error.FrameError.{FrameError}
 use Rattle.page_message.specs.declared.error.FrameError.TheVariants.{Short}
 use Rattle.stream_check.specs.Stamps.{stamp_of, greater, keep_last, keep_greatest, last_stamps, greatest_stamps}
-use Rattle.stream_check.specs.Faults.{IsRight, AreRight, BeginsRight, IsFault, IsWrongFront}
+use Rattle.stream_check.specs.Faults.{IsRight, AreRight, BeginsRight, IsFault, IsWrongFront, refused_for}
 use Rattle.stream_check.specs.Checked.{Checked, checked_with, after_frames, after_stream, TakesRight, TakesAll}
 use Rattle.stream_check.specs.Checked.{StopsAt}
 use Rattle.stream_check.specs.declared.taken.Taken.{Taken}
@@ -165,7 +165,8 @@ pub short_front : (trace : GuestTrace) (stop : ℕ) (last : List (Option ℕ)) (
     → IsWrongFront trace stop last rest fault → fault.cause ≡ Refused Short
     → frame_refusal (shape_of_trace trace) rest ≡ Some Short
 short_front trace stop last rest fault wrong part = elim wrong [
-  | inl refused ↦ refused.2 ∙ ap (λ (e : FrameError). Some e) (same_cause refused.0 fault.cause refused.1 part)
+  | inl refused ↦ refused.2 ∙ ap (λ (e : FrameError). Some e) (same_cause refused.0 fault.cause
+      (ap (λ (f : FrameFault). f.cause) refused.1) part)
   | inr begins ↦ absurd (subst (λ (c : FrameCause). IsFault trace stop (stamp_of last begins.frame.page) begins.frame c
       fault.wanted) part begins.wrong)
 ]
@@ -208,7 +209,7 @@ last_taken trace old mid new bytes taken all whole is = (
 
 pub cut_wrong : (trace : GuestTrace) (old mid : Checked) (bytes : List ℕ) (taken : Taken) (found : WrongFrame)
     → TakesAll trace old mid bytes taken → taken.bytes < length bytes → found.number ≡ taken.frames
-    → found.offset ≡ taken.bytes → found.fault.cause ≡ Refused Short
+    → found.offset ≡ taken.bytes → found.fault ≡ refused_for Short
     → StopsAt trace old mid bytes found
 cut_wrong trace old mid bytes taken found all cut number offset cause =
     let rest : drop taken.bytes bytes ≡ drop found.offset bytes = ap (λ (n : ℕ). drop n bytes) (sym offset) in

@@ -7,3 +7,4 @@ pub mod Streamed
 pub mod Only
 pub mod Held
 pub mod Pieces
+pub mod OneWrong

@@ -27,21 +27,21 @@ use Rattle.stream_check.specs.declared.faults.FrameFault.{FrameFault}
 use Rattle.stream_check.specs.declared.faults.WrongFrame.{WrongFrame}
 use Rattle.stream_check.specs.declared.taken.Taken.{Taken}
 
-shape_is : (trace : GuestTrace) → IsTrace trace → IsGuestShape (shape_of_trace trace)
+pub shape_is : (trace : GuestTrace) → IsTrace trace → IsGuestShape (shape_of_trace trace)
 shape_is trace is = record { size = is.size; few = is.count }
 
-abbrev text_of_frames : List PageFrame → List ℕ
+abbrev pub text_of_frames : List PageFrame → List ℕ
 text_of_frames frames = flat_map frame_text frames
 
 -- the frame behind those that are taken from a right stream
-record NextRight (trace : GuestTrace) (stop : ℕ) (last : List (Option ℕ)) (rest : List ℕ) : Type 0 where
+pub record NextRight (trace : GuestTrace) (stop : ℕ) (last : List (Option ℕ)) (rest : List ℕ) : Type 0 where
   pub frame : PageFrame
   pub behind : List ℕ
   pub fits : IsFrame (shape_of_trace trace) frame
   pub right : IsRight trace stop (stamp_of last frame.page) frame
   pub text : rest ≡ frame_text frame ++ behind
 
-next_right : (trace : GuestTrace) (stop : ℕ) (last : List (Option ℕ)) (fs gs : List PageFrame) (rest : List ℕ)
+pub next_right : (trace : GuestTrace) (stop : ℕ) (last : List (Option ℕ)) (fs gs : List PageFrame) (rest : List ℕ)
     → IsTrace trace → All (IsFrame (shape_of_trace trace)) fs → All (IsFrame (shape_of_trace trace)) gs
     → AreRight trace stop last gs → 1 ≤ length rest → text_of_frames fs ++ rest ≡ text_of_frames gs
     → NextRight trace stop (last_stamps last fs) rest
@@ -65,7 +65,7 @@ next_right trace stop last (f ∷ fs) (g ∷ gs) rest is fit_f fit_g right some 
     (All-tail (IsFrame shape) g gs fit_g)
     (subst (λ (h : PageFrame). AreRight trace stop (keep_last last h) gs) (sym front.0) right.1) some front.1
 
-older_not : (last : Option ℕ) (stamp wanted : ℕ) → last ≡ Some wanted → stamp < wanted
+pub older_not : (last : Option ℕ) (stamp wanted : ℕ) → last ≡ Some wanted → stamp < wanted
     → IfSome last (λ came. came ≤ stamp) → ⊥
 older_not last stamp wanted is less order =
     let low : wanted ≤ stamp = subst (λ (o : Option ℕ). IfSome o (λ came. came ≤ stamp)) is order in
@@ -80,7 +80,7 @@ fault_not trace stop last frame Older wanted right wrong =
     older_not last frame.stamp wanted wrong.2 wrong.3 right.right.in_order
 fault_not trace stop last frame Bytes wanted right wrong = wrong.1 right.bytes
 
-front_not : (trace : GuestTrace) (stop : ℕ) (last : List (Option ℕ)) (rest : List ℕ) (fault : FrameFault)
+pub front_not : (trace : GuestTrace) (stop : ℕ) (last : List (Option ℕ)) (rest : List ℕ) (fault : FrameFault)
     → IsTrace trace → NextRight trace stop last rest → IsWrongFront trace stop last rest fault → ⊥
 front_not trace stop last rest fault is next wrong = elim wrong [
   | inl refused ↦
@@ -98,7 +98,7 @@ front_not trace stop last rest fault is next wrong = elim wrong [
       begins.wrong)
 ]
 
-stream_not : (trace : GuestTrace) (stop : ℕ) (frames : List PageFrame) (bytes : List ℕ) (found : WrongFrame)
+pub stream_not : (trace : GuestTrace) (stop : ℕ) (frames : List PageFrame) (bytes : List ℕ) (found : WrongFrame)
     → IsTrace trace → All (IsFrame (shape_of_trace trace)) frames → AreRight trace stop (no_stamps trace.pages) frames
     → bytes ≡ text_of_frames frames → IsFirstWrong trace stop (no_stamps trace.pages) bytes found → ⊥
 stream_not trace stop frames bytes found is fit right text wrong =
@@ -110,7 +110,7 @@ stream_not trace stop frames bytes found is fit right text wrong =
 -- ---- a piece
 
 -- no frame is at the front of bytes that are the beginning of one
-no_front : (trace : GuestTrace) (rest behind : List ℕ) (frame : PageFrame) → IsTrace trace
+pub no_front : (trace : GuestTrace) (rest behind : List ℕ) (frame : PageFrame) → IsTrace trace
     → IsFrame (shape_of_trace trace) frame → rest ≡ frame_text frame ++ behind
     → frame_refusal (shape_of_trace trace) rest ≡ Some Short → ⊥
 no_front trace rest behind frame is fits text short =
@@ -125,7 +125,7 @@ short_not : (trace : GuestTrace) (stop : ℕ) (last : List (Option ℕ)) (rest :
 short_not trace stop last rest fault is short other wrong = elim wrong [
   | inl refused ↦
       let same : refused.0 ≡ Short = same_Some refused.0 Short (sym refused.2 ∙ short) in
-      other (refused.1 ∙ ap (λ (e : FrameError). Refused e) same)
+      other (ap (λ (f : FrameFault). f.cause) refused.1 ∙ ap (λ (e : FrameError). Refused e) same)
   | inr begins ↦
       let text : rest ≡ frame_text begins.frame ++ drop begins.size rest =
       sym (take-append-drop begins.size rest) ∙ ap (λ (x : List ℕ). x ++ drop begins.size rest) begins.spells.text in
@@ -177,19 +177,19 @@ takes_not_stops trace old mid new bytes all found is takes other stops =
 -- ---- all streams
 
 -- the stream behind others, among right ones
-record StreamAt (trace : GuestTrace) (stop : ℕ) (bytes : List ℕ) : Type 0 where
+pub record StreamAt (trace : GuestTrace) (stop : ℕ) (bytes : List ℕ) : Type 0 where
   pub frames : List PageFrame
   pub fits : All (IsFrame (shape_of_trace trace)) frames
   pub right : AreRight trace stop (no_stamps trace.pages) frames
   pub text : bytes ≡ text_of_frames frames
 
-heads : (a b : List ℕ) (xs ys : List (List ℕ)) → a ∷ xs ≡ b ∷ ys → a ≡ b
+pub heads : (a b : List ℕ) (xs ys : List (List ℕ)) → a ∷ xs ≡ b ∷ ys → a ≡ b
 heads a b xs ys same = cc same
 
-tails : (a b : List ℕ) (xs ys : List (List ℕ)) → a ∷ xs ≡ b ∷ ys → xs ≡ ys
+pub tails : (a b : List ℕ) (xs ys : List (List ℕ)) → a ∷ xs ≡ b ∷ ys → xs ≡ ys
 tails a b xs ys same = cc same
 
-stream_at : (trace : GuestTrace) (stop : ℕ) (fs gs : List (List PageFrame)) (bytes : List ℕ) (more : List (List ℕ))
+pub stream_at : (trace : GuestTrace) (stop : ℕ) (fs gs : List (List PageFrame)) (bytes : List ℕ) (more : List (List ℕ))
     → All (All (IsFrame (shape_of_trace trace))) gs → All (AreRight trace stop (no_stamps trace.pages)) gs
     → texts_of fs ++ bytes ∷ more ≡ texts_of gs → StreamAt trace stop bytes
 stream_at trace stop [] [] bytes more fit right same = absurd (cc same)
@@ -205,7 +205,7 @@ stream_at trace stop (f ∷ fs) (g ∷ gs) bytes more fit right same =
     (All-tail (AreRight trace stop (no_stamps trace.pages)) g gs right)
     (tails (text_of_frames f) (text_of_frames g) (texts_of fs ++ bytes ∷ more) (texts_of gs) same)
 
-same_streams : (trace : GuestTrace) (fs gs : List (List PageFrame)) → IsTrace trace
+pub same_streams : (trace : GuestTrace) (fs gs : List (List PageFrame)) → IsTrace trace
     → All (All (IsFrame (shape_of_trace trace))) fs → All (All (IsFrame (shape_of_trace trace))) gs
     → texts_of fs ≡ texts_of gs → all_frames fs ≡ all_frames gs
 same_streams trace [] [] is fit_f fit_g same = refl

@@ -171,7 +171,8 @@ wrong_longer trace stop last bytes more fault other wrong = elim wrong [
         refused.0,
         refused.1,
         refused_longer (shape_of_trace trace) bytes more refused.0
-            (λ short. other (refused.1 ∙ ap (λ (e : FrameError). Refused e) short)) refused.2,
+            (λ short. other (ap (λ (f : FrameFault). f.cause) refused.1
+            ∙ ap (λ (e : FrameError). Refused e) short)) refused.2,
       )
   | inr begins ↦
       let front : List ℕ = take begins.size bytes in

@@ -73,10 +73,14 @@ pub record BeginsWrong (trace : GuestTrace) (stop : ℕ) (last : List (Option �
   pub stamp_is : fault.stamp ≡ frame.stamp
   pub wrong : IsFault trace stop (stamp_of last frame.page) frame fault.cause fault.wanted
 
+-- what is wrong with bytes that are refused as a frame: that alone, without a page and its stamps
+abbrev pub refused_for : FrameError → FrameFault
+refused_for e = record { cause = Refused e; page = 0; stamp = 0; wanted = 0 }
+
 -- this is wrong at the front of some bytes: they are refused as a frame, or their first frame is wrong
 abbrev pub IsWrongFront : GuestTrace → ℕ → List (Option ℕ) → List ℕ → FrameFault → Type 0
 IsWrongFront trace stop last bytes fault =
-    ((e : FrameError) × (fault.cause ≡ Refused e) × (frame_refusal (shape_of_trace trace) bytes ≡ Some e))
+    ((e : FrameError) × (fault ≡ refused_for e) × (frame_refusal (shape_of_trace trace) bytes ≡ Some e))
     ⊎ BeginsWrong trace stop last bytes fault
 
 -- The first frame of a stream's bytes that is wrong, by its number and where it begins, after these last stamps of the

@@ -1,6 +1,7 @@
 //! The checker: what it knows of the streams that came, and how it takes more.
 
-// `SpellsStream` holds of one value alone: `one_frame`.
+// `SpellsStream` holds of one value alone: `one_frame`. `TakesAll` does: `one_wrong_frame`. `StopsAt` does, and not
+// where `TakesAll` or the end of a right stream holds: `one_wrong_frame`. `IsFirstBehind` does: `one_wrong_page`.
 
 ghost use Rattle.std.specs.Prelude.{◌≡◌, ◌≢◌, ◌<◌, ◌≤◌, ◌^◌, [], List, IfErr, IfOk, OnErr, OnOk, Some, drop, length};
 ghost use Rattle.std.specs.Prelude.{slice_set};
@@ -11,7 +12,7 @@ ghost use Rattle.stream_check.specs.Checked.{StopsAt, TakesAll, TakesRight, afte
 ghost use Rattle.stream_check.specs.Checked.{unchecked};
 ghost use Rattle.stream_check.specs.Ends.{AreCurrentStamps, IsFirstBehind};
 ghost use Rattle.migration_model.specs.Frames.{PageFrame};
-ghost use Rattle.stream_check.specs.Faults.{BeginsRight, IsFirstWrong, IsWrongFront};
+ghost use Rattle.stream_check.specs.Faults.{BeginsRight, IsFirstWrong, IsWrongFront, refused_for};
 ghost use Rattle.stream_check.specs.declared.faults.FrameCause.TheVariants.{Refused};
 ghost use Rattle.page_message.specs.declared.error.FrameError.TheVariants.{Short};
 ghost use Rattle.stream_check.specs.Stamps.{greater, no_stamps, stamp_of};
@@ -80,7 +81,7 @@ fn end_at(fault: FrameFault, number: usize, offset: usize) -> Result<Taken, Wron
 fn cut_off(taken: Taken) -> WrongFrame
     ensures number { result.number ≡ taken.frames }
     ensures offset { result.offset ≡ taken.bytes }
-    ensures cause { result.fault.cause ≡ Refused Short }
+    ensures fault { result.fault ≡ refused_for Short }
 {
     WrongFrame {
         number: taken.frames,

@@ -20,6 +20,9 @@ mod testing;
 pub use checker::StreamChecker;
 pub use error::StreamsError;
 pub use faults::{FrameCause, FrameFault, WrongFrame, WrongPage};
-pub use laws::{pieces_are_as_the_whole, right_streams_make_memory, versions_are_as_at_the_stop};
+pub use laws::{
+    one_first_thing, one_wrong_frame, one_wrong_page, pieces_are_as_the_whole,
+    right_streams_make_memory, versions_are_as_at_the_stop,
+};
 pub use streams::check_streams;
 pub use taken::Taken;

@@ -1,5 +1,7 @@
 //! All streams of a migration, checked at once.
 
+// `IsWrongIn` holds of one value alone: `one_first_thing`. `IsWrongAtEnd` does: `one_first_thing`.
+
 ghost use Rattle.std.specs.Prelude.{◌≡◌, ◌≤◌, IfErr, OnOk, length, sum};
 ghost use Rattle.page_versions.specs.Index.{IsIndexOf};
 ghost use Rattle.stream_check.specs.Streams.{IsAllRight, IsFirstThing, cut_by};

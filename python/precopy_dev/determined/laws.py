@@ -32,10 +32,11 @@ class Laws:
                     self.read(crate, call, clause, parsed(text))
 
     def read(self, crate, call, clause, tree):
-        """Takes up a clause `R a x → R a y → x ≡ y`, or `R a x → result ≡ Err x`, or `R x → ¬ S x`, for all x and y."""
+        """Takes up a clause `R a x → R a y → x ≡ y`, or `R a x → result ≡ Err x`, or `R x → ¬ S x`, for all x and y,
+        whatever premises stand before."""
         names, premises, end = parts_of(tree)
-        if end[0] == "app" and end[1] == ("id", "¬") and len(premises) == 1 and not premises[0][0] == "bin":
-            self.apart.append((call.name, {*names}, premises[0], end[2][0]))
+        if end[0] == "app" and end[1] == ("id", "¬") and premises and not premises[-1][0] == "bin":
+            self.apart.append((call.name, {*names}, premises[-1], end[2][0]))
         if end[0] != "bin" or end[1] != "≡":
             return
         left, right = end[2], end[3]
