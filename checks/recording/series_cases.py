@@ -208,8 +208,9 @@ def guest_of_a_series_ends(_, folder):
         run.end()
     expect(run.status == 0 and "the process ended" in run.faults, f"{run.status}, {run.faults!r}")
     found = segments_in(folder)
-    later = sum(tick > 1000 for tick, _ in found[-1][2])
-    expect_in_time(len(found) == 2 and later == 100, f"{len(found)} segments, {later} writes in the last one")
+    # Beside other work a segment may end between the writes and the end of the guest.
+    later = [sum(tick > 1000 for tick, _ in written) for _, _, written, _ in found]
+    expect_in_time(len(found) > 1 and sum(later) == 100, f"writes in the segments: {later}")
     expect_no_parts(folder)
 
 
