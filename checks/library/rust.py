@@ -79,6 +79,12 @@ def prediction_lines(it):
         yield f"errors {it.errors.bytes} {it.errors.time} {it.errors.downtime}"
 
 
+def agreement_line(it):
+    draws = f"{it.draws} {it.draws_known} {it.draws_converging} {it.draws_kept}"
+    starts = f"{it.starts} {it.starts_converging} {it.starts_kept}"
+    return f"agreement {draws} {starts} {it.converges.name.capitalize()} {it.kept.name.capitalize()}"
+
+
 def amounts_line(it):
     amounts = (it.link, it.downtime, it.speed, it.ending_link, it.ending_start)
     link, downtime, speed, *ending = ["-" if amount is None else str(amount) for amount in amounts]
@@ -116,6 +122,7 @@ def answer_lines(trace, settings):
         yield f"before {precopy.memory_before(trace, sums.stop).hex()}"
         yield from finding_lines(trace, sizes, sums.stop)
         yield from prediction_lines(precopy.predict(trace, question(sizes, settings)))
+        yield agreement_line(precopy.agreement(trace, question(sizes, settings)))
         yield amounts_line(precopy.enough(trace, question(sizes, settings)))
     except precopy.Refused as refused:
         yield f"refused {refused.status:d} {refused}"
