@@ -341,7 +341,8 @@ struct precopy_question {
 enum precopy_verdict {
     PRECOPY_YES = 0,
     PRECOPY_NO = 1,
-    PRECOPY_UNKNOWN = 2 /* the trace ends before the migration does */
+    PRECOPY_UNKNOWN = 2,  /* the trace ends before the migration does */
+    PRECOPY_UNCERTAIN = 3 /* chance, or the start, decides: precopy_agreement alone tells it */
 };
 
 /*
@@ -382,6 +383,30 @@ struct precopy_errors {
 PRECOPY_ANSWERS PRECOPY_NOT_NULL(3, 4, 5, 6)
 uint32_t precopy_predict(const uint8_t *trace, size_t trace_length, const struct precopy_question *question,
                          struct precopy_prediction *prediction, struct precopy_errors *errors, uint32_t *record);
+
+/* How sure a prediction is. Of the starts those count from which the migration ends within the trace. */
+struct precopy_agreement {
+    uint64_t draws;             /* how often the pages of a sample are drawn again: 20, or 0 if there are no errors */
+    uint64_t draws_known;       /* in how many of these draws the migration ends within the trace */
+    uint64_t draws_converging;  /* in how many it converges */
+    uint64_t draws_kept;        /* in how many it keeps the downtime limit */
+    uint64_t starts;            /* from how many of at most 21 starts, spread over the trace, it ends within it */
+    uint64_t starts_converging; /* from how many it converges */
+    uint64_t starts_kept;       /* from how many it keeps the downtime limit */
+    uint32_t converges;         /* of enum precopy_verdict: whether it surely converges */
+    uint32_t kept;              /* of enum precopy_verdict: whether it surely keeps the downtime limit */
+};
+
+/*
+ * Sets *agreement to how sure the verdicts of precopy_predict are, as `precopy-view predict` tells it: an answer is
+ * uncertain unless 19 of 20 draws, and 19 in 20 of the starts, have it too. A limit is surely kept if two standard
+ * errors more of the downtime are within it.
+ *
+ * It tests what precopy_predict does, in the same order. It takes memory as that does, and the time of 62 plans.
+ */
+PRECOPY_ANSWERS PRECOPY_NOT_NULL(3, 4, 5)
+uint32_t precopy_agreement(const uint8_t *trace, size_t trace_length, const struct precopy_question *question,
+                           struct precopy_agreement *agreement, uint32_t *record);
 
 /*
  * What is enough for the downtime limit of a question, each amount by itself, in the question's units. A limit is kept

@@ -42,7 +42,9 @@ TOLD_STATUSES = (
     (r"^precopy(-view)?: (settings|cases?\b|--)|^error: ", 2),
     (r"^precopy(-view)?: (trace|memory|live|write)", 1),
     (r"^converges: unknown", 4),
-    (r", not kept$", 3),
+    (r"^downtime: .*, kept: uncertain", 5),
+    (r"^downtime: .*, kept: no", 3),
+    (r"^best: .*, not kept$", 3),
 )
 # Words that look like files and are none of the repository's.
 NO_FILES = {"crates/precopy/out/precopy", "manifest.json"}

@@ -11,21 +11,21 @@ from checks.lib.amount_texts import error_text, moment_text, rate_word, size_tex
 from checks.lib.host_words import host_lines, hosts_member
 from checks.lib.look_model import look_lines, look_member
 from checks.lib.traces import Trace
-from precopy_dev.models import redrawn, remedies, shares
+from precopy_dev.models import agreements, redrawn, remedies, shares
 
 REASONS = {
-    "few": ("yes, rounds: ", ""),
+    "few": ("; rounds: ", ""),
     "fast": (
-        "no, the guest writes faster than the link sends; rounds: ",
+        "; the guest writes faster than the link sends; rounds: ",
         "the plan ends with `fast`, so nothing bounds the downtime; give more of the link",
     ),
     "rounds": (
-        "no, all rounds that are allowed are done; rounds: ",
+        "; all rounds that are allowed are done; rounds: ",
         "the plan ends with `rounds`, so nothing bounds the downtime; allow more rounds",
     ),
 }
 ERRORS = ("sent_bytes", "time_seconds", "down_seconds")
-STATUSES = {"yes": 0, "no": 3, "unknown": 4}
+STATUSES = {"yes": 0, "no": 3, "unknown": 4, "uncertain": 5}
 
 
 # ---- Words.
@@ -169,7 +169,8 @@ def _refused(number, name, word, asked, why, nearest, which="nearest") -> Refusa
 
 
 class Answer(NamedTuple):
-    """What is predicted: times in microseconds. Errors are of bytes, time and downtime, if there are any."""
+    """What is predicted: times in microseconds. Errors are of bytes, time and downtime, if there are any. `converges`
+    and `kept` are of the plan alone."""
 
     converges: str
     kept: str
@@ -181,9 +182,15 @@ class Answer(NamedTuple):
     left: int
     recorded: int
     errors: Optional[tuple[int, int, int]]
+    agreement: agreements.Agreement
+    sure_converges: str
+    sure_kept: str
     share: shares.LinkShare
     enough: remedies.Remedies
     plan: redrawn.Outcome
+
+    def is_sure(self) -> bool:
+        return self.sure_converges == self.sure_kept == "yes"
 
 
 def answer_of(asked: Question, trace: Trace) -> Optional[Answer]:
@@ -195,6 +202,8 @@ def answer_of(asked: Question, trace: Trace) -> Optional[Answer]:
     time, down, sent = asked.cost(asked.start, plan)
     is_late = plan.stop > trace.last
     has_errors = not is_late and 2 <= asked.sampled < asked.guest and asked.sampled <= 65_536
+    trial = asked.trial()
+    agreement = agreements.agreement(trace.guest, trial)
     return Answer(
         "unknown" if is_late else "yes" if plan.reason == "few" else "no",
         "unknown" if is_late else "yes" if down <= asked.downtime else "no",
@@ -206,10 +215,26 @@ def answer_of(asked: Question, trace: Trace) -> Optional[Answer]:
         plan.left,
         max(0, trace.last - asked.start) * asked.tick,
         redrawn.errors(trace.guest, settings, asked.scale()) if has_errors else None,
-        shares.link_share(trace.guest, asked.trial()),
-        remedies.remedies(trace.guest, asked.trial()),
+        agreement,
+        agreements.converges(trace.guest, trial, agreement),
+        agreements.kept(trace.guest, trial, agreement),
+        shares.link_share(trace.guest, trial),
+        remedies.remedies(trace.guest, trial),
         plan,
     )
+
+
+def agreement_words(found: agreements.Agreement, name: str) -> str:
+    """In how many draws, if pages were sampled, and from how many starts something is so."""
+    draws = "," if found.draws is None else f", in {getattr(found.draws, name)} of {found.draws.whole} redraws and"
+    return f"{draws} from {getattr(found.starts, name)} of {found.starts.whole} starts"
+
+
+def draws_member(found: agreements.Agreement) -> dict:
+    """The answers of the draws, if pages were sampled."""
+    if found.draws is None:
+        return {}
+    return {"redraws": dict(zip(("count", "known", "converging", "kept"), found.draws))}
 
 
 def lines_of(asked: Question, told: Answer) -> list[str]:
@@ -222,10 +247,10 @@ def lines_of(asked: Question, told: Answer) -> list[str]:
     ends, warning = REASONS[told.why]
     down = f"{time_text(told.downtime)}, limit: {time_text(asked.downtime)}"
     lines = [
-        f"converges: {ends}{told.rounds}",
+        f"converges: {told.sure_converges}{agreement_words(told.agreement, 'converging')}{ends}{told.rounds}",
         f"total time: {time_text(told.time)}",
         f"sent: {size_text(told.sent)}",
-        f"downtime: {down}, {'kept' if told.kept == 'yes' else 'not kept'}",
+        f"downtime: {down}, kept: {told.sure_kept}{agreement_words(told.agreement, 'kept')}",
     ]
     if told.errors:
         sent, time, down = told.errors
@@ -238,7 +263,7 @@ def all_lines(asked: Question, told: Answer, trace: Trace) -> list[str]:
     """All lines of `precopy-view predict`."""
     hosts = host_lines(asked.link, asked.millis_for_pages())
     ranges = [*look_lines(asked, trace), *Starts(asked, trace).lines(), *share_model.share_lines(told.share)]
-    enough = [*remedy_model.enough_lines(told.enough), live_line(asked.settings())]
+    enough = [*remedy_model.enough_lines(told.enough, told.is_sure()), live_line(asked.settings())]
     return [*lines_of(asked, told), *ranges, *enough, *hosts]
 
 
@@ -271,13 +296,14 @@ def document_of(asked: Question, told: Answer, trace: Trace) -> dict:
             "start": settings.start,
             **base,
         },
-        "converges": told.converges,
-        "kept": told.kept,
+        "converges": told.sure_converges,
+        "kept": told.sure_kept,
         "recorded_seconds": seconds(told.recorded),
         **look_member(asked, trace),
+        **draws_member(told.agreement),
         **Starts(asked, trace).member(),
         **share_model.share_member(told.share),
-        "enough": remedy_model.enough_member(told.enough, seconds),
+        "enough": remedy_model.enough_member(told.enough, told.is_sure(), seconds),
         "hosts": hosts_member(asked.link, asked.millis_for_pages()),
     }
     if told.kept == "unknown":

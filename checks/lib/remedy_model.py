@@ -4,24 +4,31 @@ page by page."""
 from precopy_dev.models.remedies import Remedies
 
 LINES = {
-    "asked": "enough: what is asked; also one of these, changed alone",
-    "other": "enough: one of these, changed alone",
+    "asked": "enough: what is asked; by its plan alone also one of these, changed alone",
+    "other": "enough: by its plan alone, one of these, changed alone",
     "nothing": "enough: nothing that was tried",
     "unknown": "enough: unknown, since the trace ends before the migration does",
+    "uncertain": "enough: uncertain; give more of the link, or a longer downtime",
 }
 
 
-def answer_of(found: Remedies) -> str:
-    if found.is_kept:
+def answer_of(found: Remedies, sure: bool) -> str:
+    """What is enough; `sure` says whether what is asked surely is."""
+    if sure:
         return "asked"
     if not found.ending.ends:
         return "unknown"
+    if found.is_kept:
+        return "uncertain"
     return "nothing" if found[1:4] == (None, None, None) else "other"
 
 
-def enough_lines(found: Remedies) -> list[str]:
+def enough_lines(found: Remedies, sure: bool) -> list[str]:
     """The lines of `precopy-view predict`."""
-    lines = [LINES[answer_of(found)]]
+    answer = answer_of(found, sure)
+    lines = [LINES[answer]]
+    if answer == "uncertain":
+        return lines
     if found.link is not None:
         lines.append(f"enough: --link {found.link}Kbit")
     if found.downtime is not None:
@@ -35,9 +42,11 @@ def enough_lines(found: Remedies) -> list[str]:
     return lines
 
 
-def enough_member(found: Remedies, seconds) -> dict:
+def enough_member(found: Remedies, sure: bool, seconds) -> dict:
     """The member of `precopy-view json predict`, with times by a function of microseconds."""
-    member = {"answer": answer_of(found)}
+    member = {"answer": answer_of(found, sure)}
+    if member["answer"] == "uncertain":
+        return member
     if found.link is not None:
         member["link_bytes"] = 125 * found.link
     if found.downtime is not None:

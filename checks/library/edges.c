@@ -32,6 +32,7 @@ static void nulls_of_traces(void) {
     struct precopy_prediction told;
     struct precopy_errors errors;
     struct precopy_amounts amounts;
+    struct precopy_agreement agreement;
     uint32_t written;
     size_t count = 9;
     ROW(precopy_check_trace(NULL, 0, &found, &record) == PRECOPY_SHORT_HEADER);
@@ -42,6 +43,7 @@ static void nulls_of_traces(void) {
     ROW(precopy_report(trace, sizeof trace, &good, NULL, 0, &count, &record) == PRECOPY_SHORT_BUFFER && count > 100);
     ROW(precopy_predict(NULL, 0, &asked, &told, &errors, &record) == PRECOPY_SHORT_HEADER);
     ROW(precopy_enough(NULL, 0, &asked, &amounts, &record) == PRECOPY_SHORT_HEADER);
+    ROW(precopy_agreement(NULL, 0, &asked, &agreement, &record) == PRECOPY_SHORT_HEADER);
     ROW(precopy_sweep(NULL, 0, NULL, 0, NULL, 0, &count, &record) == PRECOPY_SHORT_HEADER);
     ROW(precopy_sweep(trace, sizeof trace, NULL, 0, NULL, 0, &count, &record) == PRECOPY_OK && count == 0);
     ROW(precopy_sweep(trace, sizeof trace, &good, 1, NULL, 0, &count, &record) == PRECOPY_SHORT_BUFFER && count == 0);
@@ -145,6 +147,19 @@ static void order_of_amounts(void) {
     ROW(precopy_enough(trace, sizeof trace, &other, &amounts, &record) == PRECOPY_OTHER_PAGES);
 }
 
+static void order_of_agreements(void) {
+    struct precopy_question other = asked;
+    struct precopy_agreement agreement;
+    ROW(precopy_agreement(trace, sizeof trace, &asked, &agreement, &record) == PRECOPY_OK && agreement.draws == 0);
+    other.size = 0, other.tick = 0;
+    ROW(precopy_agreement(trace, 5, &other, &agreement, &record) == PRECOPY_BAD_SIZE);
+    other.size = sizeof other;
+    ROW(precopy_agreement(trace, 5, &other, &agreement, &record) == PRECOPY_BAD_TICK);
+    other = asked, other.page = 32, other.link = 32000;
+    ROW(precopy_agreement(trace, 32, &other, &agreement, &record) == PRECOPY_SHORT_RECORD && forget() == 0);
+    ROW(precopy_agreement(trace, sizeof trace, &other, &agreement, &record) == PRECOPY_OTHER_PAGES);
+}
+
 static void order_of_places(void) {
     struct precopy_write writes[1];
     uint32_t version;
@@ -191,6 +206,7 @@ int main(void) {
     order_of_traces();
     order_of_questions();
     order_of_amounts();
+    order_of_agreements();
     order_of_places();
     order_of_frames();
     printf("%d passed, %d failed\n", passed, failed);

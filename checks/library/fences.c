@@ -196,6 +196,14 @@ uint32_t __wrap_precopy_enough(const uint8_t *trace, size_t length, const struct
         &all, __real_precopy_enough(IN(trace, length), length, IN(question, 1), OUT(amounts, 1), OUT(record, 1)));
 }
 
+FENCED(agreement);
+uint32_t __wrap_precopy_agreement(const uint8_t *trace, size_t length, const struct precopy_question *question,
+                                  struct precopy_agreement *agreement, uint32_t *record) {
+    struct fences all = {.count = 0};
+    return given_back(
+        &all, __real_precopy_agreement(IN(trace, length), length, IN(question, 1), OUT(agreement, 1), OUT(record, 1)));
+}
+
 FENCED(memory);
 uint32_t __wrap_precopy_memory(const uint8_t *trace, size_t length, uint8_t *memory, size_t memory_length,
                                size_t *needed, uint32_t *record) {

@@ -74,7 +74,7 @@ def numbers_of_questions(trace):
     ends |= {"start": (0, (1 << 40) - 1), "base": (0, 0), "skip": (0, 1)}
     asked = {"link": 1_000 * page, "downtime": 0, "page": page, "sampled": pages, "guest": pages}
     for name, each in ends.items():
-        for call in (precopy.predict, precopy.enough):
+        for call in (precopy.predict, precopy.agreement, precopy.enough):
             yield f"{call.__name__}, {name}", answered_with(call, trace, asked, name.split()[0]), each
 
 
@@ -151,7 +151,7 @@ def taking_bytes(trace, stream):
     yield "sweep", trace, lambda it: precopy.sweep(it, [settings, settings])
     page = 1 << trace[5] if trace[5:6] and 4 <= trace[5] <= 12 else 4096
     question = precopy.Question(link=100 * page, downtime=5000, page=page)
-    for call in (precopy.predict, precopy.enough):
+    for call in (precopy.predict, precopy.agreement, precopy.enough):
         yield call.__name__, trace, lambda it, c=call: c(it, question)
     for call in (precopy.check_trace, precopy.memory, precopy.is_zero):
         yield call.__name__, trace, call

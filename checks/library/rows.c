@@ -141,6 +141,28 @@ static void predictions(void) {
     ROW(told.rounds == 1 && told.stop == 1701 && told.recorded == 1299000 && told.kept == PRECOPY_YES);
 }
 
+static int is_sure(const struct precopy_question *asked, struct precopy_agreement wanted) {
+    struct precopy_agreement told;
+    memset(&told, 9, sizeof told);
+    return precopy_agreement(trace, sizeof trace, asked, &told, &record) == PRECOPY_OK
+           && !memcmp(&told, &wanted, sizeof told);
+}
+
+/* The counts are those of python/precopy_dev/models/agreements.py. */
+static void agreements(void) {
+    struct precopy_question asked = half;
+    uint32_t yes = PRECOPY_YES, no = PRECOPY_NO, unknown = PRECOPY_UNKNOWN, uncertain = PRECOPY_UNCERTAIN;
+    ROW(is_sure(&asked, (struct precopy_agreement){20, 9, 9, 9, 5, 5, 5, uncertain, uncertain}));
+    asked.guest = 4, asked.link = 64, asked.first = 32;
+    ROW(is_sure(&asked, (struct precopy_agreement){0, 0, 0, 0, 5, 5, 5, yes, yes}));
+    asked.rounds = 1, asked.downtime = asked.reserve = 0;
+    ROW(is_sure(&asked, (struct precopy_agreement){0, 0, 0, 0, 5, 0, 0, no, no}));
+    asked.rounds = 8, asked.downtime = 100000, asked.reserve = 50000;
+    ROW(is_sure(&asked, (struct precopy_agreement){0, 0, 0, 0, 0, 0, 0, unknown, unknown}));
+    asked.has_base = 1, asked.base = 6, asked.start = 1201;
+    ROW(is_sure(&asked, (struct precopy_agreement){0, 0, 0, 0, 16, 16, 16, yes, yes}));
+}
+
 /* Compares all fields; behind the last there is a gap. */
 static int are_amounts(const struct precopy_amounts *one, const struct precopy_amounts *other) {
     return !memcmp(one, other, offsetof(struct precopy_amounts, ends) + sizeof one->ends);
@@ -171,10 +193,13 @@ static uint32_t refused(struct precopy_question asked) {
     struct precopy_prediction told = {9, 9, 9, 9, 9, 9, 9, 9, 9, 9, 9, 9};
     struct precopy_errors errors = {9, 9, 9, 9};
     struct precopy_amounts amounts = {9, 9, 9, 9, 9, 9, 9, 9, 9, 9, 9, 9}, before = amounts;
+    struct precopy_agreement sure = {9, 9, 9, 9, 9, 9, 9, 9, 9}, not_sure = sure;
     uint32_t status = precopy_predict(trace, sizeof trace, &asked, &told, &errors, &record);
     ROW(told.time == 9 && told.kept == 9 && are_errors(&errors, 9, 9, 9, 9) && record == 9);
     ROW(precopy_enough(trace, sizeof trace, &asked, &amounts, &record) == status);
     ROW(are_amounts(&amounts, &before) && record == 9);
+    ROW(precopy_agreement(trace, sizeof trace, &asked, &sure, &record) == status);
+    ROW(!memcmp(&sure, &not_sure, sizeof sure) && record == 9);
     return status;
 }
 
@@ -480,6 +505,7 @@ int main(void) {
     sweeps();
     sizes_of_settings();
     predictions();
+    agreements();
     amounts();
     questions();
     memories();

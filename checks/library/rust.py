@@ -99,7 +99,15 @@ def prediction_lines(trace, asked):
     if 2 <= told.sampled <= 65_536:
         sent, time, down = redrawn.errors(trace.guest, told.settings(), told.scale())
         yield f"errors {sent} {time} {down}"
+    yield agreement_line(it)
     yield amounts_line(it.enough)
+
+
+def agreement_line(told):
+    found = told.agreement
+    draws = found.draws or (0, 0, 0, 0)
+    counts = " ".join(map(str, [*draws, found.starts.whole, found.starts.converging, found.starts.kept]))
+    return f"agreement {counts} {told.sure_converges.capitalize()} {told.sure_kept.capitalize()}"
 
 
 def amounts_line(it):

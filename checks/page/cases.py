@@ -375,12 +375,12 @@ def check_facts(precopy, asked, found, document):
 
 
 def check_document(document, wanted):
-    """Compares a document of `json predict` with what a migration comes to."""
-    told = {name: document[name] for name in ("converges", "kept")}
-    told["recorded"] = micros(document["recorded_seconds"])
-    if document["kept"] != "unknown":
-        migration = document["migration"]
+    """Compares a document of `json predict` with what a migration comes to by its plan."""
+    told = {"converges": "unknown", "kept": "unknown", "recorded": micros(document["recorded_seconds"])}
+    if migration := document.get("migration"):
         told |= {
+            "converges": "yes" if migration["why"] == "few" else "no",
+            "kept": "yes" if migration["down_seconds"] <= document["limits"]["down_seconds"] else "no",
             "time": micros(migration["time_seconds"]),
             "sent": migration["sent_bytes"],
             "down": micros(migration["down_seconds"]),
@@ -396,7 +396,7 @@ def predicted(view, asked, found):
     status, text, faults = ran(view, words, asked.known.path)
     lines = text.splitlines()
     live = next((line for line in lines if line.startswith("precopy live ")), None)
-    if status not in (0, 3, 4) or live is None or f"{live} < TRACE" != found["commands"]["live"]:
+    if status not in (0, 3, 4, 5) or live is None or f"{live} < TRACE" != found["commands"]["live"]:
         raise Failure(f"{words}: status {status}, {faults!r}, {live!r} in place of {found['commands']['live']!r}")
     _, text, _ = ran(view, ["json", *words], asked.known.path)
     return document_of("predict", text)

@@ -62,9 +62,9 @@ def enough_in(lines):
 
 
 def enough_of(document):
-    """The same by a document of `json predict`, if it has that."""
+    """The same by a document of `json predict`, if it has that. It tells no amount of what is uncertain."""
     told = document and document.get("enough")
-    if not told:
+    if not told or told["answer"] == "uncertain":
         return None
     down = told.get("down_seconds")
     return Remedies(

@@ -23,7 +23,7 @@ from checks.predictions.doors import DOORS, Programs, asker, compare
 from checks.predictions.questions import Asked
 from precopy_dev.tree import TOP
 
-LEAST = {"yes": 30, "no": 10, "unknown": 10, "refused": 4}
+LEAST = {"yes": 20, "no": 10, "uncertain": 20, "unknown": 10, "refused": 4}
 FEW, AT_ONCE = 6, 4
 
 
@@ -32,7 +32,7 @@ def tried(programs: Programs, some: list[Asked]) -> tuple[list[str], list[str]]:
     answers = [answer_of(asked.question, asked.trace) for asked in some]
     doors = [door(programs) for door in DOORS if not door.lacking(programs)]
     found = [fault for door in doors for fault in compare(door, some, answers)]
-    return [answer.kept if answer else "refused" for answer in answers], found
+    return [answer.sure_kept if answer else "refused" for answer in answers], found
 
 
 def draw_and_trace(asked: Asked) -> str:

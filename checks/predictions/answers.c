@@ -4,8 +4,8 @@
  *     prediction_answers TRACE
  *
  * Each line of standard input has the numbers of a question, in the order of struct precopy_question, but for its size.
- * It prints a line for each: the numbers of the prediction, of its errors, and of what is enough in their order, or the
- * status alone. It asks both calls, whose statuses must be equal.
+ * It prints a line for each: the numbers of the prediction, of its errors, of what is enough and of how sure it is in
+ * their order, or the status alone. It asks the three calls, whose statuses must be equal.
  */
 #include "precopy.h"
 
@@ -37,7 +37,7 @@ static int read_question(struct precopy_question *asked) {
 }
 
 static void print_answer(const struct precopy_prediction *it, const struct precopy_errors *errors,
-                         const struct precopy_amounts *enough) {
+                         const struct precopy_amounts *enough, const struct precopy_agreement *sure) {
     const uint64_t numbers[] = {it->rounds,
                                 it->reason,
                                 it->stop,
@@ -65,7 +65,16 @@ static void print_answer(const struct precopy_prediction *it, const struct preco
                                 enough->has_ending_link,
                                 enough->has_ending_start,
                                 enough->is_kept,
-                                enough->ends};
+                                enough->ends,
+                                sure->draws,
+                                sure->draws_known,
+                                sure->draws_converging,
+                                sure->draws_kept,
+                                sure->starts,
+                                sure->starts_converging,
+                                sure->starts_kept,
+                                sure->converges,
+                                sure->kept};
     for (size_t i = 0; i < sizeof numbers / sizeof *numbers; i++) {
         printf("%s%" PRIu64, i ? " " : "", numbers[i]);
     }
@@ -86,13 +95,18 @@ int main(int argc, char **argv) {
         struct precopy_prediction told;
         struct precopy_errors errors;
         struct precopy_amounts enough;
+        struct precopy_agreement sure;
         uint32_t record, status = precopy_predict(trace, length, &asked, &told, &errors, &record);
         if (precopy_enough(trace, length, &asked, &enough, &record) != status) {
             fprintf(stderr, "precopy_enough does not return %" PRIu32 "\n", status);
             return 1;
         }
+        if (precopy_agreement(trace, length, &asked, &sure, &record) != status) {
+            fprintf(stderr, "precopy_agreement does not return %" PRIu32 "\n", status);
+            return 1;
+        }
         if (status == PRECOPY_OK) {
-            print_answer(&told, &errors, &enough);
+            print_answer(&told, &errors, &enough, &sure);
         } else {
             printf("%" PRIu32 "\n", status);
         }

@@ -21,6 +21,9 @@ from precopy_tools.predict import command
 
 LIBRARY = os.path.join(TOP, "out", "library")
 SECONDS, HOW = 600, {"capture_output": True, "text": True, "check": False}
+VERDICTS = ("yes", "no", "unknown", "uncertain")
+AGREEMENT = ("draws", "draws_known", "draws_converging", "draws_kept", "starts", "starts_converging", "starts_kept")
+AGREEMENT += ("converges", "kept")
 # Lines of tools/predict that are its own, and not those of precopy-view.
 OF_TOOL = (
     "taken: ",
@@ -90,7 +93,7 @@ class Lines(Door):
 
     def wanted(self, asked: Asked, answer: Answer) -> object:
         lines = all_lines(asked.question, answer, asked.trace)
-        return [STATUSES[answer.kept], "".join(f"{line}\n" for line in lines), ""]
+        return [STATUSES[answer.sure_kept], "".join(f"{line}\n" for line in lines), ""]
 
     def refused(self, asked: Asked, refusal: Refusal) -> object:
         return refusal.of_view()
@@ -114,7 +117,7 @@ class Document(Lines):
         return [status, parsed("predict", text) if text else "", faults]
 
     def wanted(self, asked: Asked, answer: Answer) -> object:
-        return [STATUSES[answer.kept], document_of(asked.question, answer, asked.trace), ""]
+        return [STATUSES[answer.sure_kept], document_of(asked.question, answer, asked.trace), ""]
 
 
 class Tool(Door):
@@ -143,8 +146,8 @@ class Tool(Door):
         hosts = host_lines(question.link, question.millis_for_pages()) if is_whole else []
         ranges = [*look_lines(question, asked.trace), *Starts(question, asked.trace).lines()]
         ranges += share_lines(answer.share)
-        lines = [*lines_of(question, answer), *ranges, *enough_lines(answer.enough), *hosts]
-        return [STATUSES[answer.kept], lines, ""]
+        lines = [*lines_of(question, answer), *ranges, *enough_lines(answer.enough, answer.is_sure()), *hosts]
+        return [STATUSES[answer.sure_kept], lines, ""]
 
     def refused(self, asked: Asked, refusal: Refusal) -> object:
         """The tool tells of the rate before it asks."""
@@ -217,13 +220,21 @@ class Library(Door):
         numbers |= {name: getattr(answer.plan, name) for name in ("stop", "down", "total")}
         verdicts = {"reason": answer.why, "converges": answer.converges, "kept": answer.kept}
         enough = {**amounts_of(answer.enough), "is_kept": answer.enough.is_kept, "ends": answer.enough.ending.ends}
-        return {**numbers, **verdicts, "bytes": answer.sent, "errors": answer.errors, "enough": enough}
+        sure = self.agreement(answer)
+        return {**numbers, **verdicts, "bytes": answer.sent, "errors": answer.errors, "enough": enough, "sure": sure}
+
+    @staticmethod
+    def agreement(answer: Answer) -> dict:
+        """How sure the answer is: counts of draws and of starts, and verdicts."""
+        draws, starts = answer.agreement.draws or (0, 0, 0, 0), answer.agreement.starts
+        told = (*draws, starts.whole, starts.converging, starts.kept, answer.sure_converges, answer.sure_kept)
+        return dict(zip(AGREEMENT, told))
 
 
 class Python(Library):
     """The library in Python."""
 
-    name = "precopy.predict, precopy.enough"
+    name = "precopy.predict, precopy.agreement, precopy.enough"
 
     def told(self, asked: Asked) -> object:
         import precopy  # noqa: PLC0415
@@ -238,13 +249,15 @@ class Python(Library):
         errors = it.errors and (it.errors.bytes, it.errors.time, it.errors.downtime)
         words = {name: getattr(it, name).name.lower() for name in ("reason", "converges", "kept")}
         known = {"errors": errors if words["kept"] != "unknown" else None}
-        return {**vars(it), **words, **known, "enough": vars(precopy.enough(trace, question))}
+        sure = vars(precopy.agreement(trace, question))
+        sure |= {name: sure[name].name.lower() for name in ("converges", "kept")}
+        return {**vars(it), **words, **known, "enough": vars(precopy.enough(trace, question)), "sure": sure}
 
 
 class C(Library):
     """The library in C, by a program that asks it."""
 
-    name = "precopy_predict, precopy_enough"
+    name = "precopy_predict, precopy_agreement, precopy_enough"
     NUMBERS = "link first downtime reserve tick page sampled guest increment rounds start base"
     ANSWER = "rounds reason stop down total left time bytes downtime recorded converges kept"
     AMOUNTS = ("link", "downtime", "speed", "ending_link", "ending_start")
@@ -271,19 +284,21 @@ class C(Library):
         return [given[name] or 0 for name in self.NUMBERS.split()] + has + [int(given["skip"])]
 
     def answer(self, numbers: list[int]) -> object:
-        """What a line of the program tells: twelve numbers, four of standard errors and twelve of what is enough, or a
-        status."""
+        """What a line of the program tells: twelve numbers, four of standard errors, twelve of what is enough and nine
+        of how sure that is, or a status."""
         if len(numbers) == 1:
             return numbers[0]
         found = dict(zip(self.ANSWER.split(), numbers))
-        verdicts = {name: ("yes", "no", "unknown")[found[name]] for name in ("converges", "kept")}
+        verdicts = {name: VERDICTS[found[name]] for name in ("converges", "kept")}
         has_errors = numbers[15] and verdicts["kept"] != "unknown"
         errors = tuple(numbers[12:15]) if has_errors else None
         given = zip(self.AMOUNTS, numbers[16:21], numbers[21:26])
         enough = {name: amount if has else None for name, amount, has in given}
         enough |= {"is_kept": numbers[26] != 0, "ends": numbers[27] != 0}
         reason = ("few", "fast", "rounds")[found["reason"]]
-        return {**found, **verdicts, "reason": reason, "errors": errors, "enough": enough}
+        sure = dict(zip(AGREEMENT, numbers[28:]))
+        sure |= {name: VERDICTS[sure[name]] for name in ("converges", "kept")}
+        return {**found, **verdicts, "reason": reason, "errors": errors, "enough": enough, "sure": sure}
 
 
 DOORS = [Lines, Document, Tool, Page, C, Python]

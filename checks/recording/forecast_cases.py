@@ -205,6 +205,33 @@ def thinned_pages(_, folder):
     expect(left == ["less.json", "less.pcwt", "part.json", "part.pcwt", "text", "whole.pcwt"], f"left: {left}")
 
 
+def answers_in(printed):
+    """Whether a migration converges and keeps its limit, as lines tell it."""
+    found = (re.search(rf"^{words}(\w+)", printed, re.M) for words in ("converges: ", "downtime: .* kept: "))
+    return [it[1] if it else "unknown" for it in found]
+
+
+def over_shares(path):
+    """An answer over a range of the link is that of both its ends, or uncertain, or unknown if one of them is."""
+    statuses, verdicts = {"yes": 0, "no": 3, "unknown": 4, "uncertain": 5}, set()
+    for link, low in ((32 << 10, 0.5), (32 << 10, 1.0), (4 << 10, 0.25), (1 << 10, 0.1)):
+        low_end, whole = (
+            answers_in(run_predict(path, "--link", f"{int(link * share)}KiB", "--downtime", "100ms", status=None)[0])
+            for share in (low, 1.0)
+        )
+        converges, kept = (
+            a if a == b else "unknown" if "unknown" in (a, b) else "uncertain" for a, b in zip(low_end, whole)
+        )
+        words = ["--link", f"{link}KiB", "--downtime", "100ms", "--reached", f"{low:g}..1"]
+        printed, _ = run_predict(path, *words, status=statuses[kept])
+        expect(f"\nat all that may be reached: converges: {converges}, kept: {kept}\n" in printed, printed)
+        verdicts.add(kept)
+    expect(len(verdicts) > 1, f"each range has the same answer: {verdicts}")
+    for word, said in (("1..0.5", "the lower one first"), ("0.85", "two points"), ("0..1", "above 0")):
+        _, faults = run_predict(path, "--link", "1GiB", "--reached", word, status=2)
+        expect(said in faults, faults)
+
+
 def predicted(_, folder):
     """The status says whether the limit is kept. What the lines say of a migration is tested by checks/predictions."""
     path = os.path.join(folder, "guest.light.pcwt")
@@ -215,6 +242,7 @@ def predicted(_, folder):
     expect(all(f"{words}\n" in printed for words in hosts) and "precopy live" not in printed, printed)
     again, _ = run_predict(path, *LINK)
     expect(again == printed, "the same words print other lines")
+    over_shares(path)
     busy, part = os.path.join(folder, "busy.pcwt"), os.path.join(folder, "part.pcwt")
     made_trace(busy, rate=12)
     run_thin(busy, part, "--one-in", "2", "--start", "1000")

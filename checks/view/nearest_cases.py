@@ -18,7 +18,7 @@ def expect_refusal(view, asked, trace, name):
     if refusal:
         expect([status, text, faults] == refusal.of_view(), f"{asked}: {faults!r} in place of {refusal}")
     else:
-        expect(status in (0, 3, 4) and not faults, f"{asked}: {status}, {faults!r}")
+        expect(status in (0, 3, 4, 5) and not faults, f"{asked}: {status}, {faults!r}")
     return int(refusal.told.startswith("--") and amount(refusal.told)) if is_named else None
 
 

@@ -83,7 +83,7 @@ def check_program(view, _, kind, word, amount, trace):
     if refusal := asked.limit_refusal():
         expect(list(found) == refusal.of_view(), f"{word!r}: {found} in place of {refusal}")
         return
-    expect(status in (0, 3, 4) and not faults, f"{word!r}: status {status}, {faults!r}")
+    expect(status in (0, 3, 4, 5) and not faults, f"{word!r}: status {status}, {faults!r}")
     limits = parsed("predict", text)["limits"]
     amounts_told = limits["link_bytes"], limits["down_seconds"] * 1_000_000
     expect(amounts_told == (asked.link, asked.downtime), f"{word!r}: {amounts_told} in place of {amount}")

@@ -99,7 +99,7 @@ class Reading(Beside):
 
 def predicted(program, path, *limits):
     done = subprocess.run([PREDICT, path, "--json", "--program", program, *limits], capture_output=True, text=True)
-    expect(done.returncode in (0, 3, 4), f"{done.returncode}, {done.stderr!r}")
+    expect(done.returncode in (0, 3, 4, 5), f"{done.returncode}, {done.stderr!r}")
     return json.loads(done.stdout)["prediction"]
 
 

@@ -56,6 +56,17 @@ def link(word: str) -> float:
     return float(rate(word))
 
 
+def shares(word: str) -> tuple[float, float]:
+    """Two shares of a whole, the lower one first, as 0.85..1."""
+    match = re.fullmatch(r"([0-9]{1,3}(?:\.[0-9]{1,6})?)\.\.([0-9]{1,3}(?:\.[0-9]{1,6})?)", word)
+    if not match:
+        raise argparse.ArgumentTypeError(f"{word!r}: two shares with two points between them, as in 0.85..1")
+    low, high = float(match[1]), float(match[2])
+    if not 0 < low <= high <= 1:
+        raise argparse.ArgumentTypeError(f"{word!r}: shares are above 0 and at most 1, the lower one first")
+    return low, high
+
+
 def rate_word(bandwidth: float) -> str:
     """A word that `rate` takes for so many bytes a second; if they are not whole, to the nearest Kbit."""
     if bandwidth % 1:

@@ -114,6 +114,14 @@ class Errors(Structure):
     _fields_ = [*_of(c_uint64, "bytes", "time", "downtime"), *_of(c_uint32, "has_errors")]
 
 
+class Agreement(Structure):
+    _fields_ = [
+        *_of(c_uint64, "draws", "draws_known", "draws_converging", "draws_kept", "starts", "starts_converging"),
+        *_of(c_uint64, "starts_kept"),
+        *_of(c_uint32, "converges", "kept"),
+    ]
+
+
 class Amounts(Structure):
     _fields_ = [
         *_of(c_uint64, "link", "downtime", "speed", "ending_link", "ending_start"),
@@ -172,6 +180,7 @@ CALLS = {
         POINTER(c_uint32),
     ],
     "predict": [c_void_p, c_size_t, POINTER(Question), POINTER(Prediction), POINTER(Errors), POINTER(c_uint32)],
+    "agreement": [c_void_p, c_size_t, POINTER(Question), POINTER(Agreement), POINTER(c_uint32)],
     "enough": [c_void_p, c_size_t, POINTER(Question), POINTER(Amounts), POINTER(c_uint32)],
     "memory": [c_void_p, c_size_t, c_void_p, c_size_t, POINTER(c_size_t), POINTER(c_uint32)],
     "memory_before": [c_void_p, c_size_t, c_uint64, c_void_p, c_size_t, POINTER(c_size_t), POINTER(c_uint32)],

@@ -22,11 +22,13 @@ class Reason(enum.IntEnum):
 
 
 class Verdict(enum.IntEnum):
-    """Whether something is so. It is unknown if the trace ends before the migration does."""
+    """Whether something is so. It is unknown if the trace ends before the migration does, and uncertain if chance, or
+    the start, decides: only an agreement tells that."""
 
     YES = 0
     NO = 1
     UNKNOWN = 2
+    UNCERTAIN = 3
 
 
 @dataclass(frozen=True)
@@ -102,6 +104,31 @@ def predict(trace: Bytes, question: Question) -> Prediction:
     told |= {"reason": Reason(found.reason), "converges": Verdict(found.converges), "kept": Verdict(found.kept)}
     moved = Errors(errors.bytes, errors.time, errors.downtime) if errors.has_errors else None
     return Prediction(**told, errors=moved)
+
+
+@dataclass(frozen=True)
+class Agreement:
+    """How sure a prediction is: in how many of the `draws` of a sample's pages, and from how many of the `starts` from
+    which it ends within the trace, the migration converges and keeps its limit; and whether it surely does. There are
+    no draws if there are no standard errors."""
+
+    draws: int
+    draws_known: int
+    draws_converging: int
+    draws_kept: int
+    starts: int
+    starts_converging: int
+    starts_kept: int
+    converges: Verdict
+    kept: Verdict
+
+
+def agreement(trace: Bytes, question: Question) -> Agreement:
+    """Returns how sure the verdicts on the migration of a trace with the limits of a question are."""
+    found = _interface.Agreement()
+    check_over(_LIBRARY.precopy_agreement, trace, question._as_c(), found)
+    told = {name: getattr(found, name) for name, _ in _interface.Agreement._fields_}
+    return Agreement(**told | {"converges": Verdict(found.converges), "kept": Verdict(found.kept)})
 
 
 @dataclass(frozen=True)

@@ -66,7 +66,25 @@ fn print_prediction(trace: &[u8], question: &Question) -> Result<(), Refused> {
     if let Some(errors) = it.errors {
         println!("errors {} {} {}", errors.bytes, errors.time, errors.downtime);
     }
+    print_agreement(trace, question)?;
     print_amounts(trace, question)
+}
+
+fn print_agreement(trace: &[u8], question: &Question) -> Result<(), Refused> {
+    let it = precopy::agreement(trace, question)?;
+    println!(
+        "agreement {} {} {} {} {} {} {} {:?} {:?}",
+        it.draws,
+        it.draws_known,
+        it.draws_converging,
+        it.draws_kept,
+        it.starts,
+        it.starts_converging,
+        it.starts_kept,
+        it.converges,
+        it.kept
+    );
+    Ok(())
 }
 
 fn print_amounts(trace: &[u8], question: &Question) -> Result<(), Refused> {

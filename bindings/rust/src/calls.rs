@@ -88,6 +88,20 @@ pub struct Errors {
 
 #[repr(C)]
 #[derive(Clone, Copy, Default)]
+pub struct Agreement {
+    pub draws: u64,
+    pub draws_known: u64,
+    pub draws_converging: u64,
+    pub draws_kept: u64,
+    pub starts: u64,
+    pub starts_converging: u64,
+    pub starts_kept: u64,
+    pub converges: u32,
+    pub kept: u32,
+}
+
+#[repr(C)]
+#[derive(Clone, Copy, Default)]
 pub struct Amounts {
     pub link: u64,
     pub downtime: u64,
@@ -195,6 +209,13 @@ extern "C" {
         question: *const Question,
         prediction: *mut Prediction,
         errors: *mut Errors,
+        record: *mut u32,
+    ) -> u32;
+    pub fn precopy_agreement(
+        trace: *const u8,
+        trace_length: usize,
+        question: *const Question,
+        agreement: *mut Agreement,
         record: *mut u32,
     ) -> u32;
     pub fn precopy_enough(

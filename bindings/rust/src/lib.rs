@@ -17,7 +17,7 @@ pub use places::{
     memory_step, page_at, page_at_into, page_writes, page_writes_into, version_after, versions_after,
     versions_after_into, versions_before, versions_before_into, Write,
 };
-pub use predictions::{enough, predict, Amounts, Errors, Prediction, Question, Verdict};
+pub use predictions::{agreement, enough, predict, Agreement, Amounts, Errors, Prediction, Question, Verdict};
 pub use refusals::Refused;
 pub use status::Status;
 pub use streams::{check_streams, writes_before, Finding, FramePlace, StreamCheck};

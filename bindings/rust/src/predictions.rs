@@ -90,6 +90,8 @@ pub enum Verdict {
     No,
     /// The trace ends before the migration does.
     Unknown,
+    /// Chance, or the start, decides: only an agreement tells it.
+    Uncertain,
 }
 
 impl Verdict {
@@ -97,6 +99,7 @@ impl Verdict {
         match number {
             0 => Verdict::Yes,
             1 => Verdict::No,
+            3 => Verdict::Uncertain,
             _ => Verdict::Unknown,
         }
     }
@@ -184,6 +187,54 @@ pub fn predict(trace: &[u8], question: &Question) -> Result<Prediction, Refused>
         )
     };
     with_record(record, checked(status).map(|()| Prediction::of(&found, &errors)))
+}
+
+/// How sure a prediction is: in how many draws of a sample's pages, and from how many starts, it is the same.
+#[derive(Clone, Copy, Debug, PartialEq, Eq)]
+pub struct Agreement {
+    /// How often the pages of a sample are drawn again: 20, or 0 if there are no standard errors.
+    pub draws: u64,
+    /// In how many of these draws the migration ends within the trace.
+    pub draws_known: u64,
+    /// In how many it converges.
+    pub draws_converging: u64,
+    /// In how many it keeps the limit.
+    pub draws_kept: u64,
+    /// From how many of at most 21 starts it ends within the trace.
+    pub starts: u64,
+    /// From how many it converges.
+    pub starts_converging: u64,
+    /// From how many it keeps the limit.
+    pub starts_kept: u64,
+    /// Whether it surely converges.
+    pub converges: Verdict,
+    /// Whether it surely keeps the limit.
+    pub kept: Verdict,
+}
+
+impl Agreement {
+    fn of(found: &calls::Agreement) -> Agreement {
+        Agreement {
+            draws: found.draws,
+            draws_known: found.draws_known,
+            draws_converging: found.draws_converging,
+            draws_kept: found.draws_kept,
+            starts: found.starts,
+            starts_converging: found.starts_converging,
+            starts_kept: found.starts_kept,
+            converges: Verdict::of(found.converges),
+            kept: Verdict::of(found.kept),
+        }
+    }
+}
+
+/// Returns how sure the verdicts on the migration of a trace with the limits of a question are.
+pub fn agreement(trace: &[u8], question: &Question) -> Result<Agreement, Refused> {
+    let (mut found, mut record) = (calls::Agreement::default(), NO_RECORD);
+    // SAFETY: the slice is there for its length; what is written is this function's.
+    let status =
+        unsafe { calls::precopy_agreement(trace.as_ptr(), trace.len(), &question.as_c(), &mut found, &mut record) };
+    with_record(record, checked(status).map(|()| Agreement::of(&found)))
 }
 
 /// What is enough for the downtime limit of a question, each amount by itself, and to end within the trace.

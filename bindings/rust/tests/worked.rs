@@ -142,6 +142,33 @@ fn predictions() {
 }
 
 #[test]
+fn agreements() {
+    let sampled = precopy::agreement(&TRACE, &half()).unwrap();
+    let draws = (
+        sampled.draws,
+        sampled.draws_known,
+        sampled.draws_converging,
+        sampled.draws_kept,
+    );
+    assert_eq!(draws, (20, 9, 9, 9));
+    let starts = (sampled.starts, sampled.starts_converging, sampled.starts_kept);
+    assert_eq!(starts, (5, 5, 5));
+    assert_eq!(
+        (sampled.converges, sampled.kept),
+        (Verdict::Uncertain, Verdict::Uncertain)
+    );
+    let all = Question {
+        link: 64,
+        first: Some(32),
+        guest: 4,
+        ..half()
+    };
+    let sure = precopy::agreement(&TRACE, &all).unwrap();
+    assert_eq!((sure.draws, sure.starts), (0, 5));
+    assert_eq!((sure.converges, sure.kept), (Verdict::Yes, Verdict::Yes));
+}
+
+#[test]
 fn amounts() {
     let amounts = |is_kept, link, downtime, speed, (ends, ending_link, ending_start)| {
         Ok(Amounts {

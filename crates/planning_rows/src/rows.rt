@@ -1,5 +1,6 @@
 //! Worked examples of settings, working sets, plans, reports, sweeps, times and sizes.
 
+mod agreement;
 mod look;
 mod plan;
 mod quantity;

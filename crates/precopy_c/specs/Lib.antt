@@ -5,6 +5,7 @@ pub mod Plans
 pub mod Sweeps
 pub mod Predictions
 pub mod Enough
+pub mod Agreements
 pub mod Memories
 pub mod Frames
 pub mod FlatMemory

@@ -5,6 +5,7 @@
 //! a thread or waits. A call returns 0, or the number of a refusal; it has then written only what its contract names.
 #![tactic(auto)]
 
+mod agreements;
 mod answers;
 mod buffers;
 mod checking;

@@ -4,8 +4,9 @@
 use crate::tests::ends_with;
 use std::test::Fail;
 
-/// The first round leaves 2 pages, and the next one would have to send them faster than the link does.
-const OTHER: &str = "enough: one of these, changed alone
+/// The first round leaves 2 pages, and the next one would have to send them faster than the link does. From other
+/// starts it would not.
+const OTHER: &str = "enough: by its plan alone, one of these, changed alone
 enough: --link 12Kbit
 enough: --downtime 135156us
 enough: the guest slowed to 55 per cent of its speed
@@ -35,28 +36,32 @@ const NOTHING_DOCUMENT: &str = "\"enough\":{\"answer\":\"nothing\"},\
 
 #[test]
 fn a_missed_limit_is_told_what_is_enough(rt: HostRuntime) -> Result<(), Fail> {
-    const CASES: [(&str, &str); 4] = [
+    const CASES: [(&str, u8, &str); 4] = [
         (
             "predict --link=1KiB --page=16 --sampled=4/16 --first=0.512KB --inc=20 --downtime=100ms --reserve=10ms",
+            5,
             OTHER,
         ),
         (
             "json predict --link=1KiB --page=16 --sampled=4/16 --first=0.512KB --inc=20 --downtime=100ms \
              --reserve=10ms",
+            5,
             OTHER_DOCUMENT,
         ),
         (
             "predict --link=1KiB --page=16 --sampled=4/16 --first=0.128KB --rounds=1 --downtime=1ms --reserve=0us",
+            3,
             NOTHING,
         ),
         (
             "json predict --link=1KiB --page=16 --sampled=4/16 --first=0.128KB --rounds=1 --downtime=1ms \
              --reserve=0us",
+            3,
             NOTHING_DOCUMENT,
         ),
     ];
-    for &(line, end) in &CASES {
-        assert!(rt; ends_with(&rt, rt.alloc(), line, 3, end)?, "{end}");
+    for &(line, status, end) in &CASES {
+        assert!(rt; ends_with(&rt, rt.alloc(), line, status, end)?, "{end}");
     }
     Ok(())
 }

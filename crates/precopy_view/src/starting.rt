@@ -81,13 +81,15 @@ fn show<R: Threads + Sync, S: Source, K: Sink, E: Sink>(
     faults: &mut E,
 ) -> u8
     requires { NoneHasFailed (S.has_failed source.old) (K.has_failed sink.old) (E.has_failed faults.old) }
-    ensures status { (result ≡ 0) ⊎ ((result ≡ 1) ⊎ ((result ≡ 3) ⊎ (result ≡ 4))) }
+    ensures status { (result ≡ 0) ⊎ ((result ≡ 1) ⊎ ((result ≡ 3) ⊎ ((result ≡ 4) ⊎ (result ≡ 5)))) }
     ensures flushed { (result ≡ 0) ⊎ (3 ≤ result) → K.is_flushed sink.new ≡ true }
     ensures written { result ≡ 0 → WritesView (S.remaining source.old) asked.now Verdict.Yes (K.contents sink.old)
         (K.contents sink.new) }
     ensures missed { result ≡ 3 → WritesView (S.remaining source.old) asked.now Verdict.No (K.contents sink.old)
         (K.contents sink.new) }
     ensures unknown { result ≡ 4 → WritesView (S.remaining source.old) asked.now Verdict.Unknown
+        (K.contents sink.old) (K.contents sink.new) }
+    ensures uncertain { result ≡ 5 → WritesView (S.remaining source.old) asked.now Verdict.Uncertain
         (K.contents sink.old) (K.contents sink.new) }
     ensures failed { result ≡ 1 → HasFailed (S.remaining source.old) asked.now (S.has_failed source.new)
         (K.has_failed sink.new) (K.contents sink.old) (K.contents sink.new) (sink.new ≡ sink.old)
@@ -98,6 +100,7 @@ fn show<R: Threads + Sync, S: Source, K: Sink, E: Sink>(
         Ok(Verdict::Yes) => 0,
         Ok(Verdict::No) => 3,
         Ok(Verdict::Unknown) => 4,
+        Ok(Verdict::Uncertain) => 5,
         Err(error) => fault(faults, &error),
     }
 }
@@ -106,7 +109,8 @@ fn show<R: Threads + Sync, S: Source, K: Sink, E: Sink>(
 /// for help go to `sink`, and the line of a fault or the text of a refused command line to `faults`.
 ///
 /// Returns the program's status: 0 is success, 1 a run that failed, 2 a refused command line, 3 a prediction whose
-/// downtime is over its limit, and 4 one of a migration that ends after the trace. A failure of `faults` is ignored.
+/// downtime is over its limit, 4 one of a migration that ends after the trace, and 5 one whose limit is kept or not as
+/// chance or the start decides. A failure of `faults` is ignored.
 pub fn start<R: Threads + Sync, S: Source, K: Sink, E: Sink>(
     rt: &R,
     alloc: Global,
@@ -116,7 +120,7 @@ pub fn start<R: Threads + Sync, S: Source, K: Sink, E: Sink>(
     faults: &mut E,
 ) -> u8
     requires { NoneHasFailed (S.has_failed source.old) (K.has_failed sink.old) (E.has_failed faults.old) }
-    ensures status { result ≤ 4 }
+    ensures status { result ≤ 5 }
     // Nothing that was written is held back.
     ensures flushed { (result ≡ 0) ⊎ (3 ≤ result) → K.is_flushed sink.new ≡ true }
     // What was written is the view of what was read that the words ask for, and its limit is kept; or else they ask for
@@ -131,6 +135,9 @@ pub fn start<R: Threads + Sync, S: Source, K: Sink, E: Sink>(
     // What was written is the view of what was read that the words ask for, and the trace ends before its migration.
     ensures unknown { result ≡ 4 → (asked : AskedView) × WordsAsk (map string_bytes words.items) asked
         × WritesView (S.remaining source.old) asked Verdict.Unknown (K.contents sink.old) (K.contents sink.new) }
+    // What was written is the view of what was read that the words ask for, and whether its limit is kept is not sure.
+    ensures uncertain { result ≡ 5 → (asked : AskedView) × WordsAsk (map string_bytes words.items) asked
+        × WritesView (S.remaining source.old) asked Verdict.Uncertain (K.contents sink.old) (K.contents sink.new) }
     // Words are refused before any byte of the trace is read, and nothing is written then.
     ensures refused { result ≡ 2 → FailsAs IsRefusal (map string_bytes words.items) × (source.new ≡ source.old)
         × (sink.new ≡ sink.old) }

@@ -232,22 +232,21 @@ fn unknown_words_are_told(rt: HostRuntime) -> Result<(), Fail> {
 }
 
 /// A prediction for a guest of which one page in four was recorded, over a link of 64 pages of the guest in 1,000
-/// ticks: 16 of the trace. The first round sends 4 pages in 250 ticks. The 2 that are left take 125 ticks. The standard
-/// errors come from `redrawn.py` in `python/precopy_dev/models`, what comes of it like QEMU from `looks.py` there, and
-/// what is enough from `remedies.py`. None shares code with the crates.
-static PREDICTION: &str = "converges: yes, rounds: 1
+/// ticks: 16 of the trace. The first round sends 4 pages in 250 ticks. The 2 that are left take 125 ticks, and with two
+/// standard errors the limit is not kept. These errors come from `redrawn.py` in `python/precopy_dev/models`, counts of
+/// redraws and starts from `agreements.py` there, what comes of it like QEMU from `looks.py`, and what is enough from
+/// `remedies.py`. None shares code with the crates.
+static PREDICTION: &str = "converges: yes, in 20 of 20 redraws and from 19 of 19 starts; rounds: 1
 total time: 385 ms
 sent: 384 bytes
-downtime: 135 ms, limit: 200 ms, kept
+downtime: 135 ms, limit: 200 ms, kept: uncertain, in 20 of 20 redraws and from 19 of 19 starts
 standard errors: sent 64 bytes, time 54 ms, downtime 60 ms
 warning: fewer than 100 pages decided the stop; chance moves it
 like QEMU: looks 2, time 398 ms, sent 320 bytes, downtime 198 ms, kept
 starts: 21, known: 19, converging: 19, limit kept: 19
 over known starts: sent 256 bytes to 384 bytes, time 260 ms to 385 ms, downtime 10 ms to 135 ms
 share of the link: converges at 50 to 100 per cent
-enough: what is asked; also one of these, changed alone
-enough: --link 2Kbit
-enough: --downtime 10009us
+enough: uncertain; give more of the link, or a longer downtime
 precopy live --min 16 --max 16 --inc 0 --threshold 4 --rounds 30 --start 0
 QEMU: migrate_set_parameter max-bandwidth 1024B
 QEMU: migrate_set_parameter downtime-limit 190
@@ -258,7 +257,7 @@ libvirt: virsh migrate-setmaxdowntime DOMAIN 190
 #[test]
 fn predicts_a_migration(rt: HostRuntime) -> Result<(), Fail> {
     let line = "predict --link=1KiB --downtime=200ms --reserve=10ms --page=16 --sampled=4/16";
-    assert!(rt; writes(&rt, rt.alloc(), line, 0, PREDICTION)?);
+    assert!(rt; writes(&rt, rt.alloc(), line, 5, PREDICTION)?);
     Ok(())
 }
 

@@ -118,16 +118,17 @@ static PREDICTED: &str =
     "{\"units\":{\"tick_seconds\":0.001000,\"page_bytes\":16,\"sampled_pages\":4,\
 \"guest_pages\":16},\"limits\":{\"link_bytes\":1024,\"down_seconds\":0.200000,\"reserve_seconds\":0.010000},\
 \"settings\":{\"min\":16,\"max\":16,\"inc\":0,\"threshold\":4,\"limit\":30,\"skip\":false,\"start\":0},\
-\"converges\":\"yes\",\"kept\":\"yes\",\"recorded_seconds\":2.500000,\
+\"converges\":\"yes\",\"kept\":\"uncertain\",\"recorded_seconds\":2.500000,\
 \"migration\":{\"why\":\"few\",\"rounds\":1,\"time_seconds\":0.385000,\"sent_bytes\":384,\
 \"down_seconds\":0.135000,\"left_pages\":2,\"errors\":{\"sent_bytes\":64,\
 \"time_seconds\":0.054082,\"down_seconds\":0.060686}},\
 \"like_qemu\":{\"looks\":2,\"time_seconds\":0.398000,\"sent_bytes\":320,\"down_seconds\":0.198000,\"kept\":true},\
+\"redraws\":{\"count\":20,\"known\":20,\"converging\":20,\"kept\":20},\
 \"starts\":{\"count\":21,\"known\":19,\"converging\":19,\"kept\":19,\
 \"least\":{\"time_seconds\":0.260000,\"sent_bytes\":256,\"down_seconds\":0.010000},\
 \"greatest\":{\"time_seconds\":0.385000,\"sent_bytes\":384,\"down_seconds\":0.135000}},\
 \"link_shares\":{\"converges\":\"yes\",\"percent\":50},\
-\"enough\":{\"answer\":\"asked\",\"link_bytes\":250,\"down_seconds\":0.010009},\
+\"enough\":{\"answer\":\"uncertain\"},\
 \"hosts\":{\"bandwidth_bytes\":1024,\"down_milliseconds\":190}}\n";
 
 /// The same from a tick from which the trace ends before the migration does.
@@ -137,6 +138,7 @@ static UNKNOWN: &str =
 \"settings\":{\"min\":16,\"max\":16,\"inc\":0,\"threshold\":4,\"limit\":30,\"skip\":false,\"start\":2400},\
 \"converges\":\"unknown\",\"kept\":\"unknown\",\"recorded_seconds\":0.100000,\
 \"like_qemu\":{\"looks\":1,\"time_seconds\":0.298000,\"sent_bytes\":256,\"down_seconds\":0.198000,\"kept\":true},\
+\"redraws\":{\"count\":20,\"known\":0,\"converging\":0,\"kept\":0},\
 \"starts\":{\"count\":21,\"known\":19,\"converging\":19,\"kept\":19,\
 \"least\":{\"time_seconds\":0.260000,\"sent_bytes\":256,\"down_seconds\":0.010000},\
 \"greatest\":{\"time_seconds\":0.385000,\"sent_bytes\":384,\"down_seconds\":0.135000}},\
@@ -148,7 +150,7 @@ static UNKNOWN: &str =
 fn predicts_as_a_document(rt: HostRuntime) -> Result<(), Fail> {
     let line =
         "json predict --link=1KiB --downtime=200ms --reserve=10ms --page=16 --sampled=4/16 --start=0";
-    assert!(rt; writes(&rt, rt.alloc(), line, 0, PREDICTED)?);
+    assert!(rt; writes(&rt, rt.alloc(), line, 5, PREDICTED)?);
     let line =
         "json predict --link=1KiB --downtime=200ms --reserve=10ms --page=16 --sampled=4/16 --start=2400";
     assert!(rt; writes(&rt, rt.alloc(), line, 4, UNKNOWN)?);

@@ -57,7 +57,7 @@ drawn_low sampled pages steps = All-from_recursion (λ page. page < pages) (draw
 
 -- ---- one more plan
 
-zip_push : (R : List ℕ → PlanOutcome → Type 0) (xs : List (List ℕ)) (ys : List PlanOutcome) (x : List ℕ)
+pub zip_push : {X : Type 0} (R : X → PlanOutcome → Type 0) (xs : List X) (ys : List PlanOutcome) (x : X)
     (y : PlanOutcome) → AllZip R xs ys → R x y → AllZip R (xs ++ x ∷ []) (ys ++ y ∷ [])
 zip_push R [] [] x y all one = (one, tt)
 zip_push R [] (b ∷ ys) x y all one = absurd all

@@ -11,7 +11,7 @@ use Rattle.predictions.specs.Redrawn.{redrawn_touches}
 use Rattle.predictions.specs.Units.Scales.{TraceScale}
 use Rattle.predictions.proofs.Outcomes.{one_outcome}
 
-one_list : (touches : List GuestTouch) (s : MigrationSettings) (pages : ℕ) (draws : List (List ℕ))
+pub one_list : (touches : List GuestTouch) (s : MigrationSettings) (pages : ℕ) (draws : List (List ℕ))
     (a b : List PlanOutcome) → AreRedrawn pages touches s draws a → AreRedrawn pages touches s draws b → a ≡ b
 one_list touches s pages [] [] [] x y = refl
 one_list touches s pages [] [] (b ∷ others) x y = elim y [ ]

@@ -1,5 +1,5 @@
 -- A hypervisor's migration has one forecast, or none.
-use Rattle.std.proofs.Common.{◌≡◌, ◌∙◌, ◌<◌, ◌≤◌, ℕ, List, Option, Some, None, ap, sym, refl, arith}
+use Rattle.std.proofs.Common.{◌≡◌, ◌∙◌, ℕ, List, Option, Some, None, ap, sym, refl, arith}
 use Rattle.look_planner.specs.Plans.{numbers_of}
 use Rattle.look_planner.proofs.OnePlan.{one_look_plan_lem}
 use Rattle.migration_model.specs.Looks.{HypervisorPlan}

@@ -1,10 +1,10 @@
 -- Limits are refused for one thing, and so are questions.
-use Rattle.std.proofs.Common.{◌≡◌, ◌∙◌, ◌⊎◌, ℕ, Option, Some, None, ap, sym, inl, inr}
+use Rattle.std.proofs.Common.{◌≡◌, ◌∙◌, ℕ, Option, Some, None, ap, sym, inl, inr}
 use Rattle.std.proofs.lemmas.Option.{none-some, same_Some}
 use Rattle.migration_model.specs.Rates.{MigrationSettings}
 use Rattle.predictions.specs.Questions.{RefusesQuestion, limits_in, others_in, given, scale_in}
 use Rattle.predictions.specs.Units.Limits.{RefusesLimits, limits_refusal, settings_in}
-use Rattle.predictions.specs.Units.Scales.{TraceScale, scale_refusal}
+use Rattle.predictions.specs.Units.Scales.{TraceScale}
 use Rattle.predictions.specs.declared.question.Question.{Question}
 use Rattle.predictions.specs.declared.units.error.UnitsError.{UnitsError}
 use Rattle.predictions.specs.declared.units.error.UnitsError.TheVariants.{Tick, Page, Sampled, Link, First, Reserve}

@@ -1,16 +1,18 @@
 -- Starts that are spread over a trace are never refused.
 use Rattle.std.proofs.Common.{◌≡◌, ℕ, ◌+◌, ◌-◌, ◌*◌, ◌/◌, ◌^◌, ◌<◌, ◌≤◌, Option, None, Some, Result, Ok, Err, max}
-use Rattle.std.proofs.Common.{arith, refl, subst}
+use Rattle.std.proofs.Common.{arith, refl, subst, sym}
 use Rattle.std.proofs.Math.Nat.{div-le_of_le-mul, div-mul-le_self, mul-le-mul_right}
 use Rattle.std.proofs.lemmas.Grind.{div_ceil_times}
 use Rattle.std.specs.Int.{div_ceil}
 use Rattle.std.specs.Prelude.{IfErr, IfSome, unwrap_or}
 use Rattle.migration_model.specs.Rates.{AreSettings, MigrationSettings}
 use Rattle.predictions.specs.Starts.Ranges.{spread_starts}
-use Rattle.predictions.specs.Starts.{RefusesStarts, case_from}
+use Rattle.predictions.specs.Starts.{AreAccepted, RefusesStarts, case_from, count_of}
 use Rattle.predictions.specs.declared.starts.cases.Starts.{Starts}
 use Rattle.predictions.specs.declared.starts.error.StartsError.{StartsError}
 use Rattle.predictions.specs.declared.starts.error.StartsError.TheVariants as errors
+use Rattle.rate_limit.specs.Refusals.{refusal_of}
+use Rattle.rate_limit.specs.declared.error.SettingsError.{SettingsError}
 use Rattle.rate_limit.proofs.Ranges.{refused_lem}
 
 -- the twentieth of a span, rounded up, and at least 1
@@ -85,6 +87,34 @@ only_memory s last_tick are low (errors.Settings e) is =
     let late = base_before s.base (is.number * every) in
     absurd (refused_lem (case_from s (spread_starts s last_tick) last_tick is.number) e is.refused
     (started s (first + is.number * every) are early late))
+
+none_of : (refusal : Option SettingsError) → ((e : SettingsError) → refusal ≡ Some e → ⊥) → refusal ≡ None
+none_of None never = refl
+none_of (Some e) never = absurd (never e refl)
+
+-- none of these starts is refused
+pub spread_accepted : (s : MigrationSettings) (starts : Starts) (last_tick : ℕ) → starts ≡ spread_starts s last_tick
+    → AreSettings s → last_tick < 2 ^ 40 → AreAccepted s starts last_tick
+spread_accepted s starts last_tick same are low =
+    let first = unwrap_or s.base 0 in
+    let every = twentieth (last_tick - first) in
+    let base = low_base s.base s.start (2 ^ 40) are.base_high are.start_high in
+    let all : AreAccepted s (spread_starts s last_tick) last_tick = λ number is_start.
+    let last : first + number * every ≤ max last_tick first = within first last_tick every number is_start in
+    let early : first + number * every < 2 ^ 40 = omega (arith, last, base, low) in
+    let late = base_before s.base (number * every) in
+    none_of (refusal_of (case_from s (spread_starts s last_tick) last_tick number))
+    (λ e refused. refused_lem (case_from s (spread_starts s last_tick) last_tick number) e refused
+    (started s (first + number * every) are early late)) in
+    subst (λ (some : Starts). AreAccepted s some last_tick) (sym same) all
+
+-- there are few of these starts
+pub spread_few : (s : MigrationSettings) (starts : Starts) (last_tick : ℕ) → starts ≡ spread_starts s last_tick
+    → count_of starts last_tick ≤ 21
+spread_few s starts last_tick same =
+    let first = unwrap_or s.base 0 in
+    let few = few_parts (last_tick - first) (max last_tick first - first) (omega arith) in
+    subst (λ (some : Starts). count_of some last_tick ≤ 21) (sym same) (omega (arith, few))
 
 pub refused_for_memory : {T : Type 0} (r : Result T StartsError) (s : MigrationSettings) (starts : Starts)
     (last_tick : ℕ) → starts ≡ spread_starts s last_tick → AreSettings s → last_tick < 2 ^ 40

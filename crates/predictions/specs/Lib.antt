@@ -9,3 +9,4 @@ pub mod Remedies
 pub mod Starts
 pub mod Looks
 pub mod Shares
+pub mod Agreements

@@ -64,6 +64,7 @@ abbrev pub verdict_word : Verdict → List ℕ
 verdict_word verdicts.Yes = codes "yes"
 verdict_word verdicts.No = codes "no"
 verdict_word verdicts.Unknown = codes "unknown"
+verdict_word verdicts.Uncertain = codes "uncertain"
 
 -- whether a plan ends since few pages are left
 abbrev pub ends_with_few : StopReason → Bool

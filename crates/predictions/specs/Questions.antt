@@ -92,6 +92,7 @@ abbrev pub verdict_number : Verdict → ℕ
 verdict_number verdicts.Yes = 0
 verdict_number verdicts.No = 1
 verdict_number verdicts.Unknown = 2
+verdict_number verdicts.Uncertain = 3
 
 -- the answer: the result of the plan, and what it predicts
 abbrev pub answer_of : PlanOutcome → GuestPrediction → Answer

@@ -2,33 +2,47 @@
 use Rattle.std.specs.Prelude.{ℕ, nat_lt, Bool, true, false, if◌then◌else◌, List, [], ◌∷◌, ◌++◌, codes}
 use Rattle.std.specs.Prelude.{Option, None, Some}
 use Rattle.migration_model.specs.Rates.{StopReason, few_remain, rounds_done, too_fast}
-use Rattle.predictions.specs.Predictions.{GuestPrediction}
+use Rattle.predictions.specs.Agreements.{sure_kept, sure_verdict}
+use Rattle.predictions.specs.Agreements.Texts.{converging_words, kept_words}
+use Rattle.predictions.specs.Predictions.{GuestPrediction, MigrationCost, verdict_word}
 use Rattle.predictions.specs.Quantities.{bytes_text, error_text, time_text}
 use Rattle.predictions.specs.Redrawn.Errors.{SampleErrors}
+use Rattle.predictions.specs.declared.agreement.verdicts.Agreement.{Agreement}
+use Rattle.predictions.specs.declared.verdict.Verdict.{Verdict}
 use Rattle.sweep_report.specs.Lines.{field, line}
 
--- whether pre-copy comes down to what the limit allows
+-- why the plan ends if more than few pages are left, and after how many rounds
 abbrev pub ending : StopReason → List ℕ
-ending few_remain = codes "converges: yes, rounds: "
-ending too_fast = codes "converges: no, the guest writes faster than the link sends; rounds: "
-ending rounds_done = codes "converges: no, all rounds that are allowed are done; rounds: "
+ending few_remain = codes "; rounds: "
+ending too_fast = codes "; the guest writes faster than the link sends; rounds: "
+ending rounds_done = codes "; all rounds that are allowed are done; rounds: "
 
 abbrev pub verdict : Bool → List ℕ
 verdict is_kept = if is_kept then codes ", kept" else codes ", not kept"
 
--- the line on the downtime, beside its limit
-abbrev pub downtime_line : ℕ → GuestPrediction → List ℕ
-downtime_line limit p = line (codes "downtime: " ∷ time_text p.cost.downtime ∷ codes ", limit: " ∷ time_text limit
-    ∷ verdict p.cost.is_kept ∷ [])
+-- an answer, how sure it is, and after how many rounds the plan ends
+abbrev pub verdict_line : Agreement → Verdict → StopReason → ℕ → List ℕ
+verdict_line a answer reason rounds = line (codes "converges: " ∷ verdict_word answer ∷ converging_words a
+    ∷ field (ending reason) rounds ∷ [])
+
+-- the line on the downtime, beside its limit, whether that is kept, and how sure that is
+abbrev pub downtime_line : ℕ → Agreement → Verdict → ℕ → List ℕ
+downtime_line limit a kept downtime = line (codes "downtime: " ∷ time_text downtime ∷ codes ", limit: "
+    ∷ time_text limit ∷ codes ", kept: " ∷ verdict_word kept ∷ kept_words a ∷ [])
 
 -- the line on the total time
 abbrev pub time_line : ℕ → List ℕ
 time_line time = codes "total time: " ++ (time_text time ++ 10 ∷ [])
 
--- what a migration will be
-abbrev pub facts_text : ℕ → GuestPrediction → List ℕ
-facts_text limit p = line (field (ending p.reason) p.cost.rounds ∷ []) ++ (time_line p.cost.time
-    ++ (line (codes "sent: " ∷ bytes_text p.cost.bytes ∷ []) ++ downtime_line limit p))
+-- what a migration will be, with these answers
+abbrev pub facts_with : ℕ → Agreement → Verdict → Verdict → StopReason → MigrationCost → List ℕ
+facts_with limit a converges kept reason cost = verdict_line a converges reason cost.rounds
+    ++ (time_line cost.time ++ (line (codes "sent: " ∷ bytes_text cost.bytes ∷ [])
+    ++ downtime_line limit a kept cost.downtime))
+
+abbrev pub facts_text : ℕ → Agreement → GuestPrediction → Option SampleErrors → List ℕ
+facts_text limit a p errors =
+    facts_with limit a (sure_verdict a p) (sure_kept limit a p.cost errors) p.reason p.cost
 
 -- a line, if something holds
 abbrev pub line_if : Bool → List ℕ → List ℕ
@@ -59,13 +73,13 @@ errors_line (Some errors) = line (codes "standard errors: sent " ∷ bytes_text 
     ∷ error_text errors.time ∷ codes ", downtime " ∷ error_text errors.downtime ∷ [])
 
 -- a prediction of a migration that ends within the trace
-abbrev pub known_text : ℕ → GuestPrediction → Option SampleErrors → List ℕ
-known_text limit p errors = facts_text limit p ++ (errors_line errors ++ warnings p)
+abbrev pub known_text : ℕ → Agreement → GuestPrediction → Option SampleErrors → List ℕ
+known_text limit a p errors = facts_text limit a p errors ++ (errors_line errors ++ warnings p)
 
 -- all that is known of a migration if the trace, which goes on for so many microseconds, ends before it
 abbrev pub unknown_text : ℕ → List ℕ
 unknown_text recorded = codes "converges: unknown, the trace ends before the migration does; record longer\n"
     ++ line (codes "total time: more than " ∷ time_text recorded ∷ [])
 
-abbrev pub prediction_text : ℕ → GuestPrediction → Option SampleErrors → List ℕ
-prediction_text limit p errors = if p.cost.is_late then unknown_text p.recorded else known_text limit p errors
+abbrev pub prediction_text : ℕ → Agreement → GuestPrediction → Option SampleErrors → List ℕ
+prediction_text limit a p errors = if p.cost.is_late then unknown_text p.recorded else known_text limit a p errors

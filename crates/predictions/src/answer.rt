@@ -73,13 +73,14 @@ pub fn number_of_reason(reason: Reason) -> u64
 }
 
 /// Returns the number of a verdict.
-fn number_of_verdict(verdict: Verdict) -> u32
+pub(crate) fn number_of_verdict(verdict: Verdict) -> u32
     ensures { result ≡ verdict_number verdict }
 {
     match verdict {
         Verdict::Yes => 0,
         Verdict::No => 1,
         Verdict::Unknown => 2,
+        Verdict::Uncertain => 3,
     }
 }
 

@@ -6,6 +6,7 @@ ghost use Rattle.std.specs.Prelude.{ℕ, ◌≡◌, List, Option};
 ghost use Rattle.migration_model.specs.Rates.{MigrationSettings};
 ghost use Rattle.migration_model.specs.Sweeps.{SweepLine};
 ghost use Rattle.migration_model.specs.Touches.{GuestTouch};
+ghost use Rattle.predictions.specs.Agreements.{IsAgreement};
 ghost use Rattle.predictions.specs.Questions.{RefusesQuestion};
 ghost use Rattle.predictions.specs.Redrawn.Errors.{AreErrors, SampleErrors};
 ghost use Rattle.predictions.specs.Remedies.Trials.{MigrationTrial};
@@ -15,6 +16,7 @@ ghost use Rattle.predictions.specs.Starts.Choices.{IsBest};
 ghost use Rattle.predictions.specs.Starts.Costs.{CostAtStart};
 ghost use Rattle.predictions.specs.Units.Limits.{RefusesLimits};
 ghost use Rattle.predictions.specs.Units.Scales.{TraceScale};
+ghost use Rattle.predictions.specs.declared.agreement.verdicts.Agreement.{Agreement};
 ghost use Rattle.predictions.specs.declared.question.Question.{Question};
 ghost use Rattle.predictions.specs.declared.shares.share.LinkShare.{LinkShare};
 ghost use Rattle.predictions.specs.declared.starts.cases.Starts.{Starts};
@@ -26,6 +28,13 @@ ghost use Rattle.rate_limit.specs.declared.error.SettingsError.{SettingsError};
 pub fn one_errors()
     ensures { (pages : ℕ) (touches : List GuestTouch) (s : MigrationSettings) (scale : TraceScale)
         (a b : Option SampleErrors) → AreErrors pages touches s scale a → AreErrors pages touches s scale b → a ≡ b }
+{}
+
+/// A migration converges and keeps its limit in one number of draws, if there are any, and from one number of starts.
+pub fn one_agreement()
+    ensures { (pages : ℕ) (touches : List GuestTouch) (s : MigrationSettings) (scale : TraceScale) (limits : Limits)
+        (a b : Agreement) → IsAgreement pages touches s scale limits a → IsAgreement pages touches s scale limits b
+        → a ≡ b }
 {}
 
 /// Some cases have one best start, or none.

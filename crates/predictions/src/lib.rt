@@ -2,6 +2,7 @@
 //! of a sample, and what is enough for a limit.
 #![tactic(auto)]
 
+pub mod agreement;
 mod answer;
 mod cost;
 mod hosts;
@@ -22,8 +23,8 @@ pub use answer::{Answer, ErrorNumbers, number_of_reason};
 pub use cost::Cost;
 pub use hosts::{link_in_mib, millis_for_pages, push_hosts};
 pub use laws::{
-    accepted_starts_are_not_refused, one_best, one_errors, one_link_share, one_refused_limit,
-    one_refused_question, one_refused_start,
+    accepted_starts_are_not_refused, one_agreement, one_best, one_errors, one_link_share,
+    one_refused_limit, one_refused_question, one_refused_start,
 };
 pub use prediction::Prediction;
 pub use prediction_text::push_prediction;

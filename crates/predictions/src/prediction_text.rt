@@ -1,15 +1,19 @@
 //! A prediction as lines.
 
 ghost use Rattle.std.specs.Prelude.{◌≡◌, ◌++◌, ◌∷◌, ◌<◌, ◌^◌, [], OnOk, Some, codes};
+ghost use Rattle.predictions.specs.Predictions.{verdict_word};
 ghost use Rattle.predictions.specs.Quantities.{bytes_text, time_text};
-ghost use Rattle.predictions.specs.Texts.{ending, ends_early, errors_line, facts_text, known_text, line_if};
-ghost use Rattle.predictions.specs.Texts.{prediction_text, reason_words, time_line, unknown_text, verdict, warnings};
+ghost use Rattle.predictions.specs.Texts.{downtime_line, ending, ends_early, errors_line, facts_text, facts_with, known_text};
+ghost use Rattle.predictions.specs.Texts.{line_if, prediction_text, reason_words, time_line, unknown_text, verdict_line, warnings};
 ghost use Rattle.rate_limit.specs.Pacing.{reason_of};
-ghost use Rattle.sweep_report.specs.Lines.{field, line};
+ghost use Rattle.sweep_report.specs.Lines.{line};
 
+use crate::agreement::{Agreement, push_converging, push_kept};
+use crate::cost::Cost;
 use crate::prediction::Prediction;
 use crate::quantities::{push_bytes, push_error, push_time};
 use crate::redrawn::Errors;
+use crate::verdict::Verdict;
 use rate_limit::Reason;
 use std::alloc::AllocError;
 use sweep_report::{end_line, push_field};
@@ -21,24 +25,42 @@ const MANY_PAGES: u64 = 100;
 const UNKNOWN: &str =
     "converges: unknown, the trace ends before the migration does; record longer\n";
 
-/// Returns what a reason says of convergence.
+/// Returns what a reason says of the end, if more than few pages are left.
 fn ending_of(reason: &Reason) -> &'static str
     ensures { result.now ≡ ending (reason_of reason.now) }
 {
     match reason {
-        Reason::Few => "converges: yes, rounds: ",
-        Reason::Fast => "converges: no, the guest writes faster than the link sends; rounds: ",
-        Reason::Rounds => "converges: no, all rounds that are allowed are done; rounds: ",
+        Reason::Few => "; rounds: ",
+        Reason::Fast => "; the guest writes faster than the link sends; rounds: ",
+        Reason::Rounds => "; all rounds that are allowed are done; rounds: ",
     }
 }
 
-/// Appends the line on convergence.
-fn push_ending(text: &mut Vec<u8>, reason: &Reason, rounds: u64) -> Result<(), AllocError>
-    ensures { OnOk result (text.new.items ≡ text.old.items ++ line
-        (field (ending (reason_of reason.now)) rounds ∷ [])) }
+/// Appends whether a migration converges.
+fn push_answer(text: &mut Vec<u8>, verdict: Verdict) -> Result<(), AllocError>
+    ensures { OnOk result (text.new.items ≡ text.old.items ++ (codes "converges: " ++ verdict_word verdict)) }
 {
+    text.extend_from_slice("converges: ".as_bytes())?;
+    text.extend_from_slice(verdict.word().as_bytes())?;
+    Ok(())
+}
+
+/// Appends the line on convergence.
+fn push_verdict(
+    text: &mut Vec<u8>,
+    agreement: &Agreement,
+    verdict: Verdict,
+    reason: &Reason,
+    rounds: u64,
+) -> Result<(), AllocError>
+    ensures { OnOk result (text.new.items ≡ text.old.items
+        ++ verdict_line agreement.now verdict (reason_of reason.now) rounds) }
+{
+    push_answer(text, verdict)?;
+    push_converging(text, agreement)?;
     push_field(text, ending_of(reason), rounds)?;
-    end_line(text)
+    end_line(text)?;
+    Ok(())
 }
 
 /// Appends the line on the total time.
@@ -61,11 +83,15 @@ fn push_sent(text: &mut Vec<u8>, bytes: u128) -> Result<(), AllocError>
     end_line(text)
 }
 
-/// Returns whether a limit is kept, in words.
-fn verdict_of(is_kept: bool) -> &'static str
-    ensures { result.now ≡ verdict is_kept }
+/// Appends a downtime and its limit.
+fn push_times(text: &mut Vec<u8>, downtime: u128, limit: u64) -> Result<(), AllocError>
+    ensures { OnOk result (text.new.items ≡ text.old.items
+        ++ (codes "downtime: " ++ (time_text downtime ++ (codes ", limit: " ++ time_text limit)))) }
 {
-    if is_kept { ", kept" } else { ", not kept" }
+    text.extend_from_slice("downtime: ".as_bytes())?;
+    push_time(text, downtime)?;
+    text.extend_from_slice(", limit: ".as_bytes())?;
+    push_time(text, limit as u128)
 }
 
 /// Appends the line on the downtime.
@@ -73,32 +99,54 @@ fn push_downtime(
     text: &mut Vec<u8>,
     downtime: u128,
     limit: u64,
-    is_kept: bool,
+    kept: Verdict,
+    agreement: &Agreement,
 ) -> Result<(), AllocError>
-    ensures { OnOk result (text.new.items ≡ text.old.items ++ line (codes "downtime: " ∷ time_text downtime
-        ∷ codes ", limit: " ∷ time_text limit ∷ verdict is_kept ∷ [])) }
+    ensures { OnOk result (text.new.items ≡ text.old.items ++ downtime_line limit agreement.now kept downtime) }
 {
-    text.extend_from_slice("downtime: ".as_bytes())?;
-    push_time(text, downtime)?;
-    text.extend_from_slice(", limit: ".as_bytes())?;
-    push_time(text, limit as u128)?;
-    text.extend_from_slice(verdict_of(is_kept).as_bytes())?;
-    end_line(text)
+    push_times(text, downtime, limit)?;
+    text.extend_from_slice(", kept: ".as_bytes())?;
+    text.extend_from_slice(kept.word().as_bytes())?;
+    push_kept(text, agreement)?;
+    end_line(text)?;
+    Ok(())
+}
+
+/// Appends what a migration will be, with some answers.
+fn push_facts_with(
+    text: &mut Vec<u8>,
+    limit: u64,
+    agreement: &Agreement,
+    converges: Verdict,
+    kept: Verdict,
+    reason: &Reason,
+    cost: &Cost,
+) -> Result<(), AllocError>
+    ensures { OnOk result (text.new.items ≡ text.old.items
+        ++ facts_with limit agreement.now converges kept (reason_of reason.now) cost.now) }
+{
+    push_verdict(text, agreement, converges, reason, cost.rounds)?;
+    push_time_line(text, cost.time)?;
+    push_sent(text, cost.bytes)?;
+    push_downtime(text, cost.downtime, limit, kept, agreement)?;
+    Ok(())
 }
 
 /// Appends what a migration will be.
-fn push_facts(text: &mut Vec<u8>, limit: u64, prediction: &Prediction) -> Result<(), AllocError>
-    ensures { OnOk result (text.new.items ≡ text.old.items ++ facts_text limit prediction.now) }
+fn push_facts(
+    text: &mut Vec<u8>,
+    limit: u64,
+    prediction: &Prediction,
+    errors: &Option<Errors>,
+    agreement: &Agreement,
+) -> Result<(), AllocError>
+    ensures { OnOk result (text.new.items ≡ text.old.items
+        ++ facts_text limit agreement.now prediction.now errors.now) }
 {
-    push_ending(text, &prediction.reason, prediction.cost.rounds)?;
-    push_time_line(text, prediction.cost.time)?;
-    push_sent(text, prediction.cost.bytes)?;
-    push_downtime(
-        text,
-        prediction.cost.downtime,
-        limit,
-        prediction.cost.is_kept,
-    )?;
+    let converges = agreement.verdict(prediction);
+    let Prediction { reason, cost, .. } = prediction;
+    let kept = agreement.kept(limit, cost, errors);
+    push_facts_with(text, limit, agreement, converges, kept, reason, cost)?;
     Ok(())
 }
 
@@ -179,10 +227,12 @@ fn push_known(
     limit: u64,
     prediction: &Prediction,
     errors: &Option<Errors>,
+    agreement: &Agreement,
 ) -> Result<(), AllocError>
-    ensures { OnOk result (text.new.items ≡ text.old.items ++ known_text limit prediction.now errors.now) }
+    ensures { OnOk result (text.new.items ≡ text.old.items
+        ++ known_text limit agreement.now prediction.now errors.now) }
 {
-    push_facts(text, limit, prediction)?;
+    push_facts(text, limit, prediction, errors, agreement)?;
     push_errors(text, errors)?;
     push_warnings(text, prediction)
 }
@@ -206,12 +256,14 @@ pub fn push_prediction(
     limit: u64,
     prediction: &Prediction,
     errors: &Option<Errors>,
+    agreement: &Agreement,
 ) -> Result<(), AllocError>
-    ensures { OnOk result (text.new.items ≡ text.old.items ++ prediction_text limit prediction.now errors.now) }
+    ensures { OnOk result (text.new.items ≡ text.old.items
+        ++ prediction_text limit agreement.now prediction.now errors.now) }
 {
     if prediction.cost.is_late {
         push_unknown(text, prediction.recorded)
     } else {
-        push_known(text, limit, prediction, errors)
+        push_known(text, limit, prediction, errors, agreement)
     }
 }

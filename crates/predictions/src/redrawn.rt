@@ -11,5 +11,6 @@ mod spread;
 mod sums;
 mod walk;
 
+pub(crate) use draws::draw;
 pub use errors::{Errors, has_errors, sample_errors};
 pub use plans::{are_drawn, redrawn_outcome};

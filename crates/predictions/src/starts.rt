@@ -17,5 +17,6 @@ pub use error::StartsError;
 pub use range_text::push_ranges;
 pub use ranges::{CostNumbers, StartRanges, ranges_over};
 pub use spread::spread_cases;
+pub(crate) use spread::{spread_case, spread_count};
 pub use starting::{StartCost, start_costs};
 pub use table::{push_cell, push_right, push_spread, starts_text};

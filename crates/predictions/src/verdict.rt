@@ -12,6 +12,8 @@ pub enum Verdict {
     No,
     /// The trace ends before the migration does.
     Unknown,
+    /// Chance, or the start, decides it.
+    Uncertain,
 }
 
 impl Verdict {
@@ -29,7 +31,7 @@ impl Verdict {
         }
     }
 
-    /// Returns the answer as a word: `yes`, `no` or `unknown`.
+    /// Returns the answer as a word: `yes`, `no`, `unknown` or `uncertain`.
     pub fn word(&self) -> &'static str
         ensures { result.now ≡ verdict_word self.now }
     {
@@ -37,6 +39,7 @@ impl Verdict {
             Verdict::Yes => "yes",
             Verdict::No => "no",
             Verdict::Unknown => "unknown",
+            Verdict::Uncertain => "uncertain",
         }
     }
 }

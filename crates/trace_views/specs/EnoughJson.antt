@@ -1,8 +1,8 @@
 -- What is enough for the limit of a migration as a member of a JSON document: its tokens.
-use Rattle.std.specs.Prelude.{ℕ, ◌*◌, List, [], ◌∷◌, Option, None, Some, codes}
+use Rattle.std.specs.Prelude.{ℕ, ◌*◌, Bool, if◌then◌else◌, List, [], ◌∷◌, Option, None, Some, codes}
 use Rattle.json.specs.Token.{Token}
 use Rattle.predictions.specs.declared.remedies.finding.Remedies.{Remedies}
-use Rattle.trace_views.specs.Enough.{answer_of, enough_word}
+use Rattle.trace_views.specs.Enough.{answer_of, enough_word, offers}
 use Rattle.trace_views.specs.Json.{member_of, number_member, object_of, seconds_member, text_member}
 
 -- the least link in bytes a second, the least downtime, the guest's speed, and the latest start, of which each may be
@@ -29,8 +29,9 @@ amount_members r = link_member (codes "link_bytes") r.link ∷ down_member r.dow
     ∷ link_member (codes "ending_link_bytes") r.ending.link ∷ start_member r.ending.start ∷ []
 
 -- what is enough as a word, and the amounts that are
-abbrev pub enough_object : Remedies → List Token
-enough_object r = object_of (text_member (codes "answer") (enough_word (answer_of r)) ∷ amount_members r)
+abbrev pub enough_object : Bool → Remedies → List Token
+enough_object sure r = object_of (text_member (codes "answer") (enough_word (answer_of sure r))
+    ∷ (if offers (answer_of sure r) then amount_members r else []))
 
-abbrev pub enough_member : Remedies → List Token
-enough_member r = member_of (codes "enough") (enough_object r)
+abbrev pub enough_member : Bool → Remedies → List Token
+enough_member sure r = member_of (codes "enough") (enough_object sure r)

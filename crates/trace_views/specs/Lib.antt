@@ -5,6 +5,7 @@ pub mod Views
 pub mod PredictionJson
 pub mod RangesJson
 pub mod ShareJson
+pub mod AgreementJson
 pub mod Enough
 pub mod EnoughJson
 pub mod LooksJson

@@ -1,5 +1,6 @@
 -- What is predicted of a migration over a log.
 use Rattle.std.specs.Prelude.{◌≡◌, List, Option, None, Some}
+use Rattle.predictions.specs.Agreements.{IsAgreement}
 use Rattle.predictions.specs.Remedies.{AreRemedies}
 use Rattle.predictions.specs.Remedies.Trials.{MigrationTrial}
 use Rattle.migration_model.specs.Rounds.{IsPlan, MigrationPlan}
@@ -31,8 +32,8 @@ trial_of asked = record {
 }
 
 -- what the plan predicts, how far chance moves that if pages were sampled, what comes of it if the hypervisor looks as
--- QEMU does, the ranges over starts, down to which share of the link the verdict is the same, and what is enough for
--- the limit
+-- QEMU does, the ranges over starts, in how many draws and from how many starts the answers are the same, down to which
+-- share of the link the verdict is the same, and what is enough for the limit
 pub record IsOutlook (log : GuestTouches) (asked : AskedPrediction) (outlook : Outlook) : Type 0 where
   pub plan : MigrationPlan
   pub is_plan : IsPlan log.pages log.touches asked.settings plan
@@ -41,5 +42,6 @@ pub record IsOutlook (log : GuestTouches) (asked : AskedPrediction) (outlook : O
   pub are_errors : AreErrors log.pages log.touches asked.settings asked.scale outlook.errors
   pub is_forecast : IsForecast log.pages log.touches asked.scale asked.limits asked.settings outlook.looks
   pub are_ranges : AreRangesOver log asked outlook.ranges
+  pub is_agreement : IsAgreement log.pages log.touches asked.settings asked.scale asked.limits outlook.agreement
   pub is_share : IsLinkShare (VerdictAt log.pages log.touches (trial_of asked)) outlook.share
   pub are_remedies : AreRemedies log.pages log.touches (trial_of asked) outlook.remedies

@@ -5,8 +5,13 @@ use Rattle.predictions.specs.declared.units.limits.Limits.{Limits}
 use Rattle.json.specs.Token.{Token}
 use Rattle.migration_model.specs.Rates.{MigrationSettings, word_of}
 use Rattle.predictions.specs.Hosts.{link_in_mib, millis_for_pages}
-use Rattle.predictions.specs.Predictions.{GuestPrediction, kept_of, verdict_of, verdict_word}
+use Rattle.predictions.specs.Agreements.{sure_kept, sure_verdict}
+use Rattle.predictions.specs.Predictions.{GuestPrediction, verdict_word}
 use Rattle.predictions.specs.Redrawn.Errors.{SampleErrors}
+use Rattle.predictions.specs.declared.agreement.verdicts.Agreement.{Agreement}
+use Rattle.predictions.specs.declared.verdict.Verdict.{Verdict}
+use Rattle.trace_views.specs.AgreementJson.{draws_member}
+use Rattle.trace_views.specs.Enough.{is_sure}
 use Rattle.trace_views.specs.EnoughJson.{enough_member}
 use Rattle.trace_views.specs.Json.{member_of, number_member, object_of, scale_object, seconds_member, settings_members}
 use Rattle.trace_views.specs.Json.{text_member}
@@ -57,13 +62,15 @@ abbrev pub migration_member : GuestPrediction → Option SampleErrors → List T
 migration_member p errors =
     if p.cost.is_late then [] else member_of (codes "migration") (migration_object p errors)
 
--- the answers: whether the migration converges, whether it keeps its limit, and how long the trace goes on from its
--- start
-abbrev pub answer_members : GuestPrediction → List (List Token)
-answer_members p =
-    text_member (codes "converges") (verdict_word (verdict_of p)) ∷ text_member
-    (codes "kept") (verdict_word (kept_of p.cost))
-    ∷ seconds_member (codes "recorded_seconds") p.recorded ∷ []
+-- the answers, if they are sure: whether the migration converges, whether it keeps its limit, and how long the trace
+-- goes on from its start
+abbrev pub answers_with : Verdict → Verdict → ℕ → List (List Token)
+answers_with converges kept recorded =
+    text_member (codes "converges") (verdict_word converges) ∷ text_member (codes "kept") (verdict_word kept)
+    ∷ seconds_member (codes "recorded_seconds") recorded ∷ []
+
+abbrev pub answer_members : ℕ → Agreement → GuestPrediction → Option SampleErrors → List (List Token)
+answer_members limit a p errors = answers_with (sure_verdict a p) (sure_kept limit a p.cost errors) p.recorded
 
 -- what was asked: what ticks and pages stand for, the limits, and the settings that they make
 abbrev pub asked_members : MigrationSettings → TraceScale → Limits → List (List Token)
@@ -72,14 +79,15 @@ asked_members settings scale limits =
     (codes "settings") (settings_object settings)
     ∷ []
 
--- what is predicted: the answers, the migration if it is known, the ranges over starts if there are any, the shares of
--- the link, and what is enough for the limit
-abbrev pub outlook_members : Outlook → List (List Token)
-outlook_members outlook = answer_members outlook.prediction
+-- what is predicted: the answers, the migration if it is known, the answers of draws and the ranges over starts if
+-- there are any, the shares of the link, and what is enough for the limit
+abbrev pub outlook_members : ℕ → Outlook → List (List Token)
+outlook_members limit outlook = answer_members limit outlook.agreement outlook.prediction outlook.errors
     ++ migration_member outlook.prediction outlook.errors ∷ looks_member outlook.looks
-    ∷ ranges_member outlook.ranges ∷ share_member outlook.share ∷ enough_member outlook.remedies ∷ []
+    ∷ draws_member outlook.agreement.draws ∷ ranges_member outlook.ranges ∷ share_member outlook.share
+    ∷ enough_member (is_sure limit outlook) outlook.remedies ∷ []
 
 -- what was asked, what is predicted, and the same limits for others
 abbrev pub prediction_object : MigrationSettings → TraceScale → Limits → Outlook → List Token
 prediction_object settings scale limits outlook = object_of (asked_members settings scale limits
-    ++ (outlook_members outlook ++ member_of (codes "hosts") (hosts_object limits) ∷ []))
+    ++ (outlook_members limits.downtime outlook ++ member_of (codes "hosts") (hosts_object limits) ∷ []))

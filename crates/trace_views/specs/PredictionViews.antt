@@ -8,11 +8,11 @@ use Rattle.predictions.specs.Shares.Texts.{share_text}
 use Rattle.predictions.specs.Starts.RangeTexts.{ranges_text}
 use Rattle.predictions.specs.Hosts.{hosts_text}
 use Rattle.predictions.specs.Looks.Texts.{look_text}
-use Rattle.predictions.specs.Predictions.{kept_of}
+use Rattle.predictions.specs.Agreements.{sure_kept}
 use Rattle.predictions.specs.Texts.{prediction_text}
 use Rattle.predictions.specs.declared.verdict.Verdict.{Verdict}
 use Rattle.trace_views.specs.AdviceText.{live_line}
-use Rattle.trace_views.specs.Enough.{enough_text}
+use Rattle.trace_views.specs.Enough.{enough_text, is_sure}
 use Rattle.trace_views.specs.Json.{line_of}
 use Rattle.trace_views.specs.Outlooks.{IsOutlook}
 use Rattle.trace_views.specs.PredictionJson.{prediction_object}
@@ -24,9 +24,9 @@ use Rattle.trace_views.specs.declared.view.PredictionForm.TheVariants as forms
 -- a prediction beside the limit of its downtime, what comes of it if the hypervisor looks as QEMU does, the ranges over
 -- starts, the shares of the link, and what is enough for the limit
 abbrev pub outlook_text : ℕ → Outlook → List ℕ
-outlook_text limit outlook = prediction_text limit outlook.prediction outlook.errors
+outlook_text limit outlook = prediction_text limit outlook.agreement outlook.prediction outlook.errors
     ++ (look_text outlook.looks
-    ++ (ranges_text outlook.ranges ++ (share_text outlook.share ++ enough_text outlook.remedies)))
+    ++ (ranges_text outlook.ranges ++ (share_text outlook.share ++ enough_text (is_sure limit outlook) outlook.remedies)))
 
 -- these, and the words that set the same limits
 abbrev pub predicted_text : MigrationSettings → Limits → Outlook → List ℕ
@@ -38,10 +38,10 @@ abbrev pub prediction_in : PredictionForm → MigrationSettings → TraceScale �
 prediction_in forms.Lines settings scale limits outlook = predicted_text settings limits outlook
 prediction_in forms.Json settings scale limits outlook = line_of (prediction_object settings scale limits outlook)
 
--- what is predicted over a log, in some form, and whether the limit is kept
+-- what is predicted over a log, in some form, and whether the limit is kept, if that is sure
 pub record IsPredictionView (log : GuestTouches) (asked : AskedPrediction) (text : List ℕ) (kept : Verdict) : Type
     0 where
   pub outlook : Outlook
   pub is_outlook : IsOutlook log asked outlook
   pub text_is : text ≡ prediction_in asked.form asked.settings asked.scale asked.limits outlook
-  pub kept_is : kept ≡ kept_of outlook.prediction.cost
+  pub kept_is : kept ≡ sure_kept asked.limits.downtime outlook.agreement outlook.prediction.cost outlook.errors

@@ -1,6 +1,6 @@
 //! What is enough for the limit of a migration as a member of a JSON document.
 
-ghost use Rattle.std.specs.Prelude.{◌≡◌, ◌++◌, OnOk};
+ghost use Rattle.std.specs.Prelude.{◌≡◌, ◌++◌, [], if◌then◌else◌, OnOk};
 ghost use Rattle.std.specs.List.{flat_map};
 ghost use Rattle.trace_views.specs.EnoughJson.{amount_members, down_member, enough_member, enough_object, link_member};
 ghost use Rattle.trace_views.specs.EnoughJson.{speed_member, start_member};
@@ -65,13 +65,36 @@ fn write_amounts(alloc: Global, out: &mut Document, remedies: &Remedies) -> Resu
     Ok(())
 }
 
-/// Writes what is enough.
-fn write_answer(alloc: Global, out: &mut Document, remedies: &Remedies) -> Result<(), AllocError>
-    ensures { OnOk result (out.new ≡ out.old ++ enough_object remedies.now) }
+/// Writes the amounts that are enough, if some are offered.
+fn write_offered(
+    alloc: Global,
+    out: &mut Document,
+    offers: bool,
+    remedies: &Remedies,
+) -> Result<(), AllocError>
+    ensures { OnOk result (out.new ≡ out.old
+        ++ flat_map (λ m. m) (if offers then amount_members remedies.now else [])) }
 {
+    if offers {
+        write_amounts(alloc, out, remedies)
+    } else {
+        Ok(())
+    }
+}
+
+/// Writes what is enough.
+fn write_answer(
+    alloc: Global,
+    out: &mut Document,
+    sure: bool,
+    remedies: &Remedies,
+) -> Result<(), AllocError>
+    ensures { OnOk result (out.new ≡ out.old ++ enough_object sure remedies.now) }
+{
+    let answer = Enough::new(sure, remedies);
     out.begin_object()?;
-    out.text_member("answer", Enough::new(remedies).word())?;
-    write_amounts(alloc, out, remedies)?;
+    out.text_member("answer", answer.word())?;
+    write_offered(alloc, out, answer.offers(), remedies)?;
     out.end_object()?;
     Ok(())
 }
@@ -80,11 +103,12 @@ fn write_answer(alloc: Global, out: &mut Document, remedies: &Remedies) -> Resul
 pub(crate) fn write_enough(
     alloc: Global,
     out: &mut Document,
+    sure: bool,
     remedies: &Remedies,
 ) -> Result<(), AllocError>
-    ensures { OnOk result (out.new ≡ out.old ++ enough_member remedies.now) }
+    ensures { OnOk result (out.new ≡ out.old ++ enough_member sure remedies.now) }
 {
     out.key("enough")?;
-    write_answer(alloc, out, remedies)?;
+    write_answer(alloc, out, sure, remedies)?;
     Ok(())
 }

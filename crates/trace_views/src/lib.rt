@@ -3,6 +3,7 @@
 #![tactic(auto)]
 
 mod advice_writing;
+mod agreement_document;
 mod budget;
 mod choosing;
 mod document;

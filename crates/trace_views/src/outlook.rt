@@ -9,6 +9,7 @@ use crate::sweeping::planned;
 use crate::view::AskedPrediction;
 use guest_log::last_tick;
 use predictions::Prediction;
+use predictions::agreement::Agreement;
 use predictions::looks::LookForecast;
 use predictions::redrawn::Errors;
 use predictions::remedies::{Remedies, Trial};
@@ -30,6 +31,8 @@ pub struct Outlook {
     pub looks: Option<LookForecast>,
     /// What it costs from several starts, if it is known from any.
     pub ranges: Option<StartRanges>,
+    /// In how many draws, and from how many starts, its answers are the same.
+    pub agreement: Agreement,
     /// Down to which share of its link the verdict is the same.
     pub share: LinkShare,
     /// What is enough for its limit, and to end within the trace.
@@ -97,6 +100,7 @@ pub(crate) fn outlook_over<R: Threads + Sync>(
     let errors = Errors::of_trace(alloc, log, &asked.settings, scale)?;
     let looks = looks_over(alloc, asked, log)?;
     let ranges = ranges_from(rt, alloc, asked, log)?;
+    let agreement = Agreement::of_trace(alloc, log, &asked.settings, scale, limits)?;
     let trial = trial_of(asked);
     let share = LinkShare::of_trace(alloc, log, &trial)?;
     let remedies = Remedies::of_trace(alloc, log, &trial)?;
@@ -105,6 +109,7 @@ pub(crate) fn outlook_over<R: Threads + Sync>(
         errors,
         looks,
         ranges,
+        agreement,
         share,
         remedies,
     })

@@ -1,11 +1,11 @@
 //! Predictions of a log of touches, as texts.
 
 ghost use Rattle.std.specs.Prelude.{◌≡◌, ◌++◌, IfErr, IfOk, OnOk};
-ghost use Rattle.predictions.specs.Predictions.{kept_of};
+ghost use Rattle.predictions.specs.Agreements.{sure_kept};
 ghost use Rattle.trace_views.specs.PredictionViews.{IsPredictionView, outlook_text, predicted_text, prediction_in};
 
 use crate::advice_writing::push_live;
-use crate::enough::push_enough;
+use crate::enough::{is_sure, push_enough};
 use crate::error::ViewError;
 use crate::outlook::{Outlook, outlook_over};
 use crate::prediction_document::json_prediction;
@@ -14,7 +14,7 @@ use predictions::looks::push_forecast;
 use predictions::shares::push_share;
 use predictions::starts::push_ranges;
 use predictions::units::Limits;
-use predictions::{Prediction, Verdict, push_hosts, push_prediction};
+use predictions::{Verdict, push_hosts, push_prediction};
 use rate_limit::Settings;
 use std::alloc::{AllocError, Global};
 use std::thread::Threads;
@@ -25,11 +25,17 @@ use trace_readers::TouchLog;
 fn push_outlook(text: &mut Vec<u8>, limit: u64, outlook: &Outlook) -> Result<(), AllocError>
     ensures { OnOk result (text.new.items ≡ text.old.items ++ outlook_text limit outlook.now) }
 {
-    push_prediction(text, limit, &outlook.prediction, &outlook.errors)?;
+    let Outlook {
+        prediction,
+        errors,
+        agreement,
+        ..
+    } = outlook;
+    push_prediction(text, limit, prediction, errors, agreement)?;
     push_forecast(text, &outlook.looks)?;
     push_ranges(text, &outlook.ranges)?;
     push_share(text, &outlook.share)?;
-    push_enough(text, &outlook.remedies)?;
+    push_enough(text, is_sure(limit, outlook), &outlook.remedies)?;
     Ok(())
 }
 
@@ -49,11 +55,12 @@ fn predicted(
     Ok(text)
 }
 
-/// Returns whether a migration keeps its limit.
-fn kept(prediction: &Prediction) -> Verdict
-    ensures { result ≡ kept_of prediction.now.cost }
+/// Returns whether a migration keeps its limit, if that is sure.
+fn kept(limit: u64, outlook: &Outlook) -> Verdict
+    ensures { result ≡ sure_kept limit outlook.now.agreement outlook.now.prediction.cost outlook.now.errors }
 {
-    prediction.cost.kept()
+    let cost = &outlook.prediction.cost;
+    outlook.agreement.kept(limit, cost, &outlook.errors)
 }
 
 /// Returns a prediction in the requested form.
@@ -87,6 +94,6 @@ pub(crate) fn prediction_view<R: Threads + Sync>(
     let outlook = outlook_over(rt, alloc, asked, log)?;
     Ok(ViewText {
         text: written(alloc, asked, &outlook)?,
-        kept: kept(&outlook.prediction),
+        kept: kept(asked.limits.downtime, &outlook),
     })
 }

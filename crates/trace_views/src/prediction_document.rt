@@ -3,12 +3,14 @@
 ghost use Rattle.std.specs.Prelude.{◌≡◌, ◌++◌, IfOk, OnOk, codes};
 ghost use Rattle.std.specs.List.{flat_map};
 ghost use Rattle.trace_views.specs.Json.{line_of, member_of};
-ghost use Rattle.trace_views.specs.PredictionJson.{answer_members, asked_members, base_member, first_member};
-ghost use Rattle.trace_views.specs.PredictionJson.{hosts_object, limits_object, mib_member, migration_member};
-ghost use Rattle.trace_views.specs.PredictionJson.{migration_object, outlook_members, prediction_object};
-ghost use Rattle.trace_views.specs.PredictionJson.{settings_object};
+ghost use Rattle.trace_views.specs.PredictionJson.{answer_members, answers_with, asked_members, base_member};
+ghost use Rattle.trace_views.specs.PredictionJson.{first_member, hosts_object, limits_object, mib_member};
+ghost use Rattle.trace_views.specs.PredictionJson.{migration_member, migration_object, outlook_members};
+ghost use Rattle.trace_views.specs.PredictionJson.{prediction_object, settings_object};
 
+use crate::agreement_document::write_draws;
 use crate::document::Document;
+use crate::enough::is_sure;
 use crate::enough_document::write_enough;
 use crate::looks_document::write_looks;
 use crate::outlook::Outlook;
@@ -18,7 +20,7 @@ use crate::starts_document::{write_cost_numbers, write_errors};
 use crate::sweep_document::{write_scale, write_settings};
 use predictions::redrawn::Errors;
 use predictions::units::{Limits, Scale};
-use predictions::{Prediction, link_in_mib, millis_for_pages};
+use predictions::{Prediction, Verdict, link_in_mib, millis_for_pages};
 use rate_limit::Settings;
 use std::alloc::{AllocError, Global};
 
@@ -144,13 +146,32 @@ fn write_migration(
 fn write_answers(
     alloc: Global,
     out: &mut Document,
-    prediction: &Prediction,
+    converges: Verdict,
+    kept: Verdict,
+    recorded: u128,
 ) -> Result<(), AllocError>
-    ensures { OnOk result (out.new ≡ out.old ++ flat_map (λ m. m) (answer_members prediction.now)) }
+    ensures { OnOk result (out.new ≡ out.old ++ flat_map (λ m. m) (answers_with converges kept recorded)) }
 {
-    out.text_member("converges", prediction.verdict().word())?;
-    out.text_member("kept", prediction.cost.kept().word())?;
-    out.seconds_member(alloc, "recorded_seconds", prediction.recorded)?;
+    out.text_member("converges", converges.word())?;
+    out.text_member("kept", kept.word())?;
+    out.seconds_member(alloc, "recorded_seconds", recorded)?;
+    Ok(())
+}
+
+/// Writes the answers of an outlook beside the limit of its downtime as members.
+fn write_sure(
+    alloc: Global,
+    out: &mut Document,
+    limit: u64,
+    outlook: &Outlook,
+) -> Result<(), AllocError>
+    ensures { OnOk result (out.new ≡ out.old ++ flat_map (λ m. m) (answer_members limit outlook.now.agreement
+        outlook.now.prediction outlook.now.errors)) }
+{
+    let prediction = &outlook.prediction;
+    let converges = outlook.agreement.verdict(prediction);
+    let kept = outlook.agreement.kept(limit, &prediction.cost, &outlook.errors);
+    write_answers(alloc, out, converges, kept, prediction.recorded)?;
     Ok(())
 }
 
@@ -174,17 +195,24 @@ fn write_asked(
 }
 
 /// Writes what is predicted: the answers, the migration if the trace does not end before it, what comes of it if the
-/// hypervisor looks as QEMU does, the ranges over starts if there are any, the shares of the link, and what is enough
-/// for the limit, as members.
-fn write_outlook(alloc: Global, out: &mut Document, outlook: &Outlook) -> Result<(), AllocError>
-    ensures { OnOk result (out.new ≡ out.old ++ flat_map (λ m. m) (outlook_members outlook.now)) }
+/// hypervisor looks as QEMU does, the answers of draws and the ranges over starts if there are any, the shares of the
+/// link, and what is enough for the limit, as members.
+fn write_outlook(
+    alloc: Global,
+    out: &mut Document,
+    limit: u64,
+    outlook: &Outlook,
+) -> Result<(), AllocError>
+    ensures { OnOk result (out.new ≡ out.old ++ flat_map (λ m. m) (outlook_members limit outlook.now)) }
 {
-    write_answers(alloc, out, &outlook.prediction)?;
+    write_sure(alloc, out, limit, outlook)?;
     write_migration(alloc, out, &outlook.prediction, &outlook.errors)?;
     write_looks(alloc, out, &outlook.looks)?;
+    write_draws(out, &outlook.agreement.draws)?;
     write_ranges(alloc, out, &outlook.ranges)?;
     write_share(out, &outlook.share)?;
-    write_enough(alloc, out, &outlook.remedies)?;
+    let sure = is_sure(limit, outlook);
+    write_enough(alloc, out, sure, &outlook.remedies)?;
     Ok(())
 }
 
@@ -202,7 +230,7 @@ fn write_prediction(
 {
     out.begin_object()?;
     write_asked(alloc, out, settings, scale, limits)?;
-    write_outlook(alloc, out, outlook)?;
+    write_outlook(alloc, out, limits.downtime, outlook)?;
     out.key("hosts")?;
     write_hosts(out, limits)?;
     out.end_object()?;
@@ -210,8 +238,8 @@ fn write_prediction(
 }
 
 /// Returns a prediction as a JSON document, in one line: what was asked, the answers, the migration if the trace does
-/// not end before it, the ranges over starts, the shares of the link, what is enough for the limit, and the same limits
-/// for QEMU and libvirt.
+/// not end before it, the answers of draws, the ranges over starts, the shares of the link, what is enough for the
+/// limit, and the same limits for QEMU and libvirt.
 pub fn json_prediction(
     alloc: Global,
     settings: &Settings,

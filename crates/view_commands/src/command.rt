@@ -153,7 +153,7 @@ fn commands<'a>(alloc: Global) -> Result<Command<'a>, AllocError>
     ensures { IfOk result (λ line. app_of line ≡ view_line) }
 {
     let predict =
-        "Predicts a migration, in time and bytes; status 3 if it misses its limit, 4 if the trace is too short";
+        "Predicts a migration, in time and bytes; status 3 if it misses its limit, 4 if unknown, 5 if uncertain";
     let advise = "Writes which settings keep a downtime, over the trace on standard input";
     let show = "Writes what `precopy report` writes as tables with bars, for a terminal";
     let chart = "Writes what `precopy report` writes as a picture, in SVG";

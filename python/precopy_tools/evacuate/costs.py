@@ -144,11 +144,17 @@ def missed(told: dict, limits: Wanted, sample: samples.Sample) -> str:
     if told["converges"] == "unknown":
         return TOO_SHORT
     migration, found = told["migration"], []
-    if told["kept"] == "no":
+    if migration["down_seconds"] > told["limits"]["down_seconds"]:
         found.append(over("downtime", migration["down_seconds"], limits.downtime))
     if limits.time is not None and migration["time_seconds"] > limits.time:
         found.append(over("time", migration["time_seconds"], limits.time))
     return " and ".join(found)
+
+
+def by_plan(told: dict) -> str:
+    """Whether a migration converges by its plan alone."""
+    migration = told.get("migration")
+    return "unknown" if migration is None else "yes" if migration["why"] == "few" else "no"
 
 
 def numbers(told: dict) -> tuple[int, int, int]:
@@ -176,7 +182,7 @@ def cost_of(planner: Forecast, asked: Asked, limits: Wanted, at_once: int) -> Co
     ranges = told.get("starts")
     least, most = (numbers(ranges[end]) if ranges else cost for end in ("least", "greatest"))
     why = missed(told, limits, planner.sample)
-    verdict = "unknown" if planner.sample.stood_still else told["converges"]
+    verdict = "unknown" if planner.sample.stood_still else by_plan(told)
     return Cost(at_once, link.bandwidth, *cost, least[0], most[0], least[1], verdict, not why, why, start=start)
 
 

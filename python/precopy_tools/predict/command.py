@@ -6,7 +6,8 @@
 It reads NAME.json beside the trace, or the file of --record, asks `precopy-view predict`, and prints what that answers
 of the whole guest. --when prints what `precopy-view when` answers of many starts.
 --link is the rate at which pages of this guest are sent. It is less than what the card says, and depends on the guest
-and the machine. The lines at half and twice the link show how much all answers depend on it. docs/REAL-GUESTS.md says
+and the machine. The lines at half and twice the link show how much all answers depend on it. With --reached 0.85..1 the
+answers are those at both of these shares of it: one that is not the same at both is uncertain. docs/REAL-GUESTS.md says
 where hypervisors differ from a plan.
 
 Several traces have a line each, and so have the segments of a series, named as tools/record was told: its best and its
@@ -14,7 +15,7 @@ worst start are those of `precopy-view when`. --picture writes what a migration 
 begins, as SVG, from at most --starts of each trace. Times are in UTC.
 
 The status is 0 if each plan keeps the downtime limit, 3 if one does not, 4 if that is not known, since a recording ends
-before its migration does or its guest stood still, 1 if a file is refused, and 2 if the words are.
+before its migration does or its guest stood still, 5 if it is not sure, 1 if a file is refused, and 2 if the words are.
 """
 
 import argparse
@@ -31,7 +32,7 @@ from precopy_tools.refusals import Refused
 
 PROGRAM = places.program("precopy-view")
 UNKNOWN = 4
-STATUSES = {"yes": 0, "no": 3, "unknown": UNKNOWN}
+STATUSES = {"yes": 0, "no": 3, "unknown": UNKNOWN, "uncertain": 5}
 
 
 def options_of(given: list[str]) -> argparse.Namespace:
@@ -40,6 +41,12 @@ def options_of(given: list[str]) -> argparse.Namespace:
     add("traces", metavar="TRACE", nargs="+", help="a trace of drawn pages, or the name of a series")
     add("--link", metavar="RATE", type=words.link, required=True, help="a second: 10Gbit, 1250MB, 128MiB")
     add("--downtime", metavar="TIME", type=words.seconds, default=0.3, help="limit (300ms)")
+    add(
+        "--reached",
+        metavar="A..B",
+        type=words.shares,
+        help="tell the less sure of the answers at these shares of --link",
+    )
     add("--start", metavar="TIME", type=words.seconds, default=0.0, help="begin so long after the first look")
     add("--record", metavar="NAME.json", help="of one trace, if it is not beside it")
     add("--when", action="store_true", help="of one trace, print what it costs from many starts")
@@ -52,6 +59,8 @@ def options_of(given: list[str]) -> argparse.Namespace:
         parser.error("--record and --when are of one trace")
     if options.when and (options.json or options.picture):
         parser.error("--when goes without --json and --picture")
+    if options.reached and (options.when or options.json or options.picture or len(options.traces) > 1):
+        parser.error("--reached is of one trace, and goes without --when, --json and --picture")
     if options.starts > 4096:
         parser.error("--starts: at most 4,096")
     if not os.access(options.program, os.X_OK):
@@ -128,8 +137,8 @@ def write_picture(options: argparse.Namespace, starts: list[day_chart.Start]) ->
 
 def predict(options: argparse.Namespace) -> int:
     paths = series.named(options.traces)
-    if options.record and len(paths) > 1:
-        raise Refused("--record is of one trace, and this is a series")
+    if (options.record or options.reached) and len(paths) > 1:
+        raise Refused("--record and --reached are of one trace, and this is a series")
     if len(paths) > 1 or options.picture or options.json:
         return predict_each(options, paths)
     forecast, link = asked(options, paths[0])
@@ -146,6 +155,10 @@ def predict(options: argparse.Namespace) -> int:
         except plans.NoRate as fault:
             told = f"no plan, since {fault}"
         print(f"at {name} the link: {told}")
+    if options.reached:
+        ends = [forecast.told(link._replace(bandwidth=link.bandwidth * share)) for share in options.reached]
+        print("\n".join(texts.of_shares(options.reached, ends)))
+        status = STATUSES[texts.less_sure(ends, "kept")]
     for line in texts.warnings(forecast.sample):
         print(line)
     return status_of(forecast, status)

@@ -101,9 +101,9 @@ def limits(bandwidth: float, downtime: float, scale: Scale) -> list[str]:
 
 
 def answered(program: str, command: list[str], trace: bytes) -> tuple[int, str]:
-    """The status, which is 3 or 4 if no limit is known to be kept, and what the program prints."""
+    """The status, which is 3 to 5 if no limit is known to be kept, and what the program prints."""
     done = subprocess.run([program, *command], input=trace, capture_output=True)
-    if done.returncode not in (0, 3, 4):
+    if done.returncode not in (0, 3, 4, 5):
         raise Failed(f"{' '.join([program, *command])}: {done.stderr.decode(errors='replace').strip()}")
     return done.returncode, done.stdout.decode()
 

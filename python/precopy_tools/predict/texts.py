@@ -7,6 +7,7 @@ from precopy_tools.formats import samples
 from precopy_tools.quantities import error_text, micros_of, size_text, time_text
 
 SHORT = "unknown, the recording ends before the migration does"
+CONVERGES = {"yes": "converges", "no": "does not converge", "uncertain": "uncertain whether it converges"}
 
 
 def time(seconds: float) -> str:
@@ -28,7 +29,20 @@ def cost(told: dict) -> list[str]:
         ("down_seconds", time, error),
     ):
         parts.append(text(migration[name]) + (f" +- {of_error(errors[name])}" if name in errors else ""))
-    return [*parts, "converges" if told["converges"] == "yes" else "does not converge"]
+    return [*parts, CONVERGES[told["converges"]]]
+
+
+def less_sure(ends: list[dict], name: str) -> str:
+    """The answer to a question that holds at both ends of a range, if there is one."""
+    found = {told[name] for told in ends}
+    return found.pop() if len(found) == 1 else "unknown" if "unknown" in found else "uncertain"
+
+
+def of_shares(shares: tuple[float, float], ends: list[dict]) -> list[str]:
+    """What comes of a migration at two shares of its link, and what holds at both."""
+    lines = [f"at {100 * share:g} per cent: {', '.join(cost(told))}" for share, told in zip(shares, ends)]
+    answers = ", ".join(f"{name}: {less_sure(ends, name)}" for name in ("converges", "kept"))
+    return [*lines, f"at all that may be reached: {answers}"]
 
 
 def of_sample(sample: samples.Sample, page_size: int) -> list[str]:

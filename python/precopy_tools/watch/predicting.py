@@ -42,7 +42,8 @@ def of_document(document: dict, limits: Limits) -> Prediction:
     migration, starts = told.get("migration"), told.get("starts")
     if not document["certain"] or migration is None or told["kept"] == "unknown":
         return Prediction(limits, UNKNOWN)
-    verdict = MISSED if told["kept"] == "no" or is_over(migration, limits) else KEPT
+    verdict = {"no": MISSED, "uncertain": UNKNOWN}.get(told["kept"], KEPT)
+    verdict = MISSED if is_over(migration, limits) else verdict
     part = starts["kept"] / starts["known"] if starts else None
     numbers = (migration[name] for name in ("time_seconds", "sent_bytes", "down_seconds"))
     return Prediction(limits, verdict, *numbers, part)
@@ -69,7 +70,7 @@ def predicted(program: str, path: str, limits: Limits) -> Prediction:
         except subprocess.TimeoutExpired as fault:
             process.kill()
             raise Failed(f"{path}: no prediction within {SECONDS} s") from fault
-    if process.returncode not in (0, 3, 4):
+    if process.returncode not in (0, 3, 4, 5):
         raise Failed(faults.strip() or f"{path}: the prediction ended with status {process.returncode}")
     try:
         return of_document(json.loads(text), limits)

@@ -36,7 +36,7 @@ pub(crate) const WRITES: [(u64, u32); 18] = [
 
 /// Settings of a plan.
 #[derive(Clone, Copy)]
-enum Case {
+pub(crate) enum Case {
     /// It converges.
     Slow,
     /// Its rounds are over before it converges.
@@ -48,7 +48,7 @@ enum Case {
 }
 
 impl Case {
-    fn asked(self) -> Asked {
+    pub(crate) fn asked(self) -> Asked {
         let slow = Asked { max: 20, ..ASKED };
         match self {
             Case::Slow => slow,
@@ -158,7 +158,7 @@ fn lent_errors(
 }
 
 /// What a tick is in microseconds, a page in bytes, and how many pages of a guest of how many are in the trace.
-type Units = (u64, u64, u64, u64);
+pub(crate) type Units = (u64, u64, u64, u64);
 
 /// Returns the standard errors by both calls.
 fn both_errors(

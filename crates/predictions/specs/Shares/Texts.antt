@@ -12,12 +12,14 @@ abbrev pub is_known : Verdict → Bool
 is_known verdicts.Yes = true
 is_known verdicts.No = true
 is_known verdicts.Unknown = false
+is_known verdicts.Uncertain = true
 
 -- what is told of these shares
 abbrev pub share_words : Verdict → List ℕ
 share_words verdicts.Yes = codes "share of the link: converges at "
 share_words verdicts.No = codes "share of the link: does not converge at "
 share_words verdicts.Unknown = codes "share of the link: unknown at "
+share_words verdicts.Uncertain = codes "share of the link: uncertain at "
 
 -- from the least of them, if that is not all of the link
 abbrev pub from_words : ℕ → List ℕ

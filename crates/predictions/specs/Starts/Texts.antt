@@ -22,6 +22,7 @@ abbrev pub mark_of : Verdict → List ℕ
 mark_of verdicts.Yes = codes "kept"
 mark_of verdicts.No = codes "not kept"
 mark_of verdicts.Unknown = codes "unknown"
+mark_of verdicts.Uncertain = codes "uncertain"
 
 -- a column beside others: a blank, and words at the right end of this width
 unfoldable pub cell_in : ℕ → List ℕ → List ℕ

@@ -19,6 +19,7 @@ fn share_words(verdict: Verdict) -> &'static str
         Verdict::Yes => "share of the link: converges at ",
         Verdict::No => "share of the link: does not converge at ",
         Verdict::Unknown => "share of the link: unknown at ",
+        Verdict::Uncertain => "share of the link: uncertain at ",
     }
 }
 

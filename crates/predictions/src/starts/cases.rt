@@ -3,8 +3,8 @@
 // `RefusesStart` holds of one value alone: `one_refused_start`.
 
 ghost use Rattle.std.specs.Prelude.{◌≡◌, ◌≤◌, ◌<◌, ◌+◌, ◌-◌, ◌*◌, ◌/◌, IfErr, IfOk, None, OnOk, Some, max};
-ghost use Rattle.predictions.specs.Starts.{AreAccepted, RefusesStart, RefusesStarts, cases_from, count_of};
-ghost use Rattle.predictions.specs.Starts.{last_start, spacing_of};
+ghost use Rattle.predictions.specs.Starts.{AreAccepted, RefusesStart, RefusesStarts, case_from, cases_from};
+ghost use Rattle.predictions.specs.Starts.{count_of, last_start, spacing_of};
 ghost use Rattle.rate_limit.specs.Refusals.{refusal_of};
 
 use crate::starts::error::StartsError;
@@ -45,7 +45,7 @@ impl Starts {
     }
 
     /// Returns how many starts there are, over a trace with this last tick.
-    fn count(&self, last_tick: u64) -> u128
+    pub(crate) fn count(&self, last_tick: u64) -> u128
         ensures { result ≡ count_of self.now last_tick }
     {
         let span = self.last(last_tick) - self.from;
@@ -68,6 +68,20 @@ impl Starts {
             }
         }
         Ok(())
+    }
+
+    /// Returns the settings of a migration from a start, by its number, none of which is refused.
+    pub(crate) fn case(&self, settings: &Settings, last_tick: u64, number: u64) -> Settings
+        requires number { number < count_of self.now last_tick }
+        requires accepted { AreAccepted settings.now self.now last_tick }
+        ensures { result ≡ case_from settings.now self.now last_tick number }
+    {
+        let last = self.last(last_tick);
+        let every = self.spacing(last_tick);
+        let Ok(case) = case_at(settings, tick_at(self.from, last, every, number)) else {
+            unreachable!()
+        };
+        case
     }
 
     /// Returns the settings of a migration from each start, none of which is refused.

@@ -1,9 +1,10 @@
 //! The starts that ranges are of.
 
-ghost use Rattle.std.specs.Prelude.{◌≡◌, ◌<◌, ◌^◌, IfErr, IfOk};
+ghost use Rattle.std.specs.Prelude.{◌≡◌, ◌<◌, ◌≤◌, ◌^◌, IfErr, IfOk};
 ghost use Rattle.migration_model.specs.Rates.{AreSettings};
 ghost use Rattle.predictions.specs.Starts.Ranges.{spread_starts};
-ghost use Rattle.predictions.specs.Starts.{cases_from};
+ghost use Rattle.predictions.specs.Agreements.{spread_case};
+ghost use Rattle.predictions.specs.Starts.{cases_from, count_of};
 
 use crate::starts::cases::Starts;
 use crate::starts::error::StartsError;
@@ -26,6 +27,23 @@ fn spread(settings: &Settings, last_tick: u64) -> Starts
         to: None,
         every: Some(span.div_ceil(PARTS)),
     }
+}
+
+/// Returns how many of these starts there are.
+pub(crate) fn spread_count(settings: &Settings, last_tick: u64) -> u64
+    ensures count { result ≡ count_of (spread_starts settings.now last_tick) last_tick }
+    ensures few { result ≤ 21 }
+{
+    spread(settings, last_tick).count(last_tick) as u64
+}
+
+/// Returns the settings of the migration from one of these starts, by its number.
+pub(crate) fn spread_case(settings: &Settings, last_tick: u64, number: u64) -> Settings
+    requires low { last_tick < 2 ^ 40 }
+    requires number { number < count_of (spread_starts settings.now last_tick) last_tick }
+    ensures { result ≡ spread_case settings.now last_tick number }
+{
+    spread(settings, last_tick).case(settings, last_tick, number)
 }
 
 /// Returns the settings of the migration from each of at most 21 starts, evenly spread over a trace with this last

@@ -89,6 +89,7 @@ fn mark_words(cost: &Cost) -> &'static str
         Verdict::Yes => "kept",
         Verdict::No => "not kept",
         Verdict::Unknown => "unknown",
+        Verdict::Uncertain => "uncertain",
     }
 }
 

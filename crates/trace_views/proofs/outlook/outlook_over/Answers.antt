@@ -24,6 +24,7 @@ returns-clause-made g c =
       are_errors = c.in_ok-errors.ensures;
       is_forecast = c.in_ok-looks.ensures.made;
       are_ranges = c.in_ok-ranges.ensures.made;
+      is_agreement = c.in_ok-agreement.ensures;
       is_share = subst (λ (trial : MigrationTrial). IsLinkShare (VerdictAt c.args.log.now.pages c.args.log.now.touches
           trial) c.in_ok-share.share) c.trial_of-trial.ensures c.in_ok-share.ensures;
       are_remedies = subst (λ (trial : MigrationTrial). AreRemedies c.args.log.now.pages c.args.log.now.touches trial

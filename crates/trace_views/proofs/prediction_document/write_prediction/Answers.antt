@@ -35,7 +35,7 @@ pub returns : goal.returns
 returns c =
     let old = c.args.out.now in
     let asked = asked_members c.args.settings.now c.args.scale.now c.args.limits.now in
-    let told = outlook_members c.args.outlook.now in
+    let told = outlook_members c.args.limits.now.downtime c.args.outlook.now in
     let hosts = hosts_object c.args.limits.now in
     let name = key (codes "hosts") in
     written old (begin_object ∷ []) (joined asked) (joined told) (name ∷ []) hosts (end_object ∷ [])

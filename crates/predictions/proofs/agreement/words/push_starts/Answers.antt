@@ -1,0 +1,13 @@
+use Rattle.std.proofs.Common.{append_assoc}
+use Rattle.predictions.specs.Agreements.Texts.{starts_words}
+use Rattle.predictions.proofs.agreement.words.push_starts.Goals as goal
+
+pub returns : goal.returns
+unfolding starts_words
+returns c =
+    rw (
+      c.in_ok-extend_from_slice.ensures.items,
+      c.as_bytes.ensures.value,
+      c.in_ok-push_field-2.ensures,
+      c.in_ok-push_field.ensures,
+    ) (simp append_assoc)

@@ -1,0 +1,80 @@
+//! The answers of the plans from several starts.
+
+ghost use Rattle.std.specs.Prelude.{◌≡◌, ◌≤◌, length, IfOk};
+ghost use Rattle.page_bitmap.specs.Listing.{word_count};
+ghost use Rattle.predictions.specs.Agreements.{AreStartCounts};
+
+use crate::agreement::counts::AnswerCounts;
+use crate::starts::{spread_case, spread_count};
+use crate::units::{Limits, Scale};
+use guest_log::{Timeline, last_tick};
+use page_bitmap::word_count;
+use rate_limit::Settings;
+use round_planner::{RoundRow, plan_rows};
+use std::alloc::{AllocError, Global};
+
+/// Of at most 21 starts, spread evenly over a trace, returns from how many the plan ends within it, converges, and
+/// keeps its limit.
+///
+/// It allocates nothing: the caller lends a bit of `marks` and a slot of `list` for each page, and 64 slots of `rows`.
+/// What they hold does not matter. It costs as much as 21 plans.
+pub fn start_counts<T: Timeline>(
+    timeline: &T,
+    settings: &Settings,
+    scale: &Scale,
+    limits: &Limits,
+    marks: &mut [u64],
+    list: &mut [u32],
+    rows: &mut [RoundRow],
+) -> AnswerCounts
+    requires marks { length marks.old ≡ word_count (T.pages timeline.now) }
+    requires list { length list.old ≡ T.pages timeline.now }
+    requires rows { 64 ≤ length rows.old }
+    ensures { AreStartCounts (T.pages timeline.now) (T.touches timeline.now) settings.now scale.now limits.now result }
+{
+    let last = last_tick(timeline);
+    let count = spread_count(settings, last);
+    let mut counts = AnswerCounts::NONE;
+    for number in 0..count {
+        let case = spread_case(settings, last, number);
+        let outcome = plan_rows(timeline, &case, marks, list, rows);
+        counts = counts.with(scale, limits, &outcome, last);
+    }
+    counts.of_known()
+}
+
+/// An empty row of a round.
+const NO_ROW: RoundRow = RoundRow {
+    from: 0,
+    to: 0,
+    rate: 0,
+    pages: 0,
+    sent: 0,
+    dirtied: 0,
+};
+
+/// The most rounds.
+const MOST_ROUNDS: usize = 64;
+
+impl AnswerCounts {
+    /// Returns what `start_counts` does. The only error is that memory runs out.
+    pub fn of_starts<T: Timeline>(
+        alloc: Global,
+        timeline: &T,
+        settings: &Settings,
+        scale: &Scale,
+        limits: &Limits,
+    ) -> Result<AnswerCounts, AllocError>
+        ensures { IfOk result (AreStartCounts (T.pages timeline.now) (T.touches timeline.now) settings.now scale.now
+            limits.now) }
+    {
+        let pages = timeline.page_count() as usize;
+        let mut marks = Vec::from_elem(alloc, 0, word_count(pages))?;
+        let mut list = Vec::from_elem(alloc, 0, pages)?;
+        let mut rows = Vec::from_elem(alloc, NO_ROW, MOST_ROUNDS)?;
+        let counts = start_counts(
+            timeline, settings, scale, limits, &mut marks, &mut list, &mut rows,
+        );
+        Ok(counts)
+    }
+}

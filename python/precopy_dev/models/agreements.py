@@ -1,0 +1,96 @@
+"""How sure an answer is, as `specs/Agreements.antt` of `predictions` defines it, by plans page by page.
+
+It shares no code with the crate. The numbers in the crate's tests come from here.
+"""
+
+from typing import NamedTuple
+
+from precopy_dev.models.redrawn import Outcome, draws, errors, planned
+from precopy_dev.models.remedies import Trial, last_tick, settings
+
+
+class Counts(NamedTuple):
+    """Of some migrations: how many there are, how many end within the trace, converge, and keep their limit."""
+
+    whole: int
+    known: int
+    converging: int
+    kept: int
+
+
+class Agreement(NamedTuple):
+    """The counts of the draws, if pages were sampled, and of the starts that the record allows."""
+
+    draws: Counts | None
+    starts: Counts
+
+
+def downtime(trial: Trial, plan: Outcome) -> int:
+    return plan.down * trial.scale.tick + trial.limits.reserve
+
+
+def counts(trial: Trial, plans: list[Outcome], last: int) -> Counts:
+    known = [plan for plan in plans if plan.stop <= last]
+    converging = [plan for plan in known if plan.reason == "few"]
+    kept = [plan for plan in known if downtime(trial, plan) <= trial.limits.downtime]
+    return Counts(len(plans), len(known), len(converging), len(kept))
+
+
+def is_sampled(trial: Trial) -> bool:
+    return 2 <= trial.scale.sampled < trial.scale.guest and trial.scale.sampled <= 65_536
+
+
+def draw_counts(guest: list[list[int]], trial: Trial) -> Counts | None:
+    if not is_sampled(trial):
+        return None
+    made = settings(trial)
+    redrawn = [[guest[page] for page in drawn] for drawn in draws(trial.scale.sampled, len(guest))]
+    return counts(trial, [planned(pages, made) for pages in redrawn], last_tick(guest))
+
+
+def start_counts(guest: list[list[int]], trial: Trial) -> Counts:
+    """From the copy at the destination, or else tick 0, on: each twentieth of what is left of the trace, rounded up."""
+    made, last = settings(trial), last_tick(guest)
+    first = trial.others.base or 0
+    every = max(1, -(-(last - first) // 20))
+    starts = range(first, max(first, last) + 1, every)
+    found = counts(trial, [planned(guest, made._replace(start=start)) for start in starts], last)
+    return found._replace(whole=found.known)
+
+
+def agreement(guest: list[list[int]], trial: Trial) -> Agreement:
+    return Agreement(draw_counts(guest, trial), start_counts(guest, trial))
+
+
+def agrees(found: Agreement, name: str, answer: str) -> bool:
+    """Whether 19 of 20 draws, and 19 in 20 of the starts, have an answer to a question: `converging` or `kept`."""
+    for each in (found.draws, found.starts):
+        if each is not None:
+            same = getattr(each, name) if answer == "yes" else each.known - getattr(each, name)
+            if 20 * same < 19 * each.whole:
+                return False
+    return True
+
+
+def sure(found: Agreement, name: str, answer: str) -> str:
+    return answer if answer == "unknown" or agrees(found, name, answer) else "uncertain"
+
+
+def converges(guest: list[list[int]], trial: Trial, found: Agreement) -> str:
+    plan = planned(guest, settings(trial))
+    if plan.stop > last_tick(guest):
+        return "unknown"
+    return sure(found, "converging", "yes" if plan.reason == "few" else "no")
+
+
+def kept(guest: list[list[int]], trial: Trial, found: Agreement) -> str:
+    """A limit is kept for sure with two standard errors of the downtime."""
+    made = settings(trial)
+    plan, limit = planned(guest, made), trial.limits.downtime
+    if plan.stop > last_tick(guest):
+        return "unknown"
+    down = downtime(trial, plan)
+    error = errors(guest, made, trial.scale)[2] if is_sampled(trial) else 0
+    if down <= limit < down + 2 * error:
+        return "uncertain"
+    return sure(found, "kept", "yes" if down <= limit else "no")
