@@ -10,7 +10,7 @@ from precopy_dev.tree import read
 
 DIFFERS = (
     "Places of writes are laid out by a sort of runs",
-    "`par_tables` and `par_plan` work on the caller's thread, whatever the number of workers",
+    "`par_plan` works on the caller's thread, whatever the number of workers",
     "`Thread` is an error that no table, plan or sweep returns",
     "`L2` tells of a thread that a live run needs, and not of every thread that did not start",
     "A call that a signal interrupts is tried again",
