@@ -17,7 +17,7 @@ from checks.lib import traces as all_traces
 from checks.lib.harness import drawn
 from checks.lib.library_runs import LIBRARY, TOP, read
 from checks.lib.stream_rows import NEW, RIGHT, STOP, frame
-from checks.lib.tally import LeftOut
+from checks.lib.tally import LeftOut, is_installed
 from checks.lib.traces import header
 from checks.library import traces
 
@@ -254,11 +254,15 @@ OF_ARRAYS = ["trace", "written", "wide", "streams", "not copied"]
 OF_ARRAYS += ["strided BufferError", "read-only BufferError", "overlapping Overlap"]
 
 
-def check_arrays(tally):
+def python_with_numpy():
     pythons = [it for it in (sys.executable, SYSTEM) if os.access(it, os.X_OK)]
-    python = next((it for it in pythons if not script(it, "import numpy").returncode), None)
+    return next((it for it in pythons if not script(it, "import numpy").returncode), None)
+
+
+def check_arrays(tally):
+    python = python_with_numpy() or (is_installed(["python3-numpy"]) and python_with_numpy())
     if not python:
-        raise LeftOut("no Python here has the module numpy")
+        raise LeftOut("no Python here has the module numpy, and python3-numpy could not be installed")
     ran = script(python, ARRAYS, os.path.join(TOP, "examples", "gzip.pcwt"))
     tally.add(ran.stdout.splitlines() == OF_ARRAYS, f"arrays of numpy: {ran.stdout}{ran.stderr}")
 
