@@ -207,8 +207,8 @@ def alerts_when_due(_, folder):
 
 
 def dashboard_of_known_metrics(_, __):
-    """The dashboard and the alerts ask for metrics that there are, and for each limit; each panel has a place, a title and
-    a unit."""
+    """The dashboard and the alerts ask for metrics that there are, and the dashboard for each limit; each panel has a
+    place, a title and a unit."""
     with open(DASHBOARD, encoding="utf-8") as file:
         dashboard = json.load(file)
     with open(RULES, encoding="utf-8") as file:
