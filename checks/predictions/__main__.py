@@ -23,7 +23,7 @@ from checks.predictions.doors import DOORS, Programs, asker, compare
 from checks.predictions.questions import Asked
 from precopy_dev.tree import TOP
 
-LEAST = {"yes": 20, "no": 10, "uncertain": 20, "unknown": 10, "refused": 4}
+LEAST = {"yes": 20, "no": 10, "uncertain": 8, "unknown": 10, "refused": 4}
 FEW, AT_ONCE = 6, 4
 
 
