@@ -108,7 +108,7 @@ def told_of(metrics, guest):
     numbers = {name: metrics.get(of_guest(f"precopy_guest_predicted_{each}", guest)) for name, each in NUMBERS.items()}
     verdicts = [
         each
-        for each in ("kept", "missed", "unknown")
+        for each in ("kept", "missed", "uncertain", "unknown")
         if metrics[of_guest("precopy_guest_verdict", guest, verdict=each)]
     ]
     expect(len(verdicts) == 1, f"{guest}: verdicts {verdicts}")
@@ -122,7 +122,7 @@ def expect_predicted(program, run, metrics, guest, *limits):
     for path in run.records_of(guest)[-10:]:
         told = predicted(program, path, *limits)
         migration = told.get("migration", {})
-        known_verdict = {"yes": "kept", "no": "missed"}.get(told["kept"], "unknown")
+        known_verdict = {"yes": "kept", "no": "missed"}.get(told["kept"], told["kept"])
         found.append(({name: migration.get(name) for name in NUMBERS}, known_verdict))
     expect((numbers, verdict) in found, f"{guest}: {numbers}, {verdict} are told, and predicted are {found}")
     return verdict

@@ -32,6 +32,10 @@ METRICS = {
         "gauge",
         "Of the starts within the last record whose migration ends within it, those that keep the limit of downtime.",
     ),
+    "precopy_guest_converging_redraws_ratio": (
+        "gauge",
+        "Of the redraws of the last record's pages, those whose migration converges.",
+    ),
     "precopy_guest_downtime_limit_seconds": ("gauge", "The longest downtime that the guest's limits allow."),
     "precopy_guest_duration_limit_seconds": ("gauge", "The longest time that the guest's limits allow."),
     "precopy_guest_link_bytes_per_second": ("gauge", "The rate at which the prediction sends the guest's pages."),
@@ -82,6 +86,7 @@ def of_prediction(name: str, found: Prediction) -> Iterator[Line]:
         ("precopy_guest_predicted_sent_bytes", found.sent),
         ("precopy_guest_predicted_downtime_seconds", found.downtime),
         ("precopy_guest_kept_starts_ratio", found.kept_starts),
+        ("precopy_guest_converging_redraws_ratio", found.converging_redraws),
         ("precopy_guest_downtime_limit_seconds", limits.downtime),
         ("precopy_guest_duration_limit_seconds", limits.time),
         ("precopy_guest_link_bytes_per_second", limits.link),

@@ -17,12 +17,13 @@ from precopy_tools.watch.limits import Limits
 FOLDER = os.path.dirname(os.path.dirname(os.path.dirname(os.path.realpath(__file__))))
 SECONDS = 600
 NICE = 10
-KEPT, MISSED, UNKNOWN = VERDICTS = ("kept", "missed", "unknown")
+KEPT, MISSED, UNCERTAIN, UNKNOWN = VERDICTS = ("kept", "missed", "uncertain", "unknown")
 
 
 class Prediction(NamedTuple):
     """What is predicted of a migration that begins where a segment does: time, bytes and downtime, if it ends within
-    the segment; whether it keeps its limits; and of how many starts within the segment, of those known, it does."""
+    the segment; whether it keeps its limits; of how many starts within the segment, of those known, it does; and in how
+    many of the redraws it converges."""
 
     limits: Limits
     verdict: str
@@ -30,6 +31,7 @@ class Prediction(NamedTuple):
     sent: int | None = None
     downtime: float | None = None
     kept_starts: float | None = None
+    converging_redraws: float | None = None
 
 
 def is_over(migration: dict, limits: Limits) -> bool:
@@ -42,11 +44,13 @@ def of_document(document: dict, limits: Limits) -> Prediction:
     migration, starts = told.get("migration"), told.get("starts")
     if not document["certain"] or migration is None or told["kept"] == "unknown":
         return Prediction(limits, UNKNOWN)
-    verdict = {"no": MISSED, "uncertain": UNKNOWN}.get(told["kept"], KEPT)
+    verdict = {"no": MISSED, "uncertain": UNCERTAIN}.get(told["kept"], KEPT)
     verdict = MISSED if is_over(migration, limits) else verdict
     part = starts["kept"] / starts["known"] if starts else None
+    redraws = told.get("redraws")
+    converging = redraws["converging"] / redraws["count"] if redraws else None
     numbers = (migration[name] for name in ("time_seconds", "sent_bytes", "down_seconds"))
-    return Prediction(limits, verdict, *numbers, part)
+    return Prediction(limits, verdict, *numbers, part, converging)
 
 
 def command_of(program: str, path: str, limits: Limits) -> list[str]:
