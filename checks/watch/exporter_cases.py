@@ -184,7 +184,9 @@ def lines_as_prometheus_wants_them(program, folder):
     """promtool finds nothing to say of the names, the units and the forms of all metrics that there are."""
     need("promtool")
     with known(folder, "a.qmp"), known(folder, f"{ODD}.qmp"):
-        with Watching(program, folder, limits='[default]\nlink = "64MiB"\ntime = "5m"\n') as run:
+        limits = '[default]\nlink = "64MiB"\ntime = "5m"\n'
+        # Of pages that are all recorded there are no redraws.
+        with Watching(program, folder, "--pages", "16", limits=limits) as run:
             run.wait_for_value("precopy_guest_verdict", "a", 1, verdict="kept")
             run.end_well()
     with open(run.textfile, encoding="utf-8") as file:
