@@ -46,12 +46,7 @@ fn agreement_over(
     let prediction = prediction_with(terms, log, &plan);
     let errors = Errors::of_trace(alloc, log, settings, scale)?;
     let agreement = Agreement::of_trace(alloc, log, settings, scale, limits)?;
-    Ok(AgreementNumbers::new(
-        limits.downtime,
-        &agreement,
-        &prediction,
-        &errors,
-    ))
+    Ok(AgreementNumbers::new(limits.downtime, &agreement, &prediction, &errors))
 }
 
 /// Returns how sure the answer to a question is over the trace that the bytes encode. The question is tested first.

@@ -60,7 +60,8 @@ fn no_range_is_told_of_no_known_start(rt: HostRuntime) -> Result<(), Fail> {
 
 /// There is a start at each 125th tick. From three of those that are known, pages are left after the only round, and
 /// the limit has no time for them.
-static MISSED: &str = "converges: uncertain, in 0 of 20 redraws and from 16 of 19 starts; all rounds that are allowed \
+static MISSED: &str =
+    "converges: uncertain, in 0 of 20 redraws and from 16 of 19 starts; all rounds that are allowed \
     are done; rounds: 1
 total time: 525 ms
 sent: 384 bytes

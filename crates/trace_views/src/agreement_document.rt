@@ -31,7 +31,10 @@ fn write_named(out: &mut Document, counts: &AnswerCounts) -> Result<(), AllocErr
 }
 
 /// Writes the answers of draws as a member, if pages were sampled.
-pub(crate) fn write_draws(out: &mut Document, draws: &Option<AnswerCounts>) -> Result<(), AllocError>
+pub(crate) fn write_draws(
+    out: &mut Document,
+    draws: &Option<AnswerCounts>,
+) -> Result<(), AllocError>
     ensures { OnOk result (out.new ≡ out.old ++ draws_member draws.now) }
 {
     match draws {

@@ -170,7 +170,9 @@ fn write_sure(
 {
     let prediction = &outlook.prediction;
     let converges = outlook.agreement.verdict(prediction);
-    let kept = outlook.agreement.kept(limit, &prediction.cost, &outlook.errors);
+    let kept = outlook
+        .agreement
+        .kept(limit, &prediction.cost, &outlook.errors);
     write_answers(alloc, out, converges, kept, prediction.recorded)?;
     Ok(())
 }

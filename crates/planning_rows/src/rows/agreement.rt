@@ -6,7 +6,9 @@ use super::redrawn::{Case, Units, WRITES};
 use super::remedy::OLD_ROW;
 use guest_log::Timeline;
 use page_bitmap::word_count;
-use predictions::agreement::{Agreement, AgreementNumbers, AnswerCounts, draw_counts, start_counts};
+use predictions::agreement::{
+    Agreement, AgreementNumbers, AnswerCounts, draw_counts, start_counts,
+};
 use predictions::redrawn::{Errors, has_errors};
 use predictions::units::{Limits, Scale};
 use predictions::{Prediction, Verdict};
@@ -98,13 +100,7 @@ fn counts_of_draws_and_starts(rt: HostRuntime) -> Result<(), Fail> {
     const ALL: Units = (1000, 4096, 6, 6);
     type Row = (Case, Units, (u64, u64), Option<Counts>, Counts);
     const ROWS: [Row; 8] = [
-        (
-            Case::Slow,
-            MOST,
-            (0, 0),
-            Some((20, 1, 1, 1)),
-            (0, 0, 0, 0),
-        ),
+        (Case::Slow, MOST, (0, 0), Some((20, 1, 1, 1)), (0, 0, 0, 0)),
         (
             Case::Three,
             SOME,
@@ -134,13 +130,7 @@ fn counts_of_draws_and_starts(rt: HostRuntime) -> Result<(), Fail> {
             (9, 9, 4, 4),
         ),
         (Case::Skipping, ALL, (100_000, 0), None, (9, 9, 4, 9)),
-        (
-            Case::Warm,
-            MOST,
-            (0, 0),
-            Some((20, 5, 5, 5)),
-            (2, 2, 2, 2),
-        ),
+        (Case::Warm, MOST, (0, 0), Some((20, 5, 5, 5)), (2, 2, 2, 2)),
         (Case::Warm, ALL, (0, 0), None, (2, 2, 2, 2)),
     ];
     let alloc = rt.alloc();
@@ -212,12 +202,7 @@ fn nearly_all_agree(rt: HostRuntime) -> Result<(), Fail> {
     const ONE: Counts = (20, 20, 1, 1);
     const LATE: Counts = (20, 18, 0, 0);
     const NO_START: Counts = (0, 0, 0, 0);
-    type Row = (
-        (Reason, u64),
-        (Counts, Counts),
-        u128,
-        (Verdict, Verdict),
-    );
+    type Row = ((Reason, u64), (Counts, Counts), u128, (Verdict, Verdict));
     let sure = (Verdict::Yes, Verdict::Yes);
     let never = (Verdict::No, Verdict::No);
     let doubtful = (Verdict::Uncertain, Verdict::Uncertain);
