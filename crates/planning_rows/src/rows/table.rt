@@ -97,7 +97,10 @@ fn any_number_of_workers(rt: HostRuntime) -> Result<(), Fail> {
 
 /// Returns a trace of this many writes to 3,000 pages, 17 of them at each tick, so long that workers count pieces of it.
 fn long_trace(alloc: Global, writes: u32) -> Result<Vec<u8>, AllocError> {
-    let mut bytes = Vec::from_slice(alloc, &[0x50, 0x43, 0x57, 0x54, 1, 12, 0, 0, 0xb8, 0x0b, 0, 0])?;
+    let mut bytes = Vec::from_slice(
+        alloc,
+        &[0x50, 0x43, 0x57, 0x54, 1, 12, 0, 0, 0xb8, 0x0b, 0, 0],
+    )?;
     bytes.extend_from_slice(&writes.to_le_bytes())?;
     let mut drawn: u32 = 1;
     for index in 0..writes {
