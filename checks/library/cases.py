@@ -60,7 +60,15 @@ def check_form(tally):
     tally.add({int(it) for it in told} - {17, 29} == statuses, f"the numbers of contracts and header differ: {told}")
 
 
-REASONS = {"PRECOPY_FEW", "PRECOPY_FAST", "PRECOPY_ALL_ROUNDS", "PRECOPY_YES", "PRECOPY_NO", "PRECOPY_UNKNOWN"}
+REASONS = {
+    "PRECOPY_FEW",
+    "PRECOPY_FAST",
+    "PRECOPY_ALL_ROUNDS",
+    "PRECOPY_YES",
+    "PRECOPY_NO",
+    "PRECOPY_UNKNOWN",
+    "PRECOPY_UNCERTAIN",
+}
 
 
 def check_header(tally, folder):

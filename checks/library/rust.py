@@ -48,7 +48,7 @@ def receive(tally, folder, path, trace):
 def check_statuses(tally):
     """The numbers of the crate's statuses are those of the header."""
     header = dict(re.findall(r"\bPRECOPY_(\w+) = (\d+)", read(HEADER, "r")))
-    others = {"OK", "FEW", "FAST", "ALL_ROUNDS", "YES", "NO", "UNKNOWN"}
+    others = {"OK", "FEW", "FAST", "ALL_ROUNDS", "YES", "NO", "UNKNOWN", "UNCERTAIN"}
     header = {name.title().replace("_", ""): number for name, number in header.items() if name not in others}
     source = read(f"{CRATE}/src/status.rs", "r")
     crate = dict(re.findall(r"^    (\w+) = (\d+),$", source, re.M))

@@ -40,8 +40,11 @@ returns c =
     let ranges = ranges_member c.args.outlook.now.ranges in
     let share = share_member c.args.outlook.now.share in
     let enough = enough_member (is_sure c.args.limit outlook) outlook.remedies in
+    let written_enough : c.write_enough.new.out ≡ c.write_share.new.out ++ enough = c.in_ok-write_enough.ensures
+    ∙ ap (λ sure. c.write_share.new.out ++ enough_member sure outlook.remedies) c.is_sure-sure.ensures in
     written old (joined answers) migration looks draws ranges share enough c.write_sure.new.out
-    c.write_migration.new.out c.write_looks.new.out c.write_draws.new.out c.write_ranges.new.out c.write_share.new.out c.write_enough.new.out
+    c.write_migration.new.out c.write_looks.new.out c.write_draws.new.out c.write_ranges.new.out
+    c.write_share.new.out c.write_enough.new.out
     c.in_ok-write_sure.ensures c.in_ok-write_migration.ensures c.in_ok-write_looks.ensures
-    c.in_ok-write_draws.ensures c.in_ok-write_ranges.ensures c.in_ok-write_share.ensures c.in_ok-write_enough.ensures
+    c.in_ok-write_draws.ensures c.in_ok-write_ranges.ensures c.in_ok-write_share.ensures written_enough
     ∙ ap (λ (l : List Token). old ++ l) (sym (in_a_row answers migration looks draws ranges share enough))
