@@ -17,6 +17,7 @@ from checks.recording.recorder_runs import SECONDS, TOP
 from precopy_tools import places, refusals
 from precopy_tools.formats import samples, traces
 from precopy_tools.predict import day_chart, forecast, plans
+from precopy_tools.predict.texts import CONVERGES
 
 # The built precopy-view, by which tools/predict plans.
 VIEW = [places.program("precopy-view")]
@@ -236,11 +237,13 @@ def predicted(_, folder):
     """The status says whether the limit is kept. What the lines say of a migration is tested by checks/predictions."""
     path = os.path.join(folder, "guest.light.pcwt")
     run_thin(RECORDED, path, "--one-in", "4", "--start", "1000")
-    printed, _ = run_predict(path, *LINK)
+    # All redraws keep the limit, but two standard errors more of the downtime do not.
+    printed, _ = run_predict(path, *LINK, status=5)
     expect("converges: yes, " in printed and "at half the link: " in printed, printed)
+    expect("kept: uncertain, in 20 of 20 redraws" in printed, printed)
     hosts = ["max-bandwidth 33554432B", "downtime-limit 100", "migrate-setspeed DOMAIN 32", "setmaxdowntime DOMAIN 100"]
     expect(all(f"{words}\n" in printed for words in hosts) and "precopy live" not in printed, printed)
-    again, _ = run_predict(path, *LINK)
+    again, _ = run_predict(path, *LINK, status=5)
     expect(again == printed, "the same words print other lines")
     over_shares(path)
     busy, part = os.path.join(folder, "busy.pcwt"), os.path.join(folder, "part.pcwt")
@@ -398,12 +401,14 @@ def predicted_series(_, folder):
     paths, picture = made_series(folder, moments), os.path.join(folder, "day.svg")
     link = ["--link", "16MiB", "--downtime", "2ms"]
     name = os.path.join(folder, "guest.light.pcwt")
-    printed, refused = run_predict(name, *link, "--picture", picture, status=3)
+    printed, refused = run_predict(name, *link, "--picture", picture, status=5)
     lines = printed.strip().split("\n")
     expect(len(lines) == 5 and not refused, f"{printed!r}, {refused!r}")
     within = 0
     for path, moment, line in zip(paths, moments, lines):
-        alone, _ = run_predict(path, *link, status=4 if "unknown" in line else 3 if "does not" in line else 0)
+        alone, _ = run_predict(path, *link, status=None)
+        converges = re.search(r"^converges: (\w+)", alone, re.M)[1]
+        expect(f"  {CONVERGES[converges]}  " in line, f"{converges} is not in {line!r}")
         expect(line.startswith(f"{moment:%Y-%m-%d %H:%M:%S}  "), line)
         for said in ("sent", "total time", "downtime"):
             value = re.search(rf"^{said}: ([^,\n]+)", alone, re.M)[1]
