@@ -24,8 +24,9 @@ test("kept plans stay with the name of their trace, up to a bound", async () => 
   const plans = new KeptPlans(async (_, settings) => ({ value: { settings } }));
   const trace = (name) => ({ digest: name, sizes: { last: 9 }, source: { name } });
   const state = { kept: [{ rounds: 1 }, { rounds: 2 }], settings: { window: 5 } };
+  plans.open(trace("one"), null);
   const shown = { trace: trace("one"), kept: await plans.all(trace("one"), state) };
-  plans.leave(shown, trace("two"));
+  plans.open(trace("two"), shown);
   assert.deepEqual(plans.others.map(({ name, settings: { rounds } }) => [name, rounds]), [["one", 1], ["one", 2]]);
   plans.makeRoom([{ rounds: 3 }]);
   assert.deepEqual(plans.others.map(({ settings: { rounds } }) => rounds), [2]);
