@@ -23,13 +23,14 @@ class Forecast(NamedTuple):
 
     def lines(self) -> list[str]:
         if not self.ends:
-            return [f"like QEMU: the trace ends first, looks {self.looks}, left {size_text(self.left)}"]
+            amounts = f"sent {size_text(self.sent - self.left)}, left {size_text(self.left)}"
+            return [f"like QEMU: the trace ends first, looks {self.looks}, {amounts}"]
         down = f"downtime {time_text(self.downtime)}, {'kept' if self.is_kept else 'not kept'}"
         return [f"like QEMU: looks {self.looks}, time {time_text(self.time)}, sent {size_text(self.sent)}, {down}"]
 
     def member(self) -> dict:
         if not self.ends:
-            return {"looks": self.looks, "left_bytes": self.left}
+            return {"looks": self.looks, "sent_bytes": self.sent - self.left, "left_bytes": self.left}
         time, down = Fraction(self.time, 1_000_000), Fraction(self.downtime, 1_000_000)
         costs = {"time_seconds": time, "sent_bytes": self.sent, "down_seconds": down}
         return {"looks": self.looks, **costs, "kept": self.is_kept}

@@ -39,7 +39,7 @@ fn starts_of_a_warm_start_come_after_its_copy(rt: HostRuntime) -> Result<(), Fai
 static NONE_KNOWN: &str =
     "converges: unknown, the trace ends before the migration does; record longer
 total time: more than 2.500 s
-like QEMU: the trace ends first, looks 0, left 256 bytes
+like QEMU: the trace ends first, looks 0, sent 128 bytes, left 256 bytes
 enough: unknown, since the trace ends before the migration does
 enough: --link 2Kbit
 enough: the guest slowed to 65 per cent of its speed

@@ -22,6 +22,10 @@ pub record LookForecast : Type 0 where
   pub downtime : ℕ
   pub is_kept : Bool
 
+-- what is sent before the guest stops, or the record ends
+abbrev pub sent_before : LookForecast → ℕ
+sent_before f = f.bytes - f.left
+
 -- the settings of the hypervisor, whose record ends at the last tick
 abbrev pub look_settings : TraceScale → MigrationSettings → ℕ → HypervisorSettings
 look_settings scale s last_tick = record {

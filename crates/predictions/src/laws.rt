@@ -9,15 +9,18 @@ ghost use Rattle.migration_model.specs.Touches.{GuestTouch};
 ghost use Rattle.predictions.specs.Agreements.{IsAgreement};
 ghost use Rattle.predictions.specs.Questions.{RefusesQuestion};
 ghost use Rattle.predictions.specs.Redrawn.Errors.{AreErrors, SampleErrors};
+ghost use Rattle.predictions.specs.Remedies.{AreRemedies};
 ghost use Rattle.predictions.specs.Remedies.Trials.{MigrationTrial};
 ghost use Rattle.predictions.specs.Shares.{IsLinkShare, VerdictAt};
 ghost use Rattle.predictions.specs.Starts.{AreAccepted, RefusesStart};
-ghost use Rattle.predictions.specs.Starts.Choices.{IsBest};
+ghost use Rattle.predictions.specs.Starts.Choices.{IsBest, IsChosen, is_worse_start};
 ghost use Rattle.predictions.specs.Starts.Costs.{CostAtStart};
+ghost use Rattle.predictions.specs.Starts.Ranges.{AreRanges, RangesOfStarts};
 ghost use Rattle.predictions.specs.Units.Limits.{RefusesLimits};
 ghost use Rattle.predictions.specs.Units.Scales.{TraceScale};
 ghost use Rattle.predictions.specs.declared.agreement.verdicts.Agreement.{Agreement};
 ghost use Rattle.predictions.specs.declared.question.Question.{Question};
+ghost use Rattle.predictions.specs.declared.remedies.finding.Remedies.{Remedies};
 ghost use Rattle.predictions.specs.declared.shares.share.LinkShare.{LinkShare};
 ghost use Rattle.predictions.specs.declared.starts.cases.Starts.{Starts};
 ghost use Rattle.predictions.specs.declared.units.error.UnitsError.{UnitsError};
@@ -42,6 +45,25 @@ pub fn one_best()
     ensures { (pages : ℕ) (touches : List GuestTouch) (scale : TraceScale) (limits : Limits) (lines : List SweepLine)
         (n : ℕ) (a b : Option CostAtStart) → IsBest pages touches scale limits lines n a
         → IsBest pages touches scale limits lines n b → a ≡ b }
+{}
+
+/// Some starts have one worst, or none.
+pub fn one_worst()
+    ensures { (limit : ℕ) (costs : List CostAtStart) (a b : Option CostAtStart)
+        → IsChosen (is_worse_start limit) costs a → IsChosen (is_worse_start limit) costs b → a ≡ b }
+{}
+
+/// What migrations from several starts cost has one least and one greatest, or none.
+pub fn one_ranges()
+    ensures { (scale : TraceScale) (limits : Limits) (last_tick : ℕ) (lines : List SweepLine)
+        (a b : Option RangesOfStarts) → AreRanges scale limits last_tick lines a
+        → AreRanges scale limits last_tick lines b → a ≡ b }
+{}
+
+/// One change of each kind keeps the limit of a migration, or ends it within the trace, or none does.
+pub fn one_set_of_remedies()
+    ensures { (pages : ℕ) (touches : List GuestTouch) (trial : MigrationTrial) (a b : Remedies)
+        → AreRemedies pages touches trial a → AreRemedies pages touches trial b → a ≡ b }
 {}
 
 /// Limits are refused for one thing.

@@ -24,7 +24,8 @@ pub use cost::Cost;
 pub use hosts::{link_in_mib, millis_for_pages, push_hosts};
 pub use laws::{
     accepted_starts_are_not_refused, one_agreement, one_best, one_errors, one_link_share,
-    one_refused_limit, one_refused_question, one_refused_start,
+    one_ranges, one_refused_limit, one_refused_question, one_refused_start, one_set_of_remedies,
+    one_worst,
 };
 pub use prediction::Prediction;
 pub use prediction_text::push_prediction;

@@ -2,7 +2,7 @@
 use Rattle.std.specs.Prelude.{List, [], ◌∷◌, codes, Option, None, Some}
 use Rattle.json.specs.Token.{Token}
 use Rattle.migration_model.specs.Looks.{PlanEnd, few_left, looks_done, record_ends}
-use Rattle.predictions.specs.Looks.{LookForecast}
+use Rattle.predictions.specs.Looks.{LookForecast, sent_before}
 use Rattle.trace_views.specs.Json.{flag_member, member_of, number_member, object_of, seconds_member}
 
 -- what the migration costs, and what is known of it if the record ends first
@@ -13,7 +13,9 @@ ended_members f =
     ∷ flag_member (codes "kept") f.is_kept ∷ []
 
 abbrev pub unended_members : LookForecast → List (List Token)
-unended_members f = number_member (codes "looks") f.looks ∷ number_member (codes "left_bytes") f.left ∷ []
+unended_members f =
+    number_member (codes "looks") f.looks ∷ number_member (codes "sent_bytes") (sent_before f)
+    ∷ number_member (codes "left_bytes") f.left ∷ []
 
 abbrev pub forecast_members : PlanEnd → LookForecast → List (List Token)
 forecast_members record_ends f = unended_members f

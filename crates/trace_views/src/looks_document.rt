@@ -27,6 +27,7 @@ fn write_unended(out: &mut Document, forecast: &LookForecast) -> Result<(), Allo
     ensures { OnOk result (out.new ≡ out.old ++ flat_map (λ m. m) (unended_members forecast.now)) }
 {
     out.number_member("looks", forecast.looks)?;
+    out.wide_member("sent_bytes", forecast.sent_before())?;
     out.wide_member("left_bytes", forecast.left)?;
     Ok(())
 }

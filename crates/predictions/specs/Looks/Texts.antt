@@ -1,7 +1,7 @@
 -- A forecast of a hypervisor's migration as a line. This project's own.
 use Rattle.std.specs.Prelude.{ℕ, List, [], ◌∷◌, codes, Option, None, Some}
 use Rattle.migration_model.specs.Looks.{PlanEnd, few_left, looks_done, record_ends}
-use Rattle.predictions.specs.Looks.{LookForecast}
+use Rattle.predictions.specs.Looks.{LookForecast, sent_before}
 use Rattle.predictions.specs.Quantities.{bytes_text, time_text}
 use Rattle.predictions.specs.Texts.{verdict}
 use Rattle.sweep_report.specs.Lines.{field, line}
@@ -13,8 +13,8 @@ ended_line f = line (field (codes "like QEMU: looks ") f.looks ∷ codes ", time
 
 -- what is known of it if the record ends first
 abbrev pub unended_line : LookForecast → List ℕ
-unended_line f = line (field (codes "like QEMU: the trace ends first, looks ") f.looks ∷ codes ", left "
-    ∷ bytes_text f.left ∷ [])
+unended_line f = line (field (codes "like QEMU: the trace ends first, looks ") f.looks ∷ codes ", sent "
+    ∷ bytes_text (sent_before f) ∷ codes ", left " ∷ bytes_text f.left ∷ [])
 
 abbrev pub forecast_line : PlanEnd → LookForecast → List ℕ
 forecast_line record_ends f = unended_line f

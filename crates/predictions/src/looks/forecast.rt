@@ -28,7 +28,8 @@ pub struct LookForecast {
     pub end: PlanEnd,
     /// How many looks there are.
     pub looks: u64,
-    /// From its start until the guest runs again, or the trace ends, in microseconds.
+    /// From its start until the guest runs again, in microseconds. If the trace ends first, until then and as long as it
+    /// takes to send what is left.
     pub time: u128,
     /// How many bytes of the guest are sent, in all lists and at the end.
     pub bytes: u128,
@@ -88,7 +89,14 @@ fn settings_of(scale: &Scale, settings: &Settings, last: u64) -> Option<LookSett
 
 impl LookForecast {
     ghost use Rattle.std.specs.Prelude.{◌≡◌, IfErr, IfOk};
-    ghost use Rattle.predictions.specs.Looks.{IsForecast, forecast_of};
+    ghost use Rattle.predictions.specs.Looks.{IsForecast, forecast_of, sent_before};
+
+    /// Returns how many bytes are sent before the guest stops, or the trace ends.
+    pub fn sent_before(&self) -> u128
+        ensures { result ≡ sent_before self.now }
+    {
+        self.bytes.saturating_sub(self.left)
+    }
 
     /// Returns what a plan that begins at a tick comes to, over a trace of this scale.
     fn of_plan(scale: &Scale, limits: &Limits, start: u64, plan: &LookPlan) -> LookForecast

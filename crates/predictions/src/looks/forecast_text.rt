@@ -42,13 +42,15 @@ fn push_unended(text: &mut Vec<u8>, forecast: &LookForecast) -> Result<(), Alloc
         "like QEMU: the trace ends first, looks ",
         forecast.looks,
     )?;
+    text.extend_from_slice(", sent ".as_bytes())?;
+    push_bytes(text, forecast.sent_before())?;
     text.extend_from_slice(", left ".as_bytes())?;
     push_bytes(text, forecast.left)?;
     end_line(text)
 }
 
 /// Appends a forecast as a line, in ASCII: how many looks there are, the time, what is sent, and the downtime. If the
-/// trace ends first, it says how much is left then. Without a forecast it appends nothing.
+/// trace ends first, it says how much is sent and left then. Without a forecast it appends nothing.
 pub fn push_forecast(text: &mut Vec<u8>, forecast: &Option<LookForecast>) -> Result<(), AllocError>
     ensures { OnOk result (text.new.items ≡ text.old.items ++ look_text forecast.now) }
 {

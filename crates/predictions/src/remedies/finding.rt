@@ -1,5 +1,7 @@
 //! What would keep the limit of a migration.
 
+// `AreRemedies` holds of one value alone: `one_set_of_remedies`.
+
 ghost use Rattle.std.specs.Prelude.{◌≡◌, ◌≤◌, IfOk, length};
 ghost use Rattle.predictions.specs.Remedies.{AreRemedies};
 ghost use Rattle.predictions.specs.declared.remedies.aim.Aim.TheVariants as aims;

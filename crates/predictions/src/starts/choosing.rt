@@ -1,5 +1,7 @@
 //! The order of starts, and the choice of the worst.
 
+// `IsChosen` holds of one value alone, if `is_worse_start` chooses: `one_worst`.
+
 ghost use Rattle.std.specs.Prelude.{◌≡◌, ◌≤◌, ◌<◌, ◌&&◌, ◌||◌, ◌==◌, nat_lt, IfOk, length};
 ghost use Rattle.std.specs.List.{IsFirstBest};
 ghost use Rattle.predictions.specs.Starts.Choices.{IsChosen, down_error, is_better_known, is_better_start, is_likely};

@@ -1,5 +1,7 @@
 //! The ranges of what a migration costs that may begin at any tick.
 
+// `AreRanges` holds of one value alone: `one_ranges`.
+
 ghost use Rattle.std.specs.Prelude.{◌≡◌, ◌≤◌, IfOk, length, max, min};
 ghost use Rattle.std.specs.List.{count_by};
 ghost use Rattle.predictions.specs.Starts.Ranges.{AreExtremes, AreRanges, converges_by};
