@@ -128,10 +128,14 @@ class Guest:
         return f"No memory is mapped at address {asked:#x}\r\n"
 
 
-def serve(guest, path):
+def listening(path):
     server = socket.socket(socket.AF_UNIX)
     server.bind(path)
     server.listen()
+    return server
+
+
+def serve(guest, server):
     while True:
         client, _ = server.accept()
         with contextlib.suppress(OSError), client, client.makefile("rw") as stream:
@@ -150,10 +154,7 @@ def say(stream, message):
 def main(path, layout):
     ctypes.CDLL(None).prctl(SET_NAME, b"qemu-system-x86", 0, 0, 0)
     guest = Guest(json.loads(layout))
-    thread = threading.Thread(target=serve, args=(guest, path), daemon=True)
-    thread.start()
-    while not os.path.exists(path):
-        pass
+    threading.Thread(target=serve, args=(guest, listening(path)), daemon=True).start()
     told = {}
     while True:
         told["nodes"] = {node.name: [node.address, node.pages] for node in guest.all_nodes()}

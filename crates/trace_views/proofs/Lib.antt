@@ -1,3 +1,4 @@
 pub mod Cheapest
 pub mod Numbered
 pub mod JsonNumbers
+pub mod OneAdvice

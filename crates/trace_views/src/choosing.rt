@@ -1,5 +1,7 @@
 //! The choice of a case for a budget.
 
+// `IsAdvice` holds of one value alone: `one_advice`.
+
 ghost use Rattle.std.specs.Prelude.{◌≡◌, ◌+◌, ◌<◌, ◌≤◌, length};
 ghost use Rattle.trace_views.specs.Advice.{IsAdvice, IsFound, is_cheaper, is_within, keeps};
 ghost use Rattle.trace_views.specs.AdviceText.{case_of};

@@ -1,0 +1,15 @@
+//! Laws of the definitions that advice is proved to meet.
+//!
+//! A law is a function with an empty body: its contract is the law, and a call brings it into the caller's proof.
+
+ghost use Rattle.std.specs.Prelude.{◌≡◌, List};
+ghost use Rattle.migration_model.specs.Sweeps.{SweepLine};
+ghost use Rattle.trace_views.specs.Advice.{IsAdvice};
+ghost use Rattle.trace_views.specs.declared.budget.Advice.{Advice};
+ghost use Rattle.trace_views.specs.declared.budget.Budget.{Budget};
+
+/// One case is advised for a budget.
+pub fn one_advice()
+    ensures { (budget : Budget) (lines : List SweepLine) (a b : Advice) → IsAdvice budget lines a
+        → IsAdvice budget lines b → a ≡ b }
+{}

@@ -1,0 +1,169 @@
+"""Measures how often a verdict that `precopy-view predict` tells of a sample is that of all pages.
+
+    bench/verdicts [--traces DIR] [--samples N] [--sampled M] [--program PATH] [NAME..]
+
+For each trace it finds the link at which the plan of all pages turns: the last at which it converges, going down by
+hundredths from four times what the guest writes. Over links of 0.7 to 1.3 times that it draws M pages many times and
+asks what `converges` is. A line for each link has how many answers are yes, no, uncertain and unknown, and how many
+are wrong: a yes where the plan of all pages does not converge within the trace, or a no where it does. The limit of the
+downtime is what a twentieth of the guest's pages take.
+
+The status is 0 if at most 2 per cent of the answers yes and no are wrong, and at most a third of those outside 0.9 to
+1.1 are uncertain. It makes missing traces by `workloads`; a NAME that is a path is taken as it is.
+"""
+
+import json
+import multiprocessing
+import os
+import random
+import struct
+import subprocess
+import sys
+from typing import NamedTuple
+
+from precopy_bench.programs import TRACES
+from precopy_dev.models import redrawn
+from precopy_dev.tree import TOP
+from precopy_dev.words import parser_of
+from precopy_tools.formats.traces import MAGIC, PLAIN, RECORD, read_file
+
+PROGRAM = os.path.join(TOP, "crates", "precopy_view", "out", "precopy_view")
+SQLITE = os.path.join(TOP, "examples", "guests", "sqlite.light.pcwt")
+NAMES = ("uniform", "zipf", "seq", "phase", "released", SQLITE)
+SHARES = (0.7, 0.8, 0.9, 0.95, 1.0, 1.05, 1.1, 1.2, 1.3)
+NEAR_LOW, NEAR_HIGH = 0.9, 1.1
+WRONG, UNCERTAIN = 0.02, 1 / 3
+PAGE, SHIFT = 4096, 12
+# A link must have more of the sample's pages than this in 1,000 ticks, so that whole rates are near to exact ones.
+LEAST_RATE = 500
+ANSWERS = ("yes", "no", "uncertain", "unknown")
+
+
+class Case(NamedTuple):
+    """A guest by the ticks at which its pages are written, and the link at which its plan turns, in bytes a second."""
+
+    name: str
+    guest: list[list[int]]
+    turn: int
+
+
+class Told(NamedTuple):
+    """At a share of that link: the answer of all pages, how often each is told of a sample, and how often a wrong one."""
+
+    truth: str
+    answers: dict[str, int]
+    wrong: int
+
+
+def trace_of(guest: list[list[int]]) -> bytes:
+    """The trace of some pages, whose writes have one byte."""
+    touches = sorted((tick, page) for page, ticks in enumerate(guest) for tick in ticks)
+    header = MAGIC + bytes([PLAIN, SHIFT, 0, 0]) + struct.pack("<II", len(guest), len(touches))
+    return header + b"".join(RECORD.pack(tick, page, 0, 1) + b"\1" for tick, page in touches)
+
+
+def asked(program: str, trace: bytes, link: int, downtime: int, sampled: int, pages: int) -> dict:
+    """The JSON document of `predict` for a link in bytes a second and a downtime in microseconds."""
+    limits = ["--link", f"{link // 1000}.{link % 1000:03}KB", "--downtime", f"{downtime}us"]
+    words = [program, "json", "predict", *limits, "--sampled", f"{sampled}/{pages}"]
+    done = subprocess.run(words, input=trace, stdout=subprocess.PIPE, check=False)
+    return json.loads(done.stdout)
+
+
+def downtime(pages: int, link: int) -> int:
+    """How long a twentieth of the pages takes, in microseconds."""
+    return pages * PAGE * 1_000_000 // (20 * link)
+
+
+def settings(pages: int, link: int) -> redrawn.Settings:
+    rate = link // PAGE
+    return redrawn.Settings(rate, rate, 0, rate * (downtime(pages, link) // 1000) // 1000 + 1, 30)
+
+
+def whole_answer(guest: list[list[int]], link: int) -> str:
+    """Whether the plan of all pages converges."""
+    plan = redrawn.planned(guest, settings(len(guest), link))
+    if plan.stop > max(ticks[-1] for ticks in guest if ticks):
+        return "unknown"
+    return "yes" if plan.reason == "few" else "no"
+
+
+def turn_of(guest: list[list[int]], rate: float) -> int:
+    """The last link at which the plan converges, going down."""
+    link = int(4 * rate)
+    while whole_answer(guest, link * 99 // 100) == "yes":
+        link = link * 99 // 100
+    return link
+
+
+def case_of(path: str, sampled: int) -> Case:
+    """A guest whose ticks are made longer until a sample's rates are no less than a least one."""
+    trace, records = read_file(path)
+    guest = redrawn.by_page(trace.pages, [record[:2] for record in records])
+    writes = sum(map(len, guest)) / max(ticks[-1] for ticks in guest if ticks)
+    factor = int(LEAST_RATE / (700 * writes * sampled / len(guest))) + 1
+    guest = [[tick // factor for tick in ticks] for ticks in guest]
+    return Case(os.path.basename(path).partition(".")[0], guest, turn_of(guest, writes * factor * 1000 * PAGE))
+
+
+def answers(job: tuple[Case, str, int, int]) -> list[str]:
+    """What is told of one sample, at each share of the link."""
+    case, program, sampled, seed = job
+    pages = len(case.guest)
+    drawn = sorted(random.Random(f"{seed} {case.name}").sample(range(pages), sampled))
+    trace, found = trace_of([case.guest[page] for page in drawn]), []
+    for share in SHARES:
+        link = int(case.turn * share)
+        found.append(asked(program, trace, link, downtime(pages, link), sampled, pages)["converges"])
+    return found
+
+
+def is_wrong(truth: str, answer: str) -> bool:
+    return (answer == "yes" and truth != "yes") or (answer == "no" and truth == "yes")
+
+
+def told(truths: list[str], found: list[list[str]]) -> list[Told]:
+    """For each share, what was told of the samples."""
+    return [
+        Told(truth, {a: some.count(a) for a in ANSWERS}, sum(is_wrong(truth, a) for a in some))
+        for truth, some in zip(truths, zip(*found))
+    ]
+
+
+def is_near(share: float) -> bool:
+    return NEAR_LOW <= share <= NEAR_HIGH
+
+
+def main() -> int:
+    parser = parser_of("bench/verdicts", __doc__)
+    parser.add_argument("names", nargs="*", metavar="NAME", default=NAMES, help="traces of bench/workloads, or paths")
+    parser.add_argument("--traces", default=TRACES, metavar="DIR", help=f"where they go, {TRACES} by default")
+    parser.add_argument("--samples", type=int, default=200, metavar="N", help="samples of each trace (200)")
+    parser.add_argument("--sampled", type=int, default=1024, metavar="M", help="pages of a sample (1024)")
+    parser.add_argument("--program", default=PROGRAM, metavar="PATH", help="the built precopy-view")
+    options = parser.parse_args()
+    made = [name for name in options.names if os.sep not in name]
+    subprocess.run(
+        [os.path.join(TOP, "bench", "workloads"), "--traces", options.traces, *made], check=True, stdout=subprocess.DEVNULL
+    )
+    print(f"{options.samples} samples of {options.sampled} pages; links are shares of that at which the plan turns")
+    print(f"{'trace':12}{'link':>6} {'all pages':>10}" + "".join(f"{answer:>11}" for answer in ANSWERS) + f"{'wrong':>8}")
+    sure, wrong, far, uncertain = 0, 0, 0, 0
+    with multiprocessing.Pool(2) as pool:
+        for name in options.names:
+            path = name if os.sep in name else os.path.join(options.traces, f"{name}.pcwt")
+            case = case_of(path, options.sampled)
+            jobs = [(case, options.program, options.sampled, seed) for seed in range(options.samples)]
+            truths = [whole_answer(case.guest, int(case.turn * share)) for share in SHARES]
+            for share, it in zip(SHARES, told(truths, pool.map(answers, jobs))):
+                counts = "".join(f"{it.answers[answer]:11}" for answer in ANSWERS)
+                print(f"{case.name:12}{share:6.2f} {it.truth:>10}{counts}{it.wrong:8}", flush=True)
+                sure, wrong = sure + it.answers["yes"] + it.answers["no"], wrong + it.wrong
+                if not is_near(share):
+                    far, uncertain = far + options.samples, uncertain + it.answers["uncertain"]
+    print(f"wrong: {wrong} of {sure} answers yes and no; uncertain outside 0.9 to 1.1: {uncertain} of {far}")
+    return 0 if wrong <= WRONG * sure and uncertain <= UNCERTAIN * far else 1
+
+
+if __name__ == "__main__":
+    sys.exit(main())
