@@ -121,10 +121,12 @@ sums_end pages touches s now sent marks room rest lists total left sums before s
     record {
       numbers = numbers;
       are_numbers = whole.are;
-      end_is = refl;
-      looks_is = looks ∙ ap (looks_of (end_of sums.end)) count;
-      stop_is = stop;
-      total_is = omega (arith, all, here);
-      left_is = omega (arith, left_is, here);
-      down_is = down;
+      has_sums = record {
+        end_is = refl;
+        looks_is = looks ∙ ap (looks_of (end_of sums.end)) count;
+        stop_is = stop;
+        total_is = omega (arith, all, here);
+        left_is = omega (arith, left_is, here);
+        down_is = down;
+      };
     }

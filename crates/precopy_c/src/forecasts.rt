@@ -18,11 +18,7 @@ use std::alloc::Global;
 use trace_readers::TouchLog;
 
 /// Returns what comes of a question over a log.
-fn forecast_over(
-    alloc: Global,
-    terms: &Terms,
-    log: &TouchLog,
-) -> Result<ForecastNumbers, PlanError>
+fn forecast_over(alloc: Global, terms: &Terms, log: &TouchLog) -> Result<ForecastNumbers, PlanError>
     ensures { IfOk result (IsForecastOver terms.now log.now) }
 {
     let Terms {
