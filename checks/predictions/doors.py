@@ -32,8 +32,8 @@ OF_TOOL = (
     "guest: ",
     "sample: ",
     "link: ",
-    "at half the link: ",
-    "at twice the link: ",
+    "at half the link",
+    "at twice the link",
     "a plan takes no longer limit",
 )
 
