@@ -325,11 +325,10 @@ static struct precopy_question question_of(uint64_t size, uint64_t pages) {
 
 /* Each call over a trace that is refused: the same number and record, and nothing else written. */
 static void try_refused(const struct guest *guest, uint32_t status, const struct room *record) {
-    call_of *calls[] = {plan,          rounds,         report,          sweep,         predict,
-                        enough,        memory,         memory_before,   writes_before, memory_step,
-                        version_after, page_at,        page_writes,     check_streams, check_piece,
-                        check_pages,   versions_after, versions_before, agreement,     forecast,
-                        link_shares};
+    call_of *calls[] = {plan,        rounds,        report,        sweep,       predict,        enough,
+                        memory,      memory_before, writes_before, memory_step, version_after,  page_at,
+                        page_writes, check_streams, check_piece,   check_pages, versions_after, versions_before,
+                        agreement,   forecast,      link_shares};
     for (size_t i = 0; i < sizeof calls / sizeof *calls; i++) {
         struct outputs out = outputs_of(1920, sizeof(struct precopy_prediction) + sizeof(struct precopy_errors));
         uint32_t told = calls[i](guest, &out);

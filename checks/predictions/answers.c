@@ -4,9 +4,9 @@
  *     prediction_answers TRACE
  *
  * Each line of standard input has the numbers of a question, in the order of struct precopy_question, but for its size.
- * It prints a line for each: the numbers of the prediction, of its errors, of what is enough, of how sure it is, of what
- * comes of it like QEMU and of the shares of the link in their order, or the status alone. It asks the five calls, whose
- * statuses must be equal.
+ * It prints a line for each: the numbers of the prediction, of its errors, of what is enough, of how sure it is, of
+ * what comes of it like QEMU and of the shares of the link in their order, or the status alone. It asks the five calls,
+ * whose statuses must be equal.
  */
 #include "precopy.h"
 

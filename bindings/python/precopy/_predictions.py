@@ -158,7 +158,7 @@ def enough(trace: Bytes, question: Question) -> Amounts:
 
 
 class ForecastEnd(enum.IntEnum):
-    """Why a migration ends whose hypervisor goes on as QEMU does: few pages are left, or the trace ends first; or it has
+    """Why a migration ends whose hypervisor goes on as QEMU does: few pages are left, the trace ends first, or it has
     not begun, since its start is after the trace."""
 
     FEW_LEFT = 0

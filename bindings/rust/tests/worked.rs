@@ -4,8 +4,8 @@ mod guest;
 
 use guest::TRACE;
 use precopy::{
-    Amounts, Errors, Forecast, ForecastEnd, LinkShares, Question, Reason, Refused, Settings, Sizes, Status, Sums, Taken,
-    Verdict, Write,
+    Amounts, Errors, Forecast, ForecastEnd, LinkShares, Question, Reason, Refused, Settings, Sizes, Status, Sums,
+    Taken, Verdict, Write,
 };
 
 const REPORT: &str = "trace pages 4 size 16 writes 5
