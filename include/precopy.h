@@ -449,6 +449,56 @@ PRECOPY_ANSWERS PRECOPY_NOT_NULL(3, 4, 5)
 uint32_t precopy_enough(const uint8_t *trace, size_t trace_length, const struct precopy_question *question,
                         struct precopy_amounts *amounts, uint32_t *record);
 
+/* Why the migration of a hypervisor ends that looks at its dirty bitmap as QEMU does. */
+enum precopy_forecast_end {
+    PRECOPY_FEW_LEFT = 0,   /* few pages are left, so the guest is stopped */
+    PRECOPY_TRACE_ENDS = 1, /* the trace ends first: if the guest were stopped there, the other numbers would hold */
+    PRECOPY_NOT_BEGUN = 2   /* the question's start is after the trace: the other numbers are 0 */
+};
+
+/*
+ * What a migration comes to if its hypervisor goes on as QEMU does. It sends with the whole link, asks each 100 ms how
+ * many pages are left, and looks at its dirty bitmap again when these go over the link within the downtime. It never
+ * stops since much was written.
+ */
+struct precopy_forecast {
+    uint64_t looks;    /* how many looks there are */
+    uint64_t time;     /* from the start until the guest runs again, in microseconds */
+    uint64_t bytes;    /* how many bytes of the guest are sent */
+    uint64_t left;     /* how many of them are sent after the stop */
+    uint64_t downtime; /* how long the guest stands still, with the reserve, in microseconds */
+    uint32_t end;      /* of enum precopy_forecast_end */
+    uint32_t kept;     /* of enum precopy_verdict: whether the downtime is within its limit, if few pages are left */
+};
+
+/*
+ * Sets *forecast to what a migration comes to like QEMU, as the line `like QEMU` of `precopy-view predict` tells it.
+ *
+ * It tests what precopy_predict does, in the same order. Of a question it does not use `first`, `increment`, `rounds`
+ * and `skip`. It takes 16 bytes for each write, some 9 for each page, and 80 for each look.
+ */
+PRECOPY_ANSWERS PRECOPY_NOT_NULL(3, 4, 5)
+uint32_t precopy_forecast(const uint8_t *trace, size_t trace_length, const struct precopy_question *question,
+                          struct precopy_forecast *forecast, uint32_t *record);
+
+/* Down to which share of its link a migration has the verdict that it has at all of it. */
+struct precopy_link_shares {
+    uint64_t percent;   /* the least share from which on each whole per cent has that verdict; 50 to 100 */
+    uint32_t converges; /* of enum precopy_verdict: whether it converges at all of the link */
+    uint32_t below;     /* whether it does at one per cent less; the same if percent is 50, since that is not tried */
+};
+
+/*
+ * Sets *shares to the shares of the link of a question that have one verdict, as the line `share of the link` of
+ * `precopy-view predict` tells them. A hypervisor may reach less of a link than is asked.
+ *
+ * It tests what precopy_predict does, in the same order. It takes memory as precopy_plan does, and the time of at most
+ * 51 plans.
+ */
+PRECOPY_ANSWERS PRECOPY_NOT_NULL(3, 4, 5)
+uint32_t precopy_link_shares(const uint8_t *trace, size_t trace_length, const struct precopy_question *question,
+                             struct precopy_link_shares *shares, uint32_t *record);
+
 /* ---- memory */
 
 /*

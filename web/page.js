@@ -389,7 +389,10 @@ class Page {
     const predictions = [...this.predictionsShown(this.shown), ...this.starts.chosen()];
     this.links.follow(found.value ?? null, trace.sizes);
     this.late.follow(trace, found.value ?? null, predictions, () => this.links.questions());
-    predictions.forEach((some) => { some.errors = this.late.errorsOf(trace, some); });
+    predictions.forEach((some) => {
+      some.errors = this.late.errorsOf(trace, some);
+      some.forecast = this.late.forecastOf(trace, some);
+    });
   }
 
   /** Draws an answer of some kind that has come. If another trace is open meanwhile, its plan will draw it. */
@@ -403,6 +406,10 @@ class Page {
       return;
     }
     this.askLate();
+    if (kind === "forecast") {
+      this.plans.drawForecast();
+      return;
+    }
     if (kind !== "errors") {
       this.drawLimits();
       return;

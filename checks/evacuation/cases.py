@@ -10,7 +10,7 @@ import xml.etree.ElementTree
 from typing import NamedTuple
 
 from checks.evacuation import model
-from checks.lib.amount_texts import time_text
+from checks.lib.amount_texts import size_text, time_text
 from checks.lib.harness import cases_of, drawn, draws, expect, run
 from checks.lib.tally import expect_in_time
 from checks.lib.view_texts import keeps_schema
@@ -267,6 +267,7 @@ def whole_runs(programs: Programs, folder: str) -> None:
     expect({schedule["at_once"] for schedule in told["schedules"]} == {1, 2, 4}, "other numbers at once")
     expect(text.count("<- best") == 1 and re.search(r"^    move \d 0 'db one' 200 ", text, re.M), text)
     expect_waits(text, told)
+    expect_like_qemu(text, told)
     lines = [line.removesuffix(" &&") for line in text.splitlines() if line.startswith("    move ")]
     expect(len(lines) == 4 and all(line.endswith("qemu+ssh://b/system") for line in lines), f"{lines}")
     expect_picture(f"{folder}/host.svg", told)
@@ -286,6 +287,22 @@ def expect_waits(text: str, told: dict) -> None:
             is_then = moves[before]["end_seconds"] == start and after == time_text(round(1e6 * start))
             expect(is_then, f"{name} after {before}")
             expect(is_of_slot or start not in slot_ends, f"{name} waits for its slot, and not for {before}")
+
+
+def like_qemu_words(found: dict) -> str:
+    if "left_bytes" in found:
+        return f"the recording ends first, left {size_text(found['left_bytes'])}"
+    time, down = (time_text(micros(found[name])) for name in ("time_seconds", "down_seconds"))
+    return f"time {time}, sent {size_text(found['sent_bytes'])}, downtime {down}"
+
+
+def expect_like_qemu(text: str, told: dict) -> None:
+    """What each guest of the schedule comes to like QEMU is told in its order, as the document has it."""
+    at_once = told["schedules"][told["best"]["schedule"]]["at_once"]
+    costs = {guest["name"]: cost for guest in told["guests"] for cost in guest["costs"] if cost["at_once"] == at_once}
+    wanted = [(it["guest"], like_qemu_words(costs[it["guest"]]["like_qemu"])) for it in told["best"]["moves"]]
+    found = re.findall(r"^(\w+) +like QEMU: (.*)$", text, re.M)
+    expect(found == wanted, f"like QEMU: {found} in place of {wanted}")
 
 
 def expect_picture(path: str, told: dict) -> None:

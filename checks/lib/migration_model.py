@@ -9,7 +9,7 @@ from typing import NamedTuple, Optional
 from checks.lib import remedy_model, share_model
 from checks.lib.amount_texts import error_text, moment_text, rate_word, size_text, time_text, time_word
 from checks.lib.host_words import host_lines, hosts_member
-from checks.lib.look_model import look_lines, look_member
+from checks.lib.look_model import Forecast, forecast, look_lines, look_member
 from checks.lib.traces import Trace
 from precopy_dev.models import agreements, redrawn, remedies, shares
 
@@ -186,6 +186,7 @@ class Answer(NamedTuple):
     sure_converges: str
     sure_kept: str
     share: shares.LinkShare
+    forecast: Optional[Forecast]
     enough: remedies.Remedies
     plan: redrawn.Outcome
 
@@ -219,6 +220,7 @@ def answer_of(asked: Question, trace: Trace) -> Optional[Answer]:
         agreements.converges(trace.guest, trial, agreement),
         agreements.kept(trace.guest, trial, agreement),
         shares.link_share(trace.guest, trial),
+        forecast(asked, trace),
         remedies.remedies(trace.guest, trial),
         plan,
     )

@@ -67,6 +67,16 @@ static uint32_t agreement(const struct guest *g, struct outputs *out) {
                              (void *)out->record.at);
 }
 
+static uint32_t forecast(const struct guest *g, struct outputs *out) {
+    return precopy_forecast(g->trace.at, g->trace.length, (void *)g->question.at, (void *)out->told.at,
+                            (void *)out->record.at);
+}
+
+static uint32_t link_shares(const struct guest *g, struct outputs *out) {
+    return precopy_link_shares(g->trace.at, g->trace.length, (void *)g->question.at, (void *)out->told.at,
+                               (void *)out->record.at);
+}
+
 static uint32_t memory(const struct guest *g, struct outputs *out) {
     return precopy_memory(g->trace.at, g->trace.length, out->room.at, out->room.length, (void *)out->told.at,
                           (void *)out->record.at);

@@ -33,6 +33,8 @@ static void nulls_of_traces(void) {
     struct precopy_errors errors;
     struct precopy_amounts amounts;
     struct precopy_agreement agreement;
+    struct precopy_forecast forecast;
+    struct precopy_link_shares shares;
     uint32_t written;
     size_t count = 9;
     ROW(precopy_check_trace(NULL, 0, &found, &record) == PRECOPY_SHORT_HEADER);
@@ -44,6 +46,8 @@ static void nulls_of_traces(void) {
     ROW(precopy_predict(NULL, 0, &asked, &told, &errors, &record) == PRECOPY_SHORT_HEADER);
     ROW(precopy_enough(NULL, 0, &asked, &amounts, &record) == PRECOPY_SHORT_HEADER);
     ROW(precopy_agreement(NULL, 0, &asked, &agreement, &record) == PRECOPY_SHORT_HEADER);
+    ROW(precopy_forecast(NULL, 0, &asked, &forecast, &record) == PRECOPY_SHORT_HEADER);
+    ROW(precopy_link_shares(NULL, 0, &asked, &shares, &record) == PRECOPY_SHORT_HEADER);
     ROW(precopy_sweep(NULL, 0, NULL, 0, NULL, 0, &count, &record) == PRECOPY_SHORT_HEADER);
     ROW(precopy_sweep(trace, sizeof trace, NULL, 0, NULL, 0, &count, &record) == PRECOPY_OK && count == 0);
     ROW(precopy_sweep(trace, sizeof trace, &good, 1, NULL, 0, &count, &record) == PRECOPY_SHORT_BUFFER && count == 0);
@@ -160,6 +164,32 @@ static void order_of_agreements(void) {
     ROW(precopy_agreement(trace, sizeof trace, &other, &agreement, &record) == PRECOPY_OTHER_PAGES);
 }
 
+static void order_of_forecasts(void) {
+    struct precopy_question other = asked;
+    struct precopy_forecast forecast;
+    ROW(precopy_forecast(trace, sizeof trace, &asked, &forecast, &record) == PRECOPY_OK);
+    other.size = 0, other.tick = 0;
+    ROW(precopy_forecast(trace, 5, &other, &forecast, &record) == PRECOPY_BAD_SIZE);
+    other.size = sizeof other;
+    ROW(precopy_forecast(trace, 5, &other, &forecast, &record) == PRECOPY_BAD_TICK);
+    other = asked, other.page = 32, other.link = 32000;
+    ROW(precopy_forecast(trace, 32, &other, &forecast, &record) == PRECOPY_SHORT_RECORD && forget() == 0);
+    ROW(precopy_forecast(trace, sizeof trace, &other, &forecast, &record) == PRECOPY_OTHER_PAGES);
+}
+
+static void order_of_shares(void) {
+    struct precopy_question other = asked;
+    struct precopy_link_shares shares;
+    ROW(precopy_link_shares(trace, sizeof trace, &asked, &shares, &record) == PRECOPY_OK && shares.percent >= 50);
+    other.size = 0, other.tick = 0;
+    ROW(precopy_link_shares(trace, 5, &other, &shares, &record) == PRECOPY_BAD_SIZE);
+    other.size = sizeof other;
+    ROW(precopy_link_shares(trace, 5, &other, &shares, &record) == PRECOPY_BAD_TICK);
+    other = asked, other.page = 32, other.link = 32000;
+    ROW(precopy_link_shares(trace, 32, &other, &shares, &record) == PRECOPY_SHORT_RECORD && forget() == 0);
+    ROW(precopy_link_shares(trace, sizeof trace, &other, &shares, &record) == PRECOPY_OTHER_PAGES);
+}
+
 static void order_of_places(void) {
     struct precopy_write writes[1];
     uint32_t version;
@@ -207,6 +237,8 @@ int main(void) {
     order_of_questions();
     order_of_amounts();
     order_of_agreements();
+    order_of_forecasts();
+    order_of_shares();
     order_of_places();
     order_of_frames();
     printf("%d passed, %d failed\n", passed, failed);

@@ -204,6 +204,22 @@ uint32_t __wrap_precopy_agreement(const uint8_t *trace, size_t length, const str
         &all, __real_precopy_agreement(IN(trace, length), length, IN(question, 1), OUT(agreement, 1), OUT(record, 1)));
 }
 
+FENCED(forecast);
+uint32_t __wrap_precopy_forecast(const uint8_t *trace, size_t length, const struct precopy_question *question,
+                                 struct precopy_forecast *forecast, uint32_t *record) {
+    struct fences all = {.count = 0};
+    return given_back(
+        &all, __real_precopy_forecast(IN(trace, length), length, IN(question, 1), OUT(forecast, 1), OUT(record, 1)));
+}
+
+FENCED(link_shares);
+uint32_t __wrap_precopy_link_shares(const uint8_t *trace, size_t length, const struct precopy_question *question,
+                                    struct precopy_link_shares *shares, uint32_t *record) {
+    struct fences all = {.count = 0};
+    return given_back(
+        &all, __real_precopy_link_shares(IN(trace, length), length, IN(question, 1), OUT(shares, 1), OUT(record, 1)));
+}
+
 FENCED(memory);
 uint32_t __wrap_precopy_memory(const uint8_t *trace, size_t length, uint8_t *memory, size_t memory_length,
                                size_t *needed, uint32_t *record) {

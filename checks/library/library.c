@@ -325,10 +325,10 @@ static struct precopy_question question_of(uint64_t size, uint64_t pages) {
 
 /* Each call over a trace that is refused: the same number and record, and nothing else written. */
 static void try_refused(const struct guest *guest, uint32_t status, const struct room *record) {
-    call_of *calls[] = {plan,          rounds,         report,          sweep,         predict,
-                        enough,        memory,         memory_before,   writes_before, memory_step,
-                        version_after, page_at,        page_writes,     check_streams, check_piece,
-                        check_pages,   versions_after, versions_before, agreement};
+    call_of *calls[] = {plan,        rounds,        report,        sweep,       predict,        enough,
+                        memory,      memory_before, writes_before, memory_step, version_after,  page_at,
+                        page_writes, check_streams, check_piece,   check_pages, versions_after, versions_before,
+                        agreement,   forecast,      link_shares};
     for (size_t i = 0; i < sizeof calls / sizeof *calls; i++) {
         struct outputs out = outputs_of(1920, sizeof(struct precopy_prediction) + sizeof(struct precopy_errors));
         uint32_t told = calls[i](guest, &out);
@@ -378,6 +378,8 @@ static void try_all(struct guest *guest, const struct precopy_sizes *sizes) {
         {"predict", predict, 0, sizeof(struct precopy_prediction) + sizeof(struct precopy_errors), 1},
         {"enough", enough, 0, sizeof(struct precopy_amounts), 1},
         {"agreement", agreement, 0, sizeof(struct precopy_agreement), 1},
+        {"forecast", forecast, 0, sizeof(struct precopy_forecast), 1},
+        {"link_shares", link_shares, 0, sizeof(struct precopy_link_shares), 1},
         {"memory", memory, bytes, sizeof(size_t), 1},
         {"memory_before", memory_before, bytes, sizeof(size_t), 1},
         {"writes_before", writes_before, 0, sizeof(uint32_t), 1},

@@ -29,6 +29,7 @@ OPTIONAL = ("base", "first", "increment of a question")
 NO_NUMBERS = [1.0, 0.5, -1.0, 2.0**32, float("nan"), float("inf"), "1", b"1", None, [], 1j]
 NO_BYTES = [5, -1, 1 << 64, 1.5, None, "text", [1, 2], object()]
 SIZES, PAGE = precopy.Sizes(4, 3, 20), bytes(15) + b"\1"
+OF_QUESTIONS = (precopy.predict, precopy.agreement, precopy.enough, precopy.forecast, precopy.link_shares)
 
 
 # ---- Numbers.
@@ -74,7 +75,7 @@ def numbers_of_questions(trace):
     ends |= {"start": (0, (1 << 40) - 1), "base": (0, 0), "skip": (0, 1)}
     asked = {"link": 1_000 * page, "downtime": 0, "page": page, "sampled": pages, "guest": pages}
     for name, each in ends.items():
-        for call in (precopy.predict, precopy.agreement, precopy.enough):
+        for call in OF_QUESTIONS:
             yield f"{call.__name__}, {name}", answered_with(call, trace, asked, name.split()[0]), each
 
 
@@ -151,7 +152,7 @@ def taking_bytes(trace, stream):
     yield "sweep", trace, lambda it: precopy.sweep(it, [settings, settings])
     page = 1 << trace[5] if trace[5:6] and 4 <= trace[5] <= 12 else 4096
     question = precopy.Question(link=100 * page, downtime=5000, page=page)
-    for call in (precopy.predict, precopy.agreement, precopy.enough):
+    for call in OF_QUESTIONS:
         yield call.__name__, trace, lambda it, c=call: c(it, question)
     for call in (precopy.check_trace, precopy.memory, precopy.is_zero):
         yield call.__name__, trace, call

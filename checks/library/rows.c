@@ -163,6 +163,48 @@ static void agreements(void) {
     ROW(is_sure(&asked, (struct precopy_agreement){0, 0, 0, 0, 16, 16, 16, yes, yes}));
 }
 
+static int is_foretold(const struct precopy_question *asked, struct precopy_forecast wanted) {
+    struct precopy_forecast told;
+    memset(&told, 9, sizeof told);
+    return precopy_forecast(trace, sizeof trace, asked, &told, &record) == PRECOPY_OK
+           && !memcmp(&told, &wanted, sizeof told);
+}
+
+/* Like QEMU: the numbers are those of checks/lib/look_model.py. */
+static void forecasts(void) {
+    struct precopy_question asked = half;
+    uint32_t few = PRECOPY_FEW_LEFT, ends = PRECOPY_TRACE_ENDS, none = PRECOPY_NOT_BEGUN;
+    ROW(is_foretold(&asked, (struct precopy_forecast){2, 1600000, 192, 64, 600000, few, PRECOPY_YES}));
+    asked.downtime = 100100;
+    ROW(is_foretold(&asked, (struct precopy_forecast){3, 1850000, 224, 0, 100000, few, PRECOPY_YES}));
+    asked = half, asked.has_base = 1, asked.base = 6, asked.start = 1201;
+    ROW(is_foretold(&asked, (struct precopy_forecast){1, 450000, 32, 32, 350000, few, PRECOPY_YES}));
+    asked = half, asked.start = 2400;
+    ROW(is_foretold(&asked, (struct precopy_forecast){0, 1200000, 128, 128, 1100000, ends, PRECOPY_UNKNOWN}));
+    asked.start = 2501;
+    ROW(is_foretold(&asked, (struct precopy_forecast){0, 0, 0, 0, 0, none, PRECOPY_UNKNOWN}));
+}
+
+static int are_shares(const struct precopy_question *asked, struct precopy_link_shares wanted) {
+    struct precopy_link_shares told;
+    memset(&told, 9, sizeof told);
+    return precopy_link_shares(trace, sizeof trace, asked, &told, &record) == PRECOPY_OK
+           && !memcmp(&told, &wanted, sizeof told);
+}
+
+/* The shares are those of python/precopy_dev/models/shares.py. */
+static void shares(void) {
+    struct precopy_question asked = half;
+    uint32_t yes = PRECOPY_YES, no = PRECOPY_NO, unknown = PRECOPY_UNKNOWN;
+    ROW(are_shares(&asked, (struct precopy_link_shares){100, yes, unknown}));
+    asked.guest = 4, asked.link = 64, asked.first = 32, asked.rounds = 1, asked.downtime = asked.reserve = 0;
+    ROW(are_shares(&asked, (struct precopy_link_shares){50, no, no}));
+    asked = half, asked.has_base = 1, asked.base = 6, asked.start = 1201;
+    ROW(are_shares(&asked, (struct precopy_link_shares){50, yes, yes}));
+    asked = half, asked.start = 2400;
+    ROW(are_shares(&asked, (struct precopy_link_shares){50, unknown, unknown}));
+}
+
 /* Compares all fields; behind the last there is a gap. */
 static int are_amounts(const struct precopy_amounts *one, const struct precopy_amounts *other) {
     return !memcmp(one, other, offsetof(struct precopy_amounts, ends) + sizeof one->ends);
@@ -194,12 +236,18 @@ static uint32_t refused(struct precopy_question asked) {
     struct precopy_errors errors = {9, 9, 9, 9};
     struct precopy_amounts amounts = {9, 9, 9, 9, 9, 9, 9, 9, 9, 9, 9, 9}, before = amounts;
     struct precopy_agreement sure = {9, 9, 9, 9, 9, 9, 9, 9, 9}, not_sure = sure;
+    struct precopy_forecast forecast = {9, 9, 9, 9, 9, 9, 9}, not_told = forecast;
+    struct precopy_link_shares shares = {9, 9, 9}, no_shares = shares;
     uint32_t status = precopy_predict(trace, sizeof trace, &asked, &told, &errors, &record);
     ROW(told.time == 9 && told.kept == 9 && are_errors(&errors, 9, 9, 9, 9) && record == 9);
     ROW(precopy_enough(trace, sizeof trace, &asked, &amounts, &record) == status);
     ROW(are_amounts(&amounts, &before) && record == 9);
     ROW(precopy_agreement(trace, sizeof trace, &asked, &sure, &record) == status);
     ROW(!memcmp(&sure, &not_sure, sizeof sure) && record == 9);
+    ROW(precopy_forecast(trace, sizeof trace, &asked, &forecast, &record) == status);
+    ROW(!memcmp(&forecast, &not_told, sizeof forecast) && record == 9);
+    ROW(precopy_link_shares(trace, sizeof trace, &asked, &shares, &record) == status);
+    ROW(!memcmp(&shares, &no_shares, sizeof shares) && record == 9);
     return status;
 }
 
@@ -506,6 +554,8 @@ int main(void) {
     sizes_of_settings();
     predictions();
     agreements();
+    forecasts();
+    shares();
     amounts();
     questions();
     memories();

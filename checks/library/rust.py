@@ -49,6 +49,7 @@ def check_statuses(tally):
     """The numbers of the crate's statuses are those of the header."""
     header = dict(re.findall(r"\bPRECOPY_(\w+) = (\d+)", read(HEADER, "r")))
     others = {"OK", "FEW", "FAST", "ALL_ROUNDS", "YES", "NO", "UNKNOWN", "UNCERTAIN"}
+    others |= {"FEW_LEFT", "TRACE_ENDS", "NOT_BEGUN"}
     header = {name.title().replace("_", ""): number for name, number in header.items() if name not in others}
     source = read(f"{CRATE}/src/status.rs", "r")
     crate = dict(re.findall(r"^    (\w+) = (\d+),$", source, re.M))
@@ -100,6 +101,8 @@ def prediction_lines(trace, asked):
         sent, time, down = redrawn.errors(trace.guest, told.settings(), told.scale())
         yield f"errors {sent} {time} {down}"
     yield agreement_line(it)
+    yield forecast_line(it.forecast)
+    yield shares_line(it.share)
     yield amounts_line(it.enough)
 
 
@@ -108,6 +111,18 @@ def agreement_line(told):
     draws = found.draws or (0, 0, 0, 0)
     counts = " ".join(map(str, [*draws, found.starts.whole, found.starts.converging, found.starts.kept]))
     return f"agreement {counts} {told.sure_converges.capitalize()} {told.sure_kept.capitalize()}"
+
+
+def forecast_line(told):
+    if told is None:
+        return "like QEMU NotBegun 0 0 0 0 0 Unknown"
+    end, kept = ("FewLeft", "Yes" if told.is_kept else "No") if told.ends else ("TraceEnds", "Unknown")
+    return f"like QEMU {end} {told.looks} {told.time} {told.sent} {told.left} {told.downtime} {kept}"
+
+
+def shares_line(found):
+    below = found.below and found.below.capitalize()
+    return f"shares {found.verdict.capitalize()} {found.share} {below or '-'}"
 
 
 def amounts_line(it):

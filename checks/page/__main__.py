@@ -30,8 +30,9 @@ import tempfile
 from checks.lib.amount_texts import error_text, moment_text, size_text, time_text
 from checks.lib.harness import drawn, run_main
 from checks.lib.tally import drawn_from, has, left_out
+from checks.lib.traces import Trace
 from checks.lib.view_texts import TOP, Failure, ran, report_facts, sweep_facts, told
-from checks.page import addresses, cases, enough, loads
+from checks.page import addresses, cases, enough, forecasts, loads
 from checks.page import looks as page_looks
 from checks.page import pictures, records, states, uses, worker
 from checks.page.browser import Browser
@@ -185,11 +186,13 @@ def check_node(tally, folder, module, precopy):
 def compare_in_node(case, precopy, asked, found):
     """What the module answers beside the lines of a report; of a small sample also its errors, and what is enough."""
     report = report_facts(told(precopy, ["report", *asked.words()], asked.known.path))
-    errors, remedies = found.pop("errors"), found.pop("remedies")
+    errors, remedies, forecast = (found.pop(name) for name in ("errors", "remedies", "forecast"))
     case.add(found == node_facts(asked, report), f"{found['stop']}")
     if asked.known.pages <= cases.SMALL:
         wanted = cases.drawn_errors(asked)
         case.add(errors == (wanted and list(wanted)), f"{errors}, {wanted}")
+        wanted = forecasts.line_of(forecasts.question_of(asked), Trace.at(asked.known.path))
+        case.add((forecast or "") == wanted, f"{forecast!r}, {wanted!r}")
         wanted = enough.remedies_of(asked, asked.limits()[1], asked.settings()[2])
         amounts = (*wanted[1:4], *wanted.ending[1:])
         amounts = [None if amount is None else str(amount) for amount in amounts]
@@ -220,6 +223,7 @@ def check_one(page, precopy, asked, has_view):
     cases.check_facts(precopy, asked, found, document)
     if not asked.refusal():
         enough.check_enough(asked, page, found, document)
+        cases.check_forecast(forecasts.told(page), document)
         enough.check_taken(asked, page, precopy)
 
 

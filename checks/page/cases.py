@@ -268,6 +268,24 @@ def errors(asked, document):
     return told_by_program
 
 
+def check_forecast(line, document):
+    """The line on a plan like QEMU tells what the program's document does, if there is one."""
+    if document is None:
+        return
+    member = document.get("like_qemu")
+    if member is None:
+        wanted = ""
+    elif "left_bytes" in member:
+        wanted = f"Like QEMU: the trace ends first, looks {member['looks']}, left {size_text(member['left_bytes'])}"
+    else:
+        time, down = (time_text(micros(member[name])) for name in ("time_seconds", "down_seconds"))
+        kept = "kept" if member["kept"] else "not kept"
+        costs = f"time {time}, sent {size_text(member['sent_bytes'])}, downtime {down}, {kept}"
+        wanted = f"Like QEMU: looks {member['looks']}, {costs}"
+    if line != wanted:
+        raise Failure(f"{line!r} in place of {wanted!r}")
+
+
 def reason(asked, report):
     threshold, of_sample = asked.settings()[3], " of the sample" * (asked.guest > asked.sampled)
     few = "no page was left" if threshold == 1 else f"fewer than {threshold:,} pages{of_sample} were left"

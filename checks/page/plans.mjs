@@ -5,6 +5,7 @@ import { readFileSync } from "node:fs";
 import { writesIn } from "./engine/light-trace.js";
 import { Planner } from "./engine/planner.js";
 import { WritesMap } from "./engine/writes-map.js";
+import { forecastWords } from "./model/predictions.js";
 
 const MOST_ROWS = 256;
 
@@ -30,6 +31,7 @@ const answers = JSON.parse(readFileSync(0, "utf8")).map(({ settings, question })
   const answer = planner.predict(question);
   const errors = planner.errors(question);
   const { isKept, ends, ...amounts } = planner.remedies(question);
+  const forecast = planner.forecast(question);
   const { link, downtime, speed, endingLink, endingStart } = amounts;
   return {
     windows: Array.from({ length: windows.count }, (_, row) => columns.map((name) => windows[name][row])),
@@ -39,6 +41,7 @@ const answers = JSON.parse(readFileSync(0, "utf8")).map(({ settings, question })
     answer: ["time", "bytes", "downtime", "recorded", "kept", "converges"].map((name) => String(answer[name])),
     map: pagesOnMap(settings, plan),
     isSame: JSON.stringify(answer.rows) === JSON.stringify(plan.rounds) && answer.left === plan.left,
+    forecast: forecast && forecastWords(forecast).replaceAll("\u00a0", " "),
     errors: errors && [errors.bytes, errors.time, errors.downtime].map(Number),
     remedies: [isKept, ends, ...[link, downtime, speed, endingLink, endingStart]
       .map((amount) => (amount === null ? null : String(amount)))],

@@ -11,7 +11,7 @@ function answerTo(question) {
   try {
     const { rows, ...told } = planner.predict(question);
     const errors = told.kept === "unknown" ? null : planner.errors(question);
-    return { ...told, errors, remedies: planner.remedies(question) };
+    return { ...told, errors, remedies: planner.remedies(question), forecast: planner.forecast(question) };
   } catch (error) {
     if (!(error instanceof Refusal)) {
       throw error;

@@ -85,7 +85,7 @@ window.isFitted = () => [...document.querySelectorAll(".plot")].every((plot) => 
   return !picture || !plot.offsetParent || Math.abs(Number(picture.getAttribute("width")) - plot.clientWidth) < 1;
 });
 window.atRest = async () => {
-  const isAtRest = () => isFitted() && isTold("comparison", "limits-answer", "links", "map");
+  const isAtRest = () => isFitted() && isTold("comparison", "like-qemu", "limits-answer", "links", "map");
   for (let count = 0, since = null; since !== begun || !isAtRest(); count += 1) {
     if (count > 200) { throw new Error("the page does not come to rest"); }
     since = begun;

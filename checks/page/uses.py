@@ -10,7 +10,7 @@ import tempfile
 from fractions import Fraction
 
 from checks.lib.harness import drawn, draws
-from checks.page import kept, limits, links, looking, map, records, saves, shapes, told, worker
+from checks.page import forecasts, kept, limits, links, looking, map, records, saves, shapes, told, worker
 from checks.page.acts import asked, read, require, spelled, typed
 from checks.page.cases import example
 from checks.page.shown import tried
@@ -380,6 +380,7 @@ USES = {
     "back": check_back,
     "limits": limits.check_limits,
     "ways out": limits.check_ways,
+    "like QEMU": forecasts.check_forecasts,
     "links": links.check_links,
     "curves of links": links.check_curves,
     "the best start": limits.check_saving,

@@ -6,7 +6,8 @@ MODULE is out/browser_planner.wasm, which `make page` builds, if none is given. 
 traces, and 64 about four records. They are asked of precopy-view, in lines and in JSON, of the page's module, if Node
 is there, of the library in C and in Python, if `make lib` has built it, and those about records of tools/predict. All
 must answer what a plain model does, which plans page by page, in all that they tell, or refuse by the same words or
-number. At most a fifth is refused, and of each verdict there are a number. A question at a door is a case.
+number. At most a fifth is refused, and of each verdict, of each end like QEMU and of each kind of shares of the link
+there are a number. A question at a door is a case.
 """
 
 import collections
@@ -14,25 +15,35 @@ import concurrent.futures
 import itertools
 import os
 import tempfile
+from typing import Optional
 
 from checks.lib.harness import expect, left_out, run_main, seed
-from checks.lib.migration_model import answer_of
+from checks.lib.migration_model import Answer, answer_of
 from checks.page.node import node_command, put_web
 from checks.predictions import questions
 from checks.predictions.doors import DOORS, Programs, asker, compare
 from checks.predictions.questions import Asked
 from precopy_dev.tree import TOP
 
-LEAST = {"yes": 20, "no": 10, "uncertain": 8, "unknown": 10, "refused": 4}
+VERDICTS = {"yes": 20, "no": 10, "uncertain": 8, "unknown": 10, "refused": 4}
+OTHERS = {"few left": 20, "trace ends": 10, "not begun": 2, "share turns": 10, "no share turns": 10}
 FEW, AT_ONCE = 6, 4
 
 
+def kinds_of(answer: Optional[Answer]) -> list[str]:
+    """Of which kinds an answer is: its verdict, and if it is not refused its end like QEMU and its shares."""
+    if answer is None:
+        return ["refused"]
+    end = "not begun" if answer.forecast is None else "few left" if answer.forecast.ends else "trace ends"
+    return [answer.sure_kept, end, "share turns" if answer.share.below else "no share turns"]
+
+
 def tried(programs: Programs, some: list[Asked]) -> tuple[list[str], list[str]]:
-    """The verdicts of the model on some questions about one trace, and what differs from its answers at each door."""
+    """The kinds of the model's answers to some questions about one trace, and what differs from these at each door."""
     answers = [answer_of(asked.question, asked.trace) for asked in some]
     doors = [door(programs) for door in DOORS if not door.lacking(programs)]
     found = [fault for door in doors for fault in compare(door, some, answers)]
-    return [answer.sure_kept if answer else "refused" for answer in answers], found
+    return [kind for answer in answers for kind in kinds_of(answer)], found
 
 
 def draw_and_trace(asked: Asked) -> str:
@@ -56,25 +67,27 @@ def programs_of(folder: str, view: str, module: str) -> Programs:
     return programs
 
 
-def expect_each(verdicts: collections.Counter) -> None:
-    told = ", ".join(f"{verdict} {count}" for verdict, count in sorted(verdicts.items()))
-    expect(all(verdicts[verdict] >= least for verdict, least in LEAST.items()), f"fewer than {LEAST}: {told}")
-    expect(5 * verdicts["refused"] <= verdicts.total(), f"more than a fifth is refused: {told}")
-    print(f"{verdicts.total()} questions: {told}")
+def expect_each(kinds: collections.Counter) -> None:
+    told = ", ".join(f"{kind} {count}" for kind, count in sorted(kinds.items()))
+    least = VERDICTS | OTHERS
+    expect(all(kinds[kind] >= count for kind, count in least.items()), f"fewer than {least}: {told}")
+    all_asked = sum(kinds[verdict] for verdict in VERDICTS)
+    expect(5 * kinds["refused"] <= all_asked, f"more than a fifth is refused: {told}")
+    print(f"{all_asked} questions: {told}")
 
 
 def check(tally, given):
     seed()
-    verdicts = collections.Counter()
+    kinds = collections.Counter()
     with tempfile.TemporaryDirectory() as folder, concurrent.futures.ProcessPoolExecutor(AT_ONCE) as pool:
         asked = questions.all_asked(folder)
         programs = programs_of(folder, given.precopy_view, given.module)
         groups = by_trace(asked)
         for group, (told, found) in zip(groups, pool.map(tried, [programs] * len(groups), groups)):
-            verdicts.update(told)
+            kinds.update(told)
             for fault in found:
                 tally.add(not fault, fault, group[0].draw)
-    tally.tries("verdicts", expect_each, verdicts)
+    tally.tries("kinds of answers", expect_each, kinds)
 
 
 def more(parser):

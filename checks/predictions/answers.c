@@ -4,8 +4,9 @@
  *     prediction_answers TRACE
  *
  * Each line of standard input has the numbers of a question, in the order of struct precopy_question, but for its size.
- * It prints a line for each: the numbers of the prediction, of its errors, of what is enough and of how sure it is in
- * their order, or the status alone. It asks the three calls, whose statuses must be equal.
+ * It prints a line for each: the numbers of the prediction, of its errors, of what is enough, of how sure it is, of
+ * what comes of it like QEMU and of the shares of the link in their order, or the status alone. It asks the five calls,
+ * whose statuses must be equal.
  */
 #include "precopy.h"
 
@@ -37,7 +38,8 @@ static int read_question(struct precopy_question *asked) {
 }
 
 static void print_answer(const struct precopy_prediction *it, const struct precopy_errors *errors,
-                         const struct precopy_amounts *enough, const struct precopy_agreement *sure) {
+                         const struct precopy_amounts *enough, const struct precopy_agreement *sure,
+                         const struct precopy_forecast *forecast, const struct precopy_link_shares *shares) {
     const uint64_t numbers[] = {it->rounds,
                                 it->reason,
                                 it->stop,
@@ -74,7 +76,17 @@ static void print_answer(const struct precopy_prediction *it, const struct preco
                                 sure->starts_converging,
                                 sure->starts_kept,
                                 sure->converges,
-                                sure->kept};
+                                sure->kept,
+                                forecast->looks,
+                                forecast->time,
+                                forecast->bytes,
+                                forecast->left,
+                                forecast->downtime,
+                                forecast->end,
+                                forecast->kept,
+                                shares->percent,
+                                shares->converges,
+                                shares->below};
     for (size_t i = 0; i < sizeof numbers / sizeof *numbers; i++) {
         printf("%s%" PRIu64, i ? " " : "", numbers[i]);
     }
@@ -96,6 +108,8 @@ int main(int argc, char **argv) {
         struct precopy_errors errors;
         struct precopy_amounts enough;
         struct precopy_agreement sure;
+        struct precopy_forecast forecast;
+        struct precopy_link_shares shares;
         uint32_t record, status = precopy_predict(trace, length, &asked, &told, &errors, &record);
         if (precopy_enough(trace, length, &asked, &enough, &record) != status) {
             fprintf(stderr, "precopy_enough does not return %" PRIu32 "\n", status);
@@ -105,8 +119,16 @@ int main(int argc, char **argv) {
             fprintf(stderr, "precopy_agreement does not return %" PRIu32 "\n", status);
             return 1;
         }
+        if (precopy_forecast(trace, length, &asked, &forecast, &record) != status) {
+            fprintf(stderr, "precopy_forecast does not return %" PRIu32 "\n", status);
+            return 1;
+        }
+        if (precopy_link_shares(trace, length, &asked, &shares, &record) != status) {
+            fprintf(stderr, "precopy_link_shares does not return %" PRIu32 "\n", status);
+            return 1;
+        }
         if (status == PRECOPY_OK) {
-            print_answer(&told, &errors, &enough, &sure);
+            print_answer(&told, &errors, &enough, &sure, &forecast, &shares);
         } else {
             printf("%" PRIu32 "\n", status);
         }

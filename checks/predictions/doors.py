@@ -9,7 +9,7 @@ import traceback
 from typing import NamedTuple, Optional
 
 from checks.lib.host_words import host_lines
-from checks.lib.look_model import look_lines
+from checks.lib.look_model import Forecast, look_lines
 from checks.lib.migration_model import STATUSES, Answer, Refusal, Starts, all_lines, document_of, lines_of
 from checks.lib.remedy_model import Remedies, enough_lines
 from checks.lib.share_model import share_lines
@@ -24,14 +24,16 @@ SECONDS, HOW = 600, {"capture_output": True, "text": True, "check": False}
 VERDICTS = ("yes", "no", "unknown", "uncertain")
 AGREEMENT = ("draws", "draws_known", "draws_converging", "draws_kept", "starts", "starts_converging", "starts_kept")
 AGREEMENT += ("converges", "kept")
+ENDS = ("few_left", "trace_ends", "not_begun")
+FORECAST = ("looks", "time", "bytes", "left", "downtime", "end", "kept")
 # Lines of tools/predict that are its own, and not those of precopy-view.
 OF_TOOL = (
     "taken: ",
     "guest: ",
     "sample: ",
     "link: ",
-    "at half the link: ",
-    "at twice the link: ",
+    "at half the link",
+    "at twice the link",
     "a plan takes no longer limit",
 )
 
@@ -196,7 +198,17 @@ class Page(Door):
         large = {"time": answer.time, "bytes": answer.sent, "downtime": answer.downtime, "recorded": answer.recorded}
         errors = answer.errors and dict(zip(("bytes", "time", "downtime"), map(str, answer.errors)))
         large = {name: str(number) for name, number in large.items()}
-        return {**plain, **large, "errors": errors, "remedies": self.remedies(answer)}
+        told = {"errors": errors, "remedies": self.remedies(answer), "forecast": self.forecast(answer.forecast)}
+        return {**plain, **large, **told}
+
+    @staticmethod
+    def forecast(told: Optional[Forecast]) -> Optional[dict]:
+        """What comes of the migration like QEMU; nothing if it begins after the trace."""
+        if told is None:
+            return None
+        wide = {"time": told.time, "bytes": told.sent, "left": told.left, "downtime": told.downtime}
+        words = {name: str(amount) for name, amount in wide.items()}
+        return {**words, "looks": told.looks, "end": "few" if told.ends else "record", "kept": kept_word(told)}
 
     @staticmethod
     def remedies(answer: Answer) -> dict:
@@ -220,8 +232,18 @@ class Library(Door):
         numbers |= {name: getattr(answer.plan, name) for name in ("stop", "down", "total")}
         verdicts = {"reason": answer.why, "converges": answer.converges, "kept": answer.kept}
         enough = {**amounts_of(answer.enough), "is_kept": answer.enough.is_kept, "ends": answer.enough.ending.ends}
-        sure = self.agreement(answer)
-        return {**numbers, **verdicts, "bytes": answer.sent, "errors": answer.errors, "enough": enough, "sure": sure}
+        more = {"enough": enough, "sure": self.agreement(answer), "forecast": self.forecast(answer.forecast)}
+        more["shares"] = {"converges": answer.share.verdict, "percent": answer.share.share, "below": answer.share.below}
+        return {**numbers, **verdicts, "bytes": answer.sent, "errors": answer.errors, **more}
+
+    @staticmethod
+    def forecast(told: Optional[Forecast]) -> dict:
+        """What comes of the migration like QEMU: zeros if it begins after the trace."""
+        if told is None:
+            return {**dict.fromkeys(FORECAST, 0), "end": "not_begun", "kept": "unknown"}
+        end = "few_left" if told.ends else "trace_ends"
+        amounts = (told.looks, told.time, told.sent, told.left, told.downtime, end, kept_word(told))
+        return dict(zip(FORECAST, amounts))
 
     @staticmethod
     def agreement(answer: Answer) -> dict:
@@ -234,7 +256,7 @@ class Library(Door):
 class Python(Library):
     """The library in Python."""
 
-    name = "precopy.predict, precopy.agreement, precopy.enough"
+    name = "precopy.predict, precopy.agreement, precopy.enough, precopy.forecast, precopy.link_shares"
 
     def told(self, asked: Asked) -> object:
         import precopy  # noqa: PLC0415
@@ -251,13 +273,18 @@ class Python(Library):
         known = {"errors": errors if words["kept"] != "unknown" else None}
         sure = vars(precopy.agreement(trace, question))
         sure |= {name: sure[name].name.lower() for name in ("converges", "kept")}
-        return {**vars(it), **words, **known, "enough": vars(precopy.enough(trace, question)), "sure": sure}
+        more = {"enough": vars(precopy.enough(trace, question)), "sure": sure}
+        forecast, shares = vars(precopy.forecast(trace, question)), vars(precopy.link_shares(trace, question))
+        more["forecast"] = forecast | {name: forecast[name].name.lower() for name in ("end", "kept")}
+        below = shares["below"] and shares["below"].name.lower()
+        more["shares"] = shares | {"converges": shares["converges"].name.lower(), "below": below}
+        return {**vars(it), **words, **known, **more}
 
 
 class C(Library):
     """The library in C, by a program that asks it."""
 
-    name = "precopy_predict, precopy_agreement, precopy_enough"
+    name = "precopy_predict, precopy_agreement, precopy_enough, precopy_forecast, precopy_link_shares"
     NUMBERS = "link first downtime reserve tick page sampled guest increment rounds start base"
     ANSWER = "rounds reason stop down total left time bytes downtime recorded converges kept"
     AMOUNTS = ("link", "downtime", "speed", "ending_link", "ending_start")
@@ -284,8 +311,8 @@ class C(Library):
         return [given[name] or 0 for name in self.NUMBERS.split()] + has + [int(given["skip"])]
 
     def answer(self, numbers: list[int]) -> object:
-        """What a line of the program tells: twelve numbers, four of standard errors, twelve of what is enough and nine
-        of how sure that is, or a status."""
+        """What a line of the program tells: twelve numbers, four of standard errors, twelve of what is enough, nine of
+        how sure that is, seven of what comes of it like QEMU and three of shares of the link, or a status."""
         if len(numbers) == 1:
             return numbers[0]
         found = dict(zip(self.ANSWER.split(), numbers))
@@ -296,9 +323,15 @@ class C(Library):
         enough = {name: amount if has else None for name, amount, has in given}
         enough |= {"is_kept": numbers[26] != 0, "ends": numbers[27] != 0}
         reason = ("few", "fast", "rounds")[found["reason"]]
-        sure = dict(zip(AGREEMENT, numbers[28:]))
+        sure = dict(zip(AGREEMENT, numbers[28:37]))
         sure |= {name: VERDICTS[sure[name]] for name in ("converges", "kept")}
-        return {**found, **verdicts, "reason": reason, "errors": errors, "enough": enough, "sure": sure}
+        forecast = dict(zip(FORECAST, numbers[37:44]))
+        forecast |= {"end": ENDS[forecast["end"]], "kept": VERDICTS[forecast["kept"]]}
+        percent, converges, below = numbers[44:]
+        shares = {"converges": VERDICTS[converges], "percent": percent}
+        shares["below"] = VERDICTS[below] if below != converges else None
+        more = {"enough": enough, "sure": sure, "forecast": forecast, "shares": shares}
+        return {**found, **verdicts, "reason": reason, "errors": errors, **more}
 
 
 DOORS = [Lines, Document, Tool, Page, C, Python]
@@ -314,6 +347,11 @@ def asker(folder: str) -> str:
     if done.returncode:
         raise Failure(f"checks/predictions/answers.c is not compiled: {done.stderr[-300:]}")
     return path
+
+
+def kept_word(told: Forecast) -> str:
+    """Whether a migration like QEMU keeps its limit: it is unknown if the trace ends first."""
+    return "unknown" if not told.ends else "yes" if told.is_kept else "no"
 
 
 def amounts_of(found: Remedies) -> dict[str, Optional[int]]:

@@ -35,6 +35,7 @@ OF_PLANNER = {
     "Prediction": "ANSWER",
     "Errors": "ERRORS",
     "Amounts": "REMEDIES",
+    "Forecast": "FORECAST",
 }
 # Structs that Rust's callers see as they are in C stand in its sources by hand, with what they mean.
 RUST_BY_HAND = {"Page", "Round", "Taken", "Write"}

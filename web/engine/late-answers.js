@@ -1,6 +1,6 @@
-// What takes long to answer: standard errors, what keeps a limit, and whether a rounded amount does too. A worker of
-// its own answers it, so that no plan waits. Only what is shown is asked for: what was asked before and has no answer
-// yet is left out.
+// What takes long to answer: standard errors, what comes of a plan like QEMU, what keeps a limit, and whether a rounded
+// amount does too. A worker of its own answers it, so that no plan waits. Only what is shown is asked for: what was
+// asked before and has no answer yet is left out.
 
 import { fewDigitsOffers } from "../model/offers.js";
 import { PlannerClient, WorkerEnded } from "./planner-client.js";
@@ -41,11 +41,12 @@ export class LateAnswers {
   follow(trace, prediction, predictions, questionsOfCurves) {
     const ask = (kind, { question }) => ({ kind, trace, question, key: lateKey(kind, trace, question) });
     const errors = predictions.filter(mayHaveErrors).map((some) => ask("errors", some));
+    const forecast = prediction ? [ask("forecast", prediction)] : [];
     const remedies = prediction ? [ask("remedies", prediction)] : [];
     const offers = prediction ? this.offersOf(trace, prediction).map((some) => ask("predict", some)) : [];
     const ways = prediction ? Object.values(this.waysOf(trace, prediction)) : [];
     const asked = ways.filter((way) => way.ask).map((way) => ask("predict", way.ask));
-    this.wanted = [...errors.slice(0, 1), ...remedies, ...offers, ...asked, ...errors.slice(1)];
+    this.wanted = [...forecast, ...errors.slice(0, 1), ...remedies, ...offers, ...asked, ...errors.slice(1)];
     this.curves = null;
     this.curvesOf = () => questionsOfCurves().map((question) => ({ ...ask("predict", { question }), of: "curve" }));
     if (!this.isAsking) {
@@ -56,6 +57,11 @@ export class LateAnswers {
   /** The standard errors of a prediction: null if there are none, and undefined if they are still to come. */
   errorsOf(trace, prediction) {
     return mayHaveErrors(prediction) ? this.known.get(lateKey("errors", trace, prediction.question)) : null;
+  }
+
+  /** What comes of a prediction like QEMU: null if there is no answer, and undefined if it is still to come. */
+  forecastOf(trace, prediction) {
+    return this.known.get(lateKey("forecast", trace, prediction.question));
   }
 
   /** What keeps the limit of a prediction: null if there is no answer, and undefined if it is still to come. */

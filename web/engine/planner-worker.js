@@ -118,6 +118,7 @@ const ANSWERS = {
   open: openTrace,
   predict: ({ question }) => planner().predict(question),
   errors: ({ question }) => planner().errors(question),
+  forecast: ({ question }) => planner().forecast(question),
   remedies: ({ question }) => planner().remedies(question),
   windows: ({ settings }) => planner().windows(settings),
   map: (grid) => writesMap().count(grid),

@@ -1,8 +1,10 @@
 // The proved planner. It is a WebAssembly module that allocates nothing: this file lends it memory, and no other file
 // touches that memory. Addresses and lengths are BigInt, since the memory has 64-bit addresses.
 
-import { ANSWER, ERRORS, QUESTION, REMEDIES, ROUND, SETTINGS, SUMS } from "../model/interface.js";
-import { readAnswer, readErrors, readRemedies, REASONS, writeQuestion, writeSettings } from "../model/questions.js";
+import { ANSWER, ERRORS, FORECAST, QUESTION, REMEDIES, ROUND, SETTINGS, SUMS } from "../model/interface.js";
+import {
+  readAnswer, readErrors, readForecast, readRemedies, REASONS, writeQuestion, writeSettings,
+} from "../model/questions.js";
 
 /** The most bytes of a trace. */
 const MOST_TRACE_BYTES = 2 ** 28;
@@ -68,7 +70,7 @@ function placesFrom(base) {
   const lengths = {
     record: 8, sizes: SIZES_SIZE, settings: SETTINGS.size, sums: SUMS.size, count: 8, rounds: MOST_ROUNDS * ROUND.size,
     question: QUESTION.size, answers: MOST_ANSWERS * START_SIZE, errors: ERRORS.size, choice: CHOICE_SIZE,
-    remedies: REMEDIES.size,
+    remedies: REMEDIES.size, forecast: FORECAST.size,
     marks: MOST_PAGES / 8, otherMarks: MOST_PAGES / 8, list: MOST_PAGES * 4, pageMarks: MOST_PAGES * PAGE_MARK_SIZE,
   };
   const places = {};
@@ -243,7 +245,18 @@ export class Planner {
     return readRemedies(this.view(), this.places.remedies);
   }
 
-  /** The same as bytes. */
+  /** What comes of a question if the hypervisor goes on as QEMU does. It takes about as long as a plan. */
+  forecast(question) {
+    const { pages, writes } = this.sizes;
+    writeQuestion(this.view(), this.places.question, question);
+    this.ask("lent_forecast", "question", [
+      ...this.slice("touches", writes), ...this.slice("marks", Math.ceil(pages / 64)), ...this.slice("list", pages),
+      BigInt(this.places.forecast),
+    ]);
+    return readForecast(this.view(), this.places.forecast);
+  }
+
+  /** The standard errors of the answer to a question as bytes. */
   errorBytes(question) {
     this.errors(question);
     return new Uint8Array(this.calls.memory.buffer).slice(this.places.errors, this.places.errors + ERRORS.size);

@@ -43,6 +43,12 @@ export const REMEDIES = {
   narrow: ["hasLink", "hasDowntime", "hasSpeed", "hasEndingLink", "hasEndingStart", "isKept", "ends"],
 };
 
+export const FORECAST = {
+  size: 48,
+  wide: ["looks", "time", "bytes", "left", "downtime"],
+  narrow: ["end", "kept"],
+};
+
 /** What is wrong with a trace, by the number of the refusal. */
 export const TRACE_REFUSALS = {
   1: "it has fewer than the 16 bytes of a header",

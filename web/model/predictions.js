@@ -3,7 +3,7 @@
 
 import { askedOf, OWN_INCREMENT } from "./asking.js";
 import { hostCommands } from "./hosts.js";
-import { counted, countOf } from "./numbers.js";
+import { bytesText, counted, countOf, timeText } from "./numbers.js";
 import { commandWord } from "./quantities.js";
 import { limitsOf, RATE_UNITS, scaleOf, TIME_UNITS } from "./units.js";
 
@@ -56,6 +56,14 @@ export function reasonWords({ plan, settings, scale }) {
 /** How a plan that ends within the trace ends, in a sentence. */
 export function endingOf(prediction) {
   return `It ${prediction.cost.converges === "yes" ? "converges" : "does not converge"}: ${reasonWords(prediction)}.`;
+}
+
+/** What comes of a plan like QEMU, in the words of `precopy-view predict`. */
+export function forecastWords({ end, looks, time, bytes, left, downtime, kept }) {
+  const told = end === "record" ? [`the trace ends first, looks ${looks}`, `left ${bytesText(left)}`]
+    : [`looks ${looks}`, `time ${timeText(time)}`, `sent ${bytesText(bytes)}`,
+      `downtime ${timeText(downtime)}`, keptWords({ kept })];
+  return `Like QEMU: ${told.map((words) => words.replaceAll(" ", "\u00a0")).join(", ")}`;
 }
 
 /** What speaks against a prediction, a sentence each. */

@@ -1,11 +1,14 @@
 // Questions about a migration and their answers, as the module lays them out: in numbers of 64 bits, and after them of
 // 32. Their meaning stands in `crates/predictions`.
 
-import { ANSWER, ERRORS, QUESTION, REMEDIES, SETTINGS } from "./interface.js";
+import { ANSWER, ERRORS, FORECAST, QUESTION, REMEDIES, SETTINGS } from "./interface.js";
 
 /** The module's reasons of a stop, and its verdicts. */
 export const REASONS = ["few", "fast", "rounds"];
 const VERDICTS = ["yes", "no", "unknown"];
+
+/** Why a migration like QEMU ends: few pages are left, the trace ends first, or it begins after the trace. */
+const ENDS = ["few", "record", "none"];
 
 /** Writes the fields of a struct; what is not given is 0. */
 function write(view, at, { wide, narrow }, fields) {
@@ -61,4 +64,11 @@ export function readRemedies(view, at) {
     downtime: given("downtime", "hasDowntime"), speed: given("speed", "hasSpeed"),
     endingLink: given("endingLink", "hasEndingLink"), endingStart: given("endingStart", "hasEndingStart"),
   };
+}
+
+/** Reads what comes of a migration like QEMU: microseconds and bytes as BigInt; null if it begins after the trace. */
+export function readForecast(view, at) {
+  const { end, looks, kept, ...costs } = read(view, at, FORECAST);
+  return ENDS[end] === "none" ? null
+    : { ...costs, end: ENDS[end], looks: Number(looks), kept: VERDICTS[kept] };
 }

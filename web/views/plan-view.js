@@ -2,7 +2,7 @@
 // settings make no plan, the last one stays, grey.
 
 import { ControlRefusal } from "../model/asking.js";
-import { byId, html, keepFocus, renew } from "./elements.js";
+import { byId, html, keepFocus, renew, tellIn } from "./elements.js";
 import { bytesText, momentText, timeText } from "../model/numbers.js";
 import { saveButtons } from "./exports.js";
 import { Inspector } from "./inspector.js";
@@ -12,7 +12,7 @@ import {
 } from "./outcome.js";
 import { WorkerEnded } from "../engine/planner-client.js";
 import { watchWidths, widthOf } from "./plot.js";
-import { isUnknown, keptWords } from "../model/predictions.js";
+import { forecastWords, isUnknown, keptWords } from "../model/predictions.js";
 import { quantityWords } from "../model/quantities.js";
 import { reachOf, roundsLook, roundsPicture } from "./rounds-chart.js";
 import { roundsFile, roundsTable } from "./tables.js";
@@ -111,7 +111,7 @@ export class PlanView {
   /** Shows a prediction beside the kept ones, or why there is none, with the last one grey. */
   draw(settings, found, kept) {
     this.last = found.value ?? this.last;
-    for (const id of ["limit-bar", "reasons", "rounds"]) {
+    for (const id of ["limit-bar", "like-qemu", "reasons", "rounds"]) {
       byId(id).classList.toggle("stale", !found.value);
     }
     byId("reasons").hidden = this.last === null;
@@ -159,9 +159,18 @@ export class PlanView {
     byId("limit-bar").replaceChildren(...(isKnown ? [limitBar(widthOf(byId("limit-bar")), this.last)] : []));
   }
 
+  /** Says what comes of the last plan like QEMU. While that is still to come, the line is busy. */
+  drawForecast() {
+    const forecast = this.last?.forecast;
+    const line = byId("like-qemu");
+    line.setAttribute("aria-busy", String(this.last !== null && forecast === undefined));
+    tellIn(line, forecast ? forecastWords(forecast) : "");
+  }
+
   /** Draws the numbers of the plans. Standard errors that are still to come make it busy. */
   drawComparison(settings, kept) {
     this.drawBar();
+    this.drawForecast();
     const words = kept.map((some, place) => this.keptWords(settings, some, place));
     const predictions = [this.last, ...keptPredictions(kept)];
     const meaning = predictions.some(({ errors }) => errors) ? [html("p", { class: "derived" }, STANDARD_ERROR)] : [];

@@ -31,7 +31,23 @@ from ._calls import LIBRARY as _LIBRARY
 from ._calls import lent as _lent
 from ._calls import number as _number
 from ._interface import Status
-from ._predictions import Agreement, Amounts, Errors, Prediction, Question, Reason, Verdict, agreement, enough, predict
+from ._predictions import (
+    Agreement,
+    Amounts,
+    Errors,
+    Forecast,
+    ForecastEnd,
+    LinkShares,
+    Prediction,
+    Question,
+    Reason,
+    Verdict,
+    agreement,
+    enough,
+    forecast,
+    link_shares,
+    predict,
+)
 from ._refusals import (
     BufferRefused,
     Bytes,
@@ -51,12 +67,13 @@ from ._refusals import room as _room
 from ._streams import Finding, StreamCheck, check_streams, writes_before
 
 __all__ = [
-    "Agreement", "Amounts", "BufferRefused", "Errors", "Finding", "FlatMemory", "Frame", "FrameRefused", "NoMemory",
-    "Overlap", "PlaceRefused", "Prediction", "Question", "QuestionRefused", "Reason", "Refused", "Round", "Settings",
-    "SettingsRefused", "Sizes", "Status", "StreamCheck", "Sums", "Taken", "TraceRefused", "Verdict", "Write",
-    "agreement", "check_settings", "check_streams", "check_trace", "decode_frame", "encode_frame", "enough", "is_zero",
-    "memory", "memory_before", "memory_step", "page_at", "page_writes", "plan", "predict", "report", "rounds", "sweep",
-    "version", "version_after", "versions_after", "versions_before", "writes_before",
+    "Agreement", "Amounts", "BufferRefused", "Errors", "Finding", "FlatMemory", "Forecast", "ForecastEnd", "Frame",
+    "FrameRefused", "LinkShares", "NoMemory", "Overlap", "PlaceRefused", "Prediction", "Question", "QuestionRefused",
+    "Reason", "Refused", "Round", "Settings", "SettingsRefused", "Sizes", "Status", "StreamCheck", "Sums", "Taken",
+    "TraceRefused", "Verdict", "Write", "agreement", "check_settings", "check_streams", "check_trace", "decode_frame",
+    "encode_frame", "enough", "forecast", "is_zero", "link_shares", "memory", "memory_before", "memory_step", "page_at",
+    "page_writes", "plan", "predict", "report", "rounds", "sweep", "version", "version_after", "versions_after",
+    "versions_before", "writes_before",
 ]  # fmt: skip
 
 

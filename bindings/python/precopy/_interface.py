@@ -130,6 +130,14 @@ class Amounts(Structure):
     ]
 
 
+class Forecast(Structure):
+    _fields_ = [*_of(c_uint64, "looks", "time", "bytes", "left", "downtime"), *_of(c_uint32, "end", "kept")]
+
+
+class LinkShares(Structure):
+    _fields_ = [*_of(c_uint64, "percent"), *_of(c_uint32, "converges", "below")]
+
+
 class Write(Structure):
     _fields_ = [*_of(c_uint64, "tick"), *_of(c_size_t, "size"), *_of(c_uint32, "place", "offset")]
 
@@ -182,6 +190,8 @@ CALLS = {
     "predict": [c_void_p, c_size_t, POINTER(Question), POINTER(Prediction), POINTER(Errors), POINTER(c_uint32)],
     "agreement": [c_void_p, c_size_t, POINTER(Question), POINTER(Agreement), POINTER(c_uint32)],
     "enough": [c_void_p, c_size_t, POINTER(Question), POINTER(Amounts), POINTER(c_uint32)],
+    "forecast": [c_void_p, c_size_t, POINTER(Question), POINTER(Forecast), POINTER(c_uint32)],
+    "link_shares": [c_void_p, c_size_t, POINTER(Question), POINTER(LinkShares), POINTER(c_uint32)],
     "memory": [c_void_p, c_size_t, c_void_p, c_size_t, POINTER(c_size_t), POINTER(c_uint32)],
     "memory_before": [c_void_p, c_size_t, c_uint64, c_void_p, c_size_t, POINTER(c_size_t), POINTER(c_uint32)],
     "memory_step": [c_void_p, c_size_t, c_uint32, c_uint32, c_void_p, c_size_t, POINTER(c_uint32)],

@@ -155,3 +155,53 @@ def enough(trace: Bytes, question: Question) -> Amounts:
     names = ("link", "downtime", "speed", "ending_link", "ending_start")
     told = {name: getattr(found, name) if getattr(found, f"has_{name}") else None for name in names}
     return Amounts(is_kept=found.is_kept != 0, ends=found.ends != 0, **told)
+
+
+class ForecastEnd(enum.IntEnum):
+    """Why a migration ends whose hypervisor goes on as QEMU does: few pages are left, the trace ends first, or it has
+    not begun, since its start is after the trace."""
+
+    FEW_LEFT = 0
+    TRACE_ENDS = 1
+    NOT_BEGUN = 2
+
+
+@dataclass(frozen=True)
+class Forecast:
+    """What a migration comes to if its hypervisor looks at its dirty bitmap again only when few pages are left, as QEMU
+    does: after so many `looks`, with `left` of its bytes after the stop, and times in microseconds. If the trace ends
+    first, these are of a guest that is stopped there, and `kept` is unknown."""
+
+    end: ForecastEnd
+    looks: int
+    time: int
+    bytes: int
+    left: int
+    downtime: int
+    kept: Verdict
+
+
+def forecast(trace: Bytes, question: Question) -> Forecast:
+    """Returns what the migration of a trace comes to like QEMU, with the limits of a question."""
+    found = _interface.Forecast()
+    check_over(_LIBRARY.precopy_forecast, trace, question._as_c(), found)
+    told = {name: getattr(found, name) for name, _ in _interface.Forecast._fields_}
+    return Forecast(**told | {"end": ForecastEnd(found.end), "kept": Verdict(found.kept)})
+
+
+@dataclass(frozen=True)
+class LinkShares:
+    """Whether a migration converges at all of its link, and the least share, in per cent, from which on each whole one
+    has that verdict; and the verdict at one per cent less, which is None below a half of the link."""
+
+    converges: Verdict
+    percent: int
+    below: Optional[Verdict]
+
+
+def link_shares(trace: Bytes, question: Question) -> LinkShares:
+    """Returns down to which share of its link the migration of a trace has the verdict that it has at all of it."""
+    found = _interface.LinkShares()
+    check_over(_LIBRARY.precopy_link_shares, trace, question._as_c(), found)
+    below = Verdict(found.below) if found.below != found.converges else None
+    return LinkShares(Verdict(found.converges), found.percent, below)

@@ -67,6 +67,7 @@ fn print_prediction(trace: &[u8], question: &Question) -> Result<(), Refused> {
         println!("errors {} {} {}", errors.bytes, errors.time, errors.downtime);
     }
     print_agreement(trace, question)?;
+    print_forecast(trace, question)?;
     print_amounts(trace, question)
 }
 
@@ -84,6 +85,19 @@ fn print_agreement(trace: &[u8], question: &Question) -> Result<(), Refused> {
         it.converges,
         it.kept
     );
+    Ok(())
+}
+
+/// What comes of it like QEMU, and the shares of the link.
+fn print_forecast(trace: &[u8], question: &Question) -> Result<(), Refused> {
+    let it = precopy::forecast(trace, question)?;
+    println!(
+        "like QEMU {:?} {} {} {} {} {} {:?}",
+        it.end, it.looks, it.time, it.bytes, it.left, it.downtime, it.kept
+    );
+    let found = precopy::link_shares(trace, question)?;
+    let below = found.below.map_or("-".to_string(), |verdict| format!("{verdict:?}"));
+    println!("shares {:?} {} {below}", found.converges, found.percent);
     Ok(())
 }
 

@@ -119,6 +119,26 @@ pub struct Amounts {
 
 #[repr(C)]
 #[derive(Clone, Copy, Default)]
+pub struct Forecast {
+    pub looks: u64,
+    pub time: u64,
+    pub bytes: u64,
+    pub left: u64,
+    pub downtime: u64,
+    pub end: u32,
+    pub kept: u32,
+}
+
+#[repr(C)]
+#[derive(Clone, Copy, Default)]
+pub struct LinkShares {
+    pub percent: u64,
+    pub converges: u32,
+    pub below: u32,
+}
+
+#[repr(C)]
+#[derive(Clone, Copy, Default)]
 pub struct Frame {
     pub page: u32,
     pub stamp: u32,
@@ -223,6 +243,20 @@ extern "C" {
         trace_length: usize,
         question: *const Question,
         amounts: *mut Amounts,
+        record: *mut u32,
+    ) -> u32;
+    pub fn precopy_forecast(
+        trace: *const u8,
+        trace_length: usize,
+        question: *const Question,
+        forecast: *mut Forecast,
+        record: *mut u32,
+    ) -> u32;
+    pub fn precopy_link_shares(
+        trace: *const u8,
+        trace_length: usize,
+        question: *const Question,
+        shares: *mut LinkShares,
         record: *mut u32,
     ) -> u32;
     pub fn precopy_memory(

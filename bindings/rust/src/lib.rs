@@ -17,7 +17,10 @@ pub use places::{
     memory_step, page_at, page_at_into, page_writes, page_writes_into, version_after, versions_after,
     versions_after_into, versions_before, versions_before_into, Write,
 };
-pub use predictions::{agreement, enough, predict, Agreement, Amounts, Errors, Prediction, Question, Verdict};
+pub use predictions::{
+    agreement, enough, forecast, link_shares, predict, Agreement, Amounts, Errors, Forecast, ForecastEnd, LinkShares,
+    Prediction, Question, Verdict,
+};
 pub use refusals::Refused;
 pub use status::Status;
 pub use streams::{check_streams, writes_before, Finding, FramePlace, StreamCheck};

@@ -280,3 +280,97 @@ pub fn enough(trace: &[u8], question: &Question) -> Result<Amounts, Refused> {
         unsafe { calls::precopy_enough(trace.as_ptr(), trace.len(), &question.as_c(), &mut found, &mut record) };
     with_record(record, checked(status).map(|()| Amounts::of(&found)))
 }
+
+/// Why a migration ends whose hypervisor goes on as QEMU does.
+#[derive(Clone, Copy, Debug, PartialEq, Eq)]
+pub enum ForecastEnd {
+    /// Few pages are left, so the guest is stopped.
+    FewLeft,
+    /// The trace ends first. If the guest were stopped there, the other numbers would hold.
+    TraceEnds,
+    /// The start is after the trace. The other numbers are 0.
+    NotBegun,
+}
+
+impl ForecastEnd {
+    fn of(number: u32) -> ForecastEnd {
+        match number {
+            0 => ForecastEnd::FewLeft,
+            1 => ForecastEnd::TraceEnds,
+            _ => ForecastEnd::NotBegun,
+        }
+    }
+}
+
+/// What a migration comes to if its hypervisor looks at its dirty bitmap again only when few pages are left, as QEMU
+/// does.
+#[derive(Clone, Copy, Debug, PartialEq, Eq)]
+pub struct Forecast {
+    /// Why it ends.
+    pub end: ForecastEnd,
+    /// How many looks there are.
+    pub looks: u64,
+    /// From the start until the guest runs again, in microseconds.
+    pub time: u64,
+    /// How many bytes of the guest are sent.
+    pub bytes: u64,
+    /// How many of them are sent after the stop.
+    pub left: u64,
+    /// How long the guest stands still, with the reserve, in microseconds.
+    pub downtime: u64,
+    /// Whether the downtime is within its limit. If the trace ends first, that is unknown.
+    pub kept: Verdict,
+}
+
+impl Forecast {
+    fn of(found: &calls::Forecast) -> Forecast {
+        Forecast {
+            end: ForecastEnd::of(found.end),
+            looks: found.looks,
+            time: found.time,
+            bytes: found.bytes,
+            left: found.left,
+            downtime: found.downtime,
+            kept: Verdict::of(found.kept),
+        }
+    }
+}
+
+/// Returns what the migration of a trace comes to like QEMU, with the limits of a question.
+pub fn forecast(trace: &[u8], question: &Question) -> Result<Forecast, Refused> {
+    let (mut found, mut record) = (calls::Forecast::default(), NO_RECORD);
+    // SAFETY: the slice is there for its length; what is written is this function's.
+    let status =
+        unsafe { calls::precopy_forecast(trace.as_ptr(), trace.len(), &question.as_c(), &mut found, &mut record) };
+    with_record(record, checked(status).map(|()| Forecast::of(&found)))
+}
+
+/// Down to which share of its link a migration has the verdict that it has at all of it.
+#[derive(Clone, Copy, Debug, PartialEq, Eq)]
+pub struct LinkShares {
+    /// Whether it converges at all of its link.
+    pub converges: Verdict,
+    /// The least share from which on each whole per cent has that verdict, from 50 to 100 per cent.
+    pub percent: u64,
+    /// Whether it converges at one per cent less, where that is tried: down to a half of the link.
+    pub below: Option<Verdict>,
+}
+
+impl LinkShares {
+    fn of(found: &calls::LinkShares) -> LinkShares {
+        LinkShares {
+            converges: Verdict::of(found.converges),
+            percent: found.percent,
+            below: (found.below != found.converges).then(|| Verdict::of(found.below)),
+        }
+    }
+}
+
+/// Returns down to which share of its link the migration of a trace has the verdict that it has at all of it.
+pub fn link_shares(trace: &[u8], question: &Question) -> Result<LinkShares, Refused> {
+    let (mut found, mut record) = (calls::LinkShares::default(), NO_RECORD);
+    // SAFETY: the slice is there for its length; what is written is this function's.
+    let status =
+        unsafe { calls::precopy_link_shares(trace.as_ptr(), trace.len(), &question.as_c(), &mut found, &mut record) };
+    with_record(record, checked(status).map(|()| LinkShares::of(&found)))
+}

@@ -3,7 +3,10 @@
 mod guest;
 
 use guest::TRACE;
-use precopy::{Amounts, Errors, Question, Reason, Refused, Settings, Sizes, Status, Sums, Taken, Verdict, Write};
+use precopy::{
+    Amounts, Errors, Forecast, ForecastEnd, LinkShares, Question, Reason, Refused, Settings, Sizes, Status, Sums,
+    Taken, Verdict, Write,
+};
 
 const REPORT: &str = "trace pages 4 size 16 writes 5
 window 0 writes 2 pages 2 again 0 fresh 2
@@ -166,6 +169,43 @@ fn agreements() {
     let sure = precopy::agreement(&TRACE, &all).unwrap();
     assert_eq!((sure.draws, sure.starts), (0, 5));
     assert_eq!((sure.converges, sure.kept), (Verdict::Yes, Verdict::Yes));
+}
+
+#[test]
+fn forecasts() {
+    let stopped = Forecast {
+        end: ForecastEnd::FewLeft,
+        looks: 2,
+        time: 1_600_000,
+        bytes: 192,
+        left: 64,
+        downtime: 600_000,
+        kept: Verdict::Yes,
+    };
+    assert_eq!(precopy::forecast(&TRACE, &half()), Ok(stopped));
+    for (start, end, left) in [(2400, ForecastEnd::TraceEnds, 128), (2501, ForecastEnd::NotBegun, 0)] {
+        let told = precopy::forecast(&TRACE, &Question { start, ..half() }).unwrap();
+        assert_eq!((told.end, told.left, told.kept), (end, left, Verdict::Unknown));
+    }
+}
+
+#[test]
+fn link_shares() {
+    let shares = |converges, percent, below| {
+        Ok(LinkShares {
+            converges,
+            percent,
+            below,
+        })
+    };
+    let all = shares(Verdict::Yes, 100, Some(Verdict::Unknown));
+    assert_eq!(precopy::link_shares(&TRACE, &half()), all);
+    let warm = Question {
+        start: 1201,
+        base: Some(6),
+        ..half()
+    };
+    assert_eq!(precopy::link_shares(&TRACE, &warm), shares(Verdict::Yes, 50, None));
 }
 
 #[test]

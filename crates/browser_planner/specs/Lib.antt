@@ -7,3 +7,4 @@ pub mod Predictions
 pub mod Errors
 pub mod Starts
 pub mod Remedies
+pub mod Forecasts

@@ -1,3 +1,5 @@
 pub mod Refusals
 pub mod Settings
 pub mod Sums
+pub mod Forecasts
+pub mod Shares

@@ -6,6 +6,8 @@ pub mod Sweeps
 pub mod Predictions
 pub mod Enough
 pub mod Agreements
+pub mod Forecasts
+pub mod LinkShares
 pub mod Memories
 pub mod Frames
 pub mod FlatMemory

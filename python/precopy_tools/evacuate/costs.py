@@ -26,8 +26,11 @@ from precopy_tools.refusals import Refused
 
 FORMAT = "precopy costs 1"
 MOST_MICROS = 1 << 53
+MOST_TOLD = 1e18
 STOOD, TOO_SHORT = "the guest stood still for", "the recording ends before the migration"
 VERDICTS = ("yes", "no", "unknown")
+# What `json predict` tells of a migration like QEMU: what it costs, or what is left when the recording ends before.
+ENDED, CUT = {"looks", "time_seconds", "sent_bytes", "down_seconds", "kept"}, {"looks", "left_bytes"}
 
 
 class Wanted(NamedTuple):
@@ -51,7 +54,8 @@ class Cost(NamedTuple):
     `least` and `most` are the shortest and the longest time over all starts whose migration ends within the recording,
     and `quiet` is the least bytes of them. `converges` is yes, no, or unknown if the recording ends before the
     migration does, or if the guest stood still meanwhile: then the cost is that of a guest that writes no more. It is
-    kept if the guest's limits are, and `why` says what is not.
+    kept if the guest's limits are, and `why` says what is not. `like_qemu` is what `json predict` tells of a hypervisor
+    that goes on as QEMU does: nothing if the guest stood still, or if the start is one of `json when`.
     """
 
     at_once: int
@@ -68,6 +72,7 @@ class Cost(NamedTuple):
     hold: int = 0
     record: str = ""
     start: float = 0.0
+    like_qemu: dict = {}
 
 
 class Guest(NamedTuple):
@@ -182,8 +187,10 @@ def cost_of(planner: Forecast, asked: Asked, limits: Wanted, at_once: int) -> Co
     ranges = told.get("starts")
     least, most = (numbers(ranges[end]) if ranges else cost for end in ("least", "greatest"))
     why = missed(told, limits, planner.sample)
-    verdict = "unknown" if planner.sample.stood_still else by_plan(told)
-    return Cost(at_once, link.bandwidth, *cost, least[0], most[0], least[1], verdict, not why, why, start=start)
+    stood_still = planner.sample.stood_still
+    verdict, like_qemu = ("unknown", {}) if stood_still else (by_plan(told), told.get("like_qemu", {}))
+    found = Cost(at_once, link.bandwidth, *cost, least[0], most[0], least[1], verdict, not why, why)
+    return found._replace(start=start, like_qemu=like_qemu)
 
 
 def guest_of(path: str, asked: Asked, limits: Wanted) -> Guest:
@@ -297,6 +304,10 @@ def expect_kinds(cost: Cost) -> None:
         raise ValueError(f"share is {cost.share!r}")
     if cost.converges not in VERDICTS:
         raise ValueError(f"converges is {cost.converges!r}")
+    told = cost.like_qemu
+    are_numbers = all(type(value) in (int, float, bool) and 0 <= value < MOST_TOLD for value in told.values())
+    if set(told) not in (set(), ENDED, CUT) or not are_numbers:
+        raise ValueError(f"like_qemu is {told!r}")
 
 
 def expect_same(where: str, guest: Guest, rate: float, asked: Asked, limits_of) -> None:

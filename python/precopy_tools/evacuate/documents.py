@@ -22,6 +22,7 @@ def cost_document(cost: Cost) -> dict:
         "converges": cost.converges,
         "kept": cost.kept,
         "missed": cost.why,
+        **({"like_qemu": cost.like_qemu} if cost.like_qemu else {}),
     }
 
 

@@ -3,7 +3,7 @@
 import math
 from collections.abc import Iterable
 
-from precopy_tools.evacuate.costs import STOOD, Asked, Guest
+from precopy_tools.evacuate.costs import STOOD, Asked, Cost, Guest
 from precopy_tools.evacuate.hours import Hour, clock_text, day_text
 from precopy_tools.evacuate.schedules import Answer, Limits, Placed, Schedule
 from precopy_tools.quantities import micros_of, moment_text, size_text, time_text
@@ -103,6 +103,22 @@ def best(answer: Answer, asked: Asked, hour: Hour) -> list[str]:
     return lines
 
 
+def like_qemu(cost: Cost) -> str:
+    """What a move comes to if its hypervisor goes on as QEMU does."""
+    told = cost.like_qemu
+    if "left_bytes" in told:
+        return f"the recording ends first, left {size_text(told['left_bytes'])}"
+    time, down = (time_text(micros_of(told[name])) for name in ("time_seconds", "down_seconds"))
+    return f"time {time}, sent {size_text(told['sent_bytes'])}, downtime {down}"
+
+
+def of_qemu(answer: Answer) -> list[str]:
+    """A line for each guest of which that is known, in the order of the schedule, which counts plans round by round."""
+    width = max(len("guest"), *(len(move.guest.name) for move in answer.moves))
+    known = [move for move in answer.moves if move.cost.like_qemu]
+    return [f"{move.guest.name:<{width}}  like QEMU: {like_qemu(move.cost)}" for move in known]
+
+
 def of_all(guests: list[Guest], answer: Answer, asked: Asked, limits: Limits, hour: Hour) -> list[str]:
     """All of it."""
     within = f"; all within {time_text(micros_of(limits.deadline))}" if limits.deadline else ""
@@ -114,4 +130,5 @@ def of_all(guests: list[Guest], answer: Answer, asked: Asked, limits: Limits, ho
         *doubts(guests, dict.fromkeys(each.at_once for each in answer.schedules)),
         "",
         *best(answer, asked, hour),
+        *of_qemu(answer),
     ]

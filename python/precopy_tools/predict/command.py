@@ -151,10 +151,10 @@ def predict(options: argparse.Namespace) -> int:
     print("\n".join([*about, *texts.uncertain(forecast.sample), *lines]))
     for name, times in (("half", 0.5), ("twice", 2.0)):
         try:
-            told = ", ".join(texts.cost(forecast.told(link._replace(bandwidth=link.bandwidth * times))))
+            told = forecast.told(link._replace(bandwidth=link.bandwidth * times))
+            print("\n".join(texts.at_link(f"at {name} the link", told)))
         except plans.NoRate as fault:
-            told = f"no plan, since {fault}"
-        print(f"at {name} the link: {told}")
+            print(f"at {name} the link: no plan, since {fault}")
     if options.reached:
         ends = [forecast.told(link._replace(bandwidth=link.bandwidth * share)) for share in options.reached]
         print("\n".join(texts.of_shares(options.reached, ends)))

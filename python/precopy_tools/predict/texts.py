@@ -18,6 +18,22 @@ def error(seconds: float) -> str:
     return error_text(micros_of(seconds))
 
 
+def like_qemu(told: dict) -> list[str]:
+    """Bytes, time and downtime if the hypervisor goes on as QEMU does; nothing if it begins after the recording."""
+    found = told.get("like_qemu")
+    if not found:
+        return []
+    if "left_bytes" in found:
+        return [SHORT]
+    return [size_text(found["sent_bytes"]), time(found["time_seconds"]), time(found["down_seconds"])]
+
+
+def at_link(where: str, told: dict) -> list[str]:
+    """The lines of a migration over another link: by its plan, and like QEMU."""
+    found = like_qemu(told)
+    return [f"{where}: {', '.join(cost(told))}"] + [f"{where}, like QEMU: {', '.join(found)}"] * bool(found)
+
+
 def cost(told: dict) -> list[str]:
     """Bytes, time and downtime of a migration, with the standard errors that there are, and whether it converges."""
     if not (migration := told.get("migration")):
@@ -40,7 +56,7 @@ def less_sure(ends: list[dict], name: str) -> str:
 
 def of_shares(shares: tuple[float, float], ends: list[dict]) -> list[str]:
     """What comes of a migration at two shares of its link, and what holds at both."""
-    lines = [f"at {100 * share:g} per cent: {', '.join(cost(told))}" for share, told in zip(shares, ends)]
+    lines = [line for share, told in zip(shares, ends) for line in at_link(f"at {100 * share:g} per cent", told)]
     answers = ", ".join(f"{name}: {less_sure(ends, name)}" for name in ("converges", "kept"))
     return [*lines, f"at all that may be reached: {answers}"]
 
@@ -76,6 +92,7 @@ def warnings(sample: samples.Sample) -> list[str]:
 def of_several(told: dict, begun: datetime.datetime, starts: dict, sample: samples.Sample) -> str:
     """The line of one of several traces: when the migration begins, what it costs, the best and the worst start."""
     parts = [f"{begun:%Y-%m-%d %H:%M:%S}", *cost(told)]
+    parts += [f"like QEMU {', '.join(like_qemu(told))}"] * ("like_qemu" in told)
     parts += [f"{name} {moment:%H:%M:%S} {size_text(start['sent_bytes'])}" for name, (moment, start) in starts.items()]
     parts += [f"{sample.late} of {sample.samples} looks late"] * (sample.late > 0)
     return "  ".join(parts + [f"uncertain: stood still for {sample.still_text()}"] * sample.stood_still)

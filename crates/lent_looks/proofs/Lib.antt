@@ -1,0 +1,3 @@
+pub mod Lacking
+pub mod Sending
+pub mod Summing

@@ -1,0 +1,10 @@
+use Rattle.std.proofs.Common.{◌+◌, ◌-◌}
+use Rattle.lent_looks.proofs.Summing.{IsSummed}
+use Rattle.lent_looks.proofs.walking.sum_lists.Given as goal
+
+abbrev pub invariant-loop-end : goal.invariant-loop-end
+invariant-loop-end g l = IsSummed (g.T.Timeline.pages l.timeline) (g.T.Timeline.touches l.timeline) l.settings
+    l.now l.marks l.room l.lists l.total
+
+abbrev pub decreases-loop-end : goal.decreases-loop-end
+decreases-loop-end g l = (l.settings.end - l.now.from) + (1 - l.now.listed)

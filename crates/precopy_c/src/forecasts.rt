@@ -1,0 +1,76 @@
+//! What comes of a migration if its hypervisor goes on as QEMU does.
+
+// `IsForecast` holds of one value alone: `one_forecast`.
+
+ghost use Rattle.std.specs.Prelude.{◌≡◌, ◌≢◌, ◌⊎◌, IfErr, IfOk, OnOk};
+ghost use Rattle.migration_model.specs.Trace.{GuestTrace, Spells};
+ghost use Rattle.predictions.specs.Questions.{Fits, scale_in};
+ghost use Rattle.precopy_c.specs.Forecasts.{IsForecastOf, IsForecastOver};
+ghost use Rattle.precopy_c.specs.Predictions.{IsAsked, IsToldOf, RefusesPrediction, number_of_question};
+
+use crate::inquiries::{Inquiry, inquiry_of};
+use crate::questions::{QuestionRefusal, SizedQuestion};
+use c_layout::ForecastNumbers;
+use predictions::Terms;
+use predictions::looks::LookForecast;
+use round_planner::PlanError;
+use std::alloc::Global;
+use trace_readers::TouchLog;
+
+/// Returns what comes of a question over a log.
+fn forecast_over(alloc: Global, terms: &Terms, log: &TouchLog) -> Result<ForecastNumbers, PlanError>
+    ensures { IfOk result (IsForecastOver terms.now log.now) }
+{
+    let Terms {
+        scale,
+        limits,
+        settings,
+    } = terms;
+    let forecast = LookForecast::of_trace(alloc, log, settings, scale, limits)?;
+    Ok(ForecastNumbers::new(&forecast))
+}
+
+/// Returns what comes of a question over the trace that the bytes encode. The question is tested first.
+fn foretold(
+    alloc: Global,
+    bytes: &[u8],
+    asked: &SizedQuestion,
+) -> Result<ForecastNumbers, QuestionRefusal>
+    ensures made { IfOk result (IsForecastOf bytes.now asked.now.question) }
+    ensures accepted { OnOk result (IsAsked asked.now) }
+    ensures refused { IfErr result (RefusesPrediction bytes.now asked.now) }
+    ensures only { (t : GuestTrace) → Spells bytes.now t → IsAsked asked.now
+        → Fits (scale_in asked.now.question) t.shift t.pages → IfErr result (λ e. number_of_question e ≡ 16) }
+{
+    let Inquiry { terms, log } = inquiry_of(alloc, bytes, asked)?;
+    let found = forecast_over(alloc, &terms, &log)?;
+    Ok(found)
+}
+
+/// Sets what comes of the migration of a question if its hypervisor looks at its dirty bitmap again only when few pages
+/// are left, as QEMU does.
+#[unsafe(no_mangle)]
+pub extern "C" fn precopy_forecast(
+    alloc: Global,
+    trace: &[u8],
+    question: &SizedQuestion,
+    forecast: &mut ForecastNumbers,
+    record: &mut u32,
+) -> u32
+    ensures made { result ≡ 0 → IsForecastOf trace.now question.now.question forecast.new }
+    ensures accepted { result ≡ 0 → IsAsked question.now }
+    ensures refused { result ≢ 0
+        → IsToldOf result record.old record.new (RefusesPrediction trace.now question.now) }
+    ensures only { (t : GuestTrace) → Spells trace.now t → IsAsked question.now
+        → Fits (scale_in question.now.question) t.shift t.pages → (result ≡ 0) ⊎ (result ≡ 16) }
+    ensures unchanged { result ≢ 0 → forecast.new ≡ forecast.old }
+    ensures not_told { result ≡ 0 → record.new ≡ record.old }
+{
+    match foretold(alloc, trace, question) {
+        Ok(found) => {
+            *forecast = found;
+            0
+        }
+        Err(refusal) => refusal.told(record),
+    }
+}
