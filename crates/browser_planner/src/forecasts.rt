@@ -2,12 +2,10 @@
 
 // `IsForecast` holds of one value alone: `one_forecast`.
 
-ghost use Rattle.std.specs.Prelude.{◌≡◌, ◌≢◌, ◌≤◌, ◌<◌, ◌^◌, IfErr, IfNone, IfOk, IfSome, IsOk, OnErr, length};
-ghost use Rattle.look_planner.specs.Plans.{PlanNumbers};
-ghost use Rattle.lent_looks.specs.Sums.{HasSums};
+ghost use Rattle.std.specs.Prelude.{◌≡◌, ◌≢◌, IfErr, IfOk, IsOk, OnErr, length};
 ghost use Rattle.migration_model.specs.Touches.{touches_of};
 ghost use Rattle.migration_model.specs.Trace.{GuestTrace, Spells};
-ghost use Rattle.predictions.specs.Looks.{IsForecast, forecast_of, look_settings};
+ghost use Rattle.predictions.specs.Looks.{IsForecast};
 ghost use Rattle.predictions.specs.Questions.{AcceptsQuestion, Fits, scale_in, terms_of};
 ghost use Rattle.browser_planner.specs.Answers.{IsNumberOf};
 ghost use Rattle.browser_planner.specs.Forecasts.{HasRoomToLook, IsForecastFor, room_of};
@@ -16,16 +14,11 @@ ghost use Rattle.browser_planner.specs.Predictions.{OfTrace, RefusesAsked};
 use crate::answers::Refusal;
 use crate::touches::{LentLog, LentTouch, put_touches};
 use c_layout::ForecastNumbers;
-use guest_log::{Shape, last_tick};
-use lent_looks::{LookSums, look_sums};
-use look_planner::{LookAsked, LookSettings};
+use guest_log::Shape;
 use page_bitmap::word_count;
 use predictions::looks::LookForecast;
 use predictions::{Question, Terms, check_fit};
 use trace_codec::TraceView;
-
-/// How often QEMU asks how many pages are left, in microseconds.
-const WINDOW: u64 = 100_000;
 
 /// How long what is lent for a forecast is.
 #[derive(Clone, Copy)]
@@ -50,55 +43,6 @@ impl LookRoom {
     }
 }
 
-/// Returns the settings of the hypervisor, if the trace does not end before its start.
-fn settings_of(terms: &Terms, last: u64) -> Option<LookSettings>
-    requires { last < 2 ^ 40 }
-    ensures none { IfNone result (last < terms.now.settings.start) }
-    ensures some { IfSome result (λ s. terms.now.settings.start ≤ last) }
-    ensures settings { IfSome result (λ s. s ≡ look_settings terms.now.scale terms.now.settings last) }
-{
-    let asked = terms.settings.asked();
-    if asked.start > last {
-        return None;
-    }
-    let looks = LookAsked {
-        start: asked.start,
-        base: asked.base,
-        rate: asked.max,
-        window: terms.scale.ticks(WINDOW),
-        threshold: asked.threshold,
-        looks: None,
-        end: last,
-    };
-    let Ok(settings) = LookSettings::new(looks) else {
-        unreachable!()
-    };
-    Some(settings)
-}
-
-/// Returns what a plan with these sums comes to.
-fn forecast_with(terms: &Terms, sums: &LookSums) -> LookForecast
-    ensures { (numbers : PlanNumbers) → HasSums numbers sums.now
-        → result ≡ forecast_of terms.now.scale terms.now.limits terms.now.settings.start numbers }
-{
-    let Terms {
-        scale,
-        limits,
-        settings,
-    } = terms;
-    let start = settings.asked().start;
-    let downtime = scale.micros(sums.down) + limits.reserve as u128;
-    LookForecast {
-        end: sums.end,
-        looks: sums.looks,
-        time: scale.micros(sums.stop.saturating_sub(start)) + downtime,
-        bytes: scale.bytes(sums.total),
-        left: scale.bytes(sums.left),
-        downtime,
-        is_kept: downtime <= limits.downtime as u128,
-    }
-}
-
 /// Returns what comes of a migration over a trace, or None if it begins after the last tick.
 fn forecast_in(
     trace: &TraceView<'_>,
@@ -114,13 +58,14 @@ fn forecast_in(
     let pages = trace.shape().pages as usize;
     put_touches(trace, touches);
     let log = LentLog::of(trace, touches);
-    let Some(settings) = settings_of(terms, last_tick(&log)) else {
-        return None;
-    };
     let (marks, _) = marks.split_at_mut(word_count(pages));
     let (list, _) = list.split_at_mut(pages);
-    let sums = look_sums(&log, &settings, marks, list);
-    Some(forecast_with(terms, &sums))
+    let Terms {
+        scale,
+        limits,
+        settings,
+    } = terms;
+    LookForecast::over(&log, settings, scale, limits, marks, list)
 }
 
 /// Returns what comes of a question about the trace that the bytes encode. The question is tested first, and the room

@@ -3,6 +3,8 @@ pub mod Questions
 pub mod Marks
 pub mod Ways
 pub mod OnePlan
+pub mod OneSum
 pub mod Kept
 pub mod Windows
 pub mod Clark
+pub mod SummedLists

@@ -1,7 +1,6 @@
 -- Marks, and the pages that they list.
 use Rattle.std.proofs.Common.{◌≡◌, ℕ, ◌+◌, ◌-◌, ◌*◌, ◌<◌, ◌≤◌, Bool, true, false, ◌||◌, eqb, List, [], ◌∷◌, ◌++◌}
-use Rattle.std.proofs.Common.{length, get_or, take, drop, replicate, ltb, refl, sym, ap, ◌∙◌, arith, Result, Ok, Err}
-use Rattle.std.proofs.Common.{IfOk, Vec, Global}
+use Rattle.std.proofs.Common.{length, get_or, take, drop, replicate, ltb, refl, sym, ap, ◌∙◌, arith}
 use Rattle.std.specs.List.{All, filter, range_with_len}
 use Rattle.std.proofs.lemmas.Bool.{ne_eqb, lt-ltb, le-ltb}
 use Rattle.std.proofs.lemmas.List.{append-nil, drop-take, take_more}
@@ -75,14 +74,11 @@ left_are pages touches list rest marks new n scan len are is low = marked_are pa
     ∙ not_among page pages rest high low)
 
 -- marks for all pages
-pub all_lacking : {E : Type 0} (r : Result (Vec ℕ Global) E) (pages : ℕ)
-    → IfOk r (λ v. length v.items ≡ word_count pages)
-    → IfOk r (λ v. (page : ℕ) → in_words v.items page ≡ ltb page pages)
-    → IfOk r (λ v. pages_of v.items ≡ range_with_len 0 pages)
-all_lacking (Ok v) pages len are = marked_are pages v.items (λ page. true) len
+pub all_marked : (pages : ℕ) (marks : List ℕ) → length marks ≡ word_count pages
+    → ((page : ℕ) → in_words marks page ≡ ltb page pages) → pages_of marks ≡ range_with_len 0 pages
+all_marked pages marks len are = marked_are pages marks (λ page. true) len
     (λ page low. are page ∙ lt-ltb page pages low) (λ page high. are page ∙ le-ltb page pages high)
     ∙ filter_all (range_with_len 0 pages)
-all_lacking (Err e) pages len are = tt
 
 -- the pages of a list that are not sent
 pub not_sent : (room : List ℕ) (listed sent : ℕ) → sent ≤ listed

@@ -3,3 +3,4 @@ pub mod Pacing
 pub mod Bitmaps
 pub mod Plans
 pub mod Laws
+pub mod Sums

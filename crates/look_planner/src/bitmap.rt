@@ -1,7 +1,7 @@
 //! The bitmap that the hypervisor looks at, and the list of the pages that it finds there.
 
-ghost use Rattle.std.specs.Prelude.{◌≡◌, ◌≤◌, ◌<◌, ◌/◌, ◌||◌, ℕ, IfOk, length, replicate, take};
-ghost use Rattle.std.specs.List.{All};
+ghost use Rattle.std.specs.Prelude.{◌≡◌, ◌≤◌, ◌<◌, ◌/◌, ◌||◌, ℕ, Some, length, replicate, take};
+ghost use Rattle.std.specs.List.{All, range_with_len};
 ghost use Rattle.migration_model.specs.Looks.{SentList, is_among, pages_left};
 ghost use Rattle.migration_model.specs.Rounds.{pages_lacking};
 ghost use Rattle.page_bitmap.specs.Listing.{pages_of, word_count};
@@ -11,9 +11,8 @@ ghost use Rattle.look_planner.specs.Bitmaps.{IsListOf, IsReady};
 use crate::pace::Sent;
 use crate::settings::LookSettings;
 use guest_log::Timeline;
-use page_bitmap::{add_page, all_pages, list_pages, word_count};
+use page_bitmap::{add_page, list_pages};
 use round_planner::mark_until;
-use std::alloc::{AllocError, Global};
 
 /// A list that is sent, by its numbers.
 #[derive(Clone, Copy)]
@@ -60,25 +59,45 @@ pub(crate) fn list_marked(marks: &mut [u64], room: &mut [u32]) -> u32
     count as u32
 }
 
-/// Returns marks for the pages that the destination lacks at the first tick. The only error is that memory runs out.
-pub(crate) fn lacking_marks<T: Timeline>(
-    alloc: Global,
-    timeline: &T,
-    settings: &LookSettings,
-) -> Result<Vec<u64>, AllocError>
-    ensures len { IfOk result (λ marks. length marks.items ≡ word_count (T.pages timeline.now)) }
-    ensures pages { IfOk result (λ marks. pages_of marks.items ≡ pages_lacking (T.pages timeline.now)
-        (T.touches timeline.now) settings.now.base settings.now.start) }
+/// Marks all pages of a guest, if none is marked.
+fn mark_all(marks: &mut [u64], pages: u32)
+    requires len { length marks.old ≡ word_count pages }
+    requires clear { marks.old ≡ replicate (word_count pages) 0 }
+    ensures len { length marks.new ≡ length marks.old }
+    ensures pages { pages_of marks.new ≡ range_with_len 0 pages }
+{
+    for page in 0..pages {
+        add_page(marks, page);
+    }
+}
+
+/// Marks the pages that are written from a base on and before a tick, if none is marked.
+fn mark_since<T: Timeline>(timeline: &T, base: u64, tick: u64, marks: &mut [u64])
+    requires order { base ≤ tick }
+    requires clear { marks.old ≡ replicate (word_count (T.pages timeline.now)) 0 }
+    ensures len { length marks.new ≡ length marks.old }
+    ensures pages { pages_of marks.new ≡ pages_lacking (T.pages timeline.now) (T.touches timeline.now) (Some base)
+        tick }
+{
+    let next = timeline.before(base);
+    mark_until(timeline, marks, next, tick);
+}
+
+/// Marks the pages that the destination lacks at the first tick, and no others.
+pub(crate) fn mark_lacking<T: Timeline>(timeline: &T, settings: &LookSettings, marks: &mut [u64])
+    requires { length marks.old ≡ word_count (T.pages timeline.now) }
+    ensures len { length marks.new ≡ length marks.old }
+    ensures pages { pages_of marks.new ≡ pages_lacking (T.pages timeline.now) (T.touches timeline.now)
+        settings.now.base settings.now.start }
+    ensures few { T.pages timeline.now ≤ 65_536 }
 {
     let pages = timeline.page_count();
     let asked = settings.asked();
-    let Some(base) = asked.base else {
-        return all_pages(alloc, pages);
-    };
-    let mut marks = Vec::from_elem(alloc, 0, word_count(pages as usize))?;
-    let next = timeline.before(base);
-    mark_until(timeline, &mut marks, next, asked.start);
-    Ok(marks)
+    marks.fill(0);
+    match asked.base {
+        Some(base) => mark_since(timeline, base, asked.start, marks),
+        None => mark_all(marks, pages),
+    }
 }
 
 /// Looks at the bitmap after a list that was sent so: lists the pages that are left of it, and those that were written

@@ -10,11 +10,19 @@ ghost use Rattle.migration_model.specs.Rates.{AreSettings, MigrationSettings, to
 ghost use Rattle.migration_model.specs.Rounds.{IsPlan, MigrationPlan, pages_lacking};
 ghost use Rattle.migration_model.specs.Touches.{GuestTouch, is_written};
 ghost use Rattle.look_planner.specs.Laws.{IsSentWith, no_list, pages_after, plan_like, settings_like};
+ghost use Rattle.look_planner.specs.Sums.{AreSums};
+ghost use Rattle.look_planner.specs.declared.sums.LookSums.{LookSums};
 
 /// A guest's touches and the settings have one plan.
 pub fn one_look_plan()
     ensures { (pages : ℕ) (touches : List GuestTouch) (s : HypervisorSettings) (p q : HypervisorPlan)
         → IsHypervisorPlan pages touches s p → IsHypervisorPlan pages touches s q → p ≡ q }
+{}
+
+/// A guest's touches and the settings have one set of sums.
+pub fn one_set_of_sums()
+    ensures { (pages : ℕ) (touches : List GuestTouch) (s : HypervisorSettings) (a b : LookSums)
+        → AreSums pages touches s a → AreSums pages touches s b → a ≡ b }
 {}
 
 /// A look finds each page that was written since the last one: it is in the next list, or left at the end.

@@ -1,6 +1,7 @@
 //! Plans and their lists.
 
 ghost use Rattle.std.specs.Prelude.{◌≡◌};
+ghost use Rattle.look_planner.specs.Plans.{end_of, looks_of};
 
 use std::fmt;
 use std::marker::Model;
@@ -40,6 +41,17 @@ impl fmt::Display for PlanEnd {
 
     fn fmt<W: fmt::Write>(&self, f: &mut fmt::Formatter<W>) -> fmt::Result {
         f.write_str(self.word())
+    }
+}
+
+/// Returns how many looks there are in a plan of so many lists that ends so: one at the end of each list, but for the
+/// last one if the record ends.
+pub(crate) fn looks_of(end: PlanEnd, lists: usize) -> usize
+    ensures { result ≡ looks_of (end_of end) lists }
+{
+    match end {
+        PlanEnd::Record => lists.saturating_sub(1),
+        PlanEnd::Few | PlanEnd::Looks => lists,
     }
 }
 
@@ -105,13 +117,10 @@ impl LookPlan {
         self.sent + self.last.len() as u64
     }
 
-    /// Returns how many looks there are: one at the end of each list, but for the last one if the record ends.
+    /// Returns how many looks there are.
     pub fn looks(&self) -> usize
         ensures { result ≡ looks_in self.now }
     {
-        match self.end {
-            PlanEnd::Record => self.rows.len() - 1,
-            PlanEnd::Few | PlanEnd::Looks => self.rows.len(),
-        }
+        looks_of(self.end, self.rows.len())
     }
 }

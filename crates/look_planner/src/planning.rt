@@ -10,11 +10,12 @@ ghost use Rattle.page_bitmap.specs.Listing.{pages_of, word_count};
 ghost use Rattle.look_planner.specs.Bitmaps.{IsFirst};
 ghost use Rattle.look_planner.specs.Plans.{AreNumbers, end_of};
 
-use crate::bitmap::{ListNumbers, lacking_marks, list_marked, look};
+use crate::bitmap::{ListNumbers, list_marked, look, mark_lacking};
 use crate::pace::{Sent, send_list};
 use crate::parts::{ListRow, LookPlan, PlanEnd};
 use crate::settings::LookSettings;
 use guest_log::Timeline;
+use page_bitmap::word_count;
 use rate_limit::duration;
 use round_planner::PlanError;
 use std::alloc::{AllocError, Global};
@@ -31,7 +32,12 @@ fn is_most(most: Option<u64>, looks: usize) -> bool
 
 /// Returns why a plan ends with a list that was sent so, if it does. With the look so many looks are done, and it finds
 /// so many pages.
-fn end_with(settings: &LookSettings, sent: Sent, found: u32, looks: usize) -> Option<PlanEnd>
+pub(crate) fn end_with(
+    settings: &LookSettings,
+    sent: Sent,
+    found: u32,
+    looks: usize,
+) -> Option<PlanEnd>
     ensures { (tick : ℕ) → sent.is_look ≡ not (nat_lt settings.now.end tick)
         → option_map end_of result ≡ end_after settings.now tick found looks }
 {
@@ -49,7 +55,7 @@ fn end_with(settings: &LookSettings, sent: Sent, found: u32, looks: usize) -> Op
 }
 
 /// Returns the first list, whose pages the front of `room` has then. They are marked before.
-fn first_list<T: Timeline>(
+pub(crate) fn first_list<T: Timeline>(
     timeline: &T,
     settings: &LookSettings,
     marks: &mut [u64],
@@ -132,8 +138,10 @@ pub fn look_plan<T: Timeline>(
         plan) }
     ensures refusal { IfErr result (λ e. e ≡ PlanError.Memory) }
 {
-    let mut marks = lacking_marks(alloc, timeline, settings)?;
-    let mut room = Vec::from_elem(alloc, 0, timeline.page_count() as usize)?;
+    let pages = timeline.page_count() as usize;
+    let mut marks = Vec::from_elem(alloc, 0, word_count(pages))?;
+    let mut room = Vec::from_elem(alloc, 0, pages)?;
+    mark_lacking(timeline, settings, &mut marks);
     let first = first_list(timeline, settings, &mut marks, &mut room);
     let plan = plan_lists(alloc, timeline, settings, first, &mut marks, &mut room)?;
     Ok(plan)

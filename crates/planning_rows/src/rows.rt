@@ -8,5 +8,6 @@ mod rate;
 mod redrawn;
 mod remedy;
 mod share;
+mod sums;
 mod table;
 mod text;

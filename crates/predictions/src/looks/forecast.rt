@@ -2,16 +2,20 @@
 
 // `IsForecast` holds of one value alone: `one_forecast`.
 
-ghost use Rattle.std.specs.Prelude.{◌≡◌, ◌<◌, ◌≤◌, ◌^◌, ℕ, IfNone, IfSome, List, Option};
+ghost use Rattle.std.specs.Prelude.{◌≡◌, ◌<◌, ◌≤◌, ◌^◌, ℕ, IfNone, IfSome, List, Option, length};
+ghost use Rattle.look_planner.specs.Plans.{PlanNumbers};
+ghost use Rattle.look_planner.specs.Sums.{HasSums};
 ghost use Rattle.migration_model.specs.Rates.{MigrationSettings};
 ghost use Rattle.migration_model.specs.Touches.{GuestTouch};
+ghost use Rattle.page_bitmap.specs.Listing.{word_count};
 ghost use Rattle.predictions.specs.Looks.{IsForecast, LookForecast, look_settings};
 ghost use Rattle.predictions.specs.Units.Scales.{TraceScale};
 ghost use Rattle.predictions.specs.declared.units.limits.Limits.{Limits};
 
 use crate::units::{Limits, Scale};
 use guest_log::{Timeline, last_tick};
-use look_planner::{LookAsked, LookPlan, LookSettings, PlanEnd, look_plan};
+use look_planner::{LookAsked, LookSettings, LookSums, PlanEnd, look_sums};
+use page_bitmap::word_count;
 use rate_limit::Settings;
 use round_planner::PlanError;
 use std::alloc::Global;
@@ -98,24 +102,46 @@ impl LookForecast {
         self.bytes.saturating_sub(self.left)
     }
 
-    /// Returns what a plan that begins at a tick comes to, over a trace of this scale.
-    fn of_plan(scale: &Scale, limits: &Limits, start: u64, plan: &LookPlan) -> LookForecast
-        ensures { result ≡ forecast_of scale.now limits.now start plan.now }
+    /// Returns what a plan with these sums comes to that begins at a tick, over a trace of this scale.
+    fn of_sums(scale: &Scale, limits: &Limits, start: u64, sums: &LookSums) -> LookForecast
+        ensures { (numbers : PlanNumbers) → HasSums numbers sums.now
+            → result ≡ forecast_of scale.now limits.now start numbers }
     {
-        let downtime = scale.micros(plan.down) + limits.reserve as u128;
+        let downtime = scale.micros(sums.down) + limits.reserve as u128;
         LookForecast {
-            end: plan.end,
-            looks: plan.looks() as u64,
-            time: scale.micros(plan.stop.saturating_sub(start)) + downtime,
-            bytes: scale.bytes(plan.total()),
-            left: scale.bytes(plan.last.len() as u64),
+            end: sums.end,
+            looks: sums.looks,
+            time: scale.micros(sums.stop.saturating_sub(start)) + downtime,
+            bytes: scale.bytes(sums.total),
+            left: scale.bytes(sums.left),
             downtime,
             is_kept: downtime <= limits.downtime as u128,
         }
     }
 
-    /// Returns what a migration over a timeline will be, or None if it begins after the last tick. The only error is
-    /// that memory runs out.
+    /// Returns what a migration over a timeline will be, or None if it begins after the last tick.
+    ///
+    /// It allocates nothing: the caller lends a bit of `marks` and a slot of `list` for each page. What they hold does
+    /// not matter.
+    pub fn over<T: Timeline>(
+        timeline: &T,
+        settings: &Settings,
+        scale: &Scale,
+        limits: &Limits,
+        marks: &mut [u64],
+        list: &mut [u32],
+    ) -> Option<LookForecast>
+        requires marks { length marks.old ≡ word_count (T.pages timeline.now) }
+        requires list { length list.old ≡ T.pages timeline.now }
+        ensures { IsForecast (T.pages timeline.now) (T.touches timeline.now) scale.now limits.now settings.now result }
+    {
+        let looks = settings_of(scale, settings, last_tick(timeline))?;
+        let sums = look_sums(timeline, &looks, marks, list);
+        let start = settings.asked().start;
+        Some(LookForecast::of_sums(scale, limits, start, &sums))
+    }
+
+    /// Returns what `over` does. The only error is that memory runs out.
     pub fn of_trace<T: Timeline>(
         alloc: Global,
         timeline: &T,
@@ -127,12 +153,10 @@ impl LookForecast {
             settings.now) }
         ensures refused { IfErr result (λ e. e ≡ PlanError.Memory) }
     {
-        let Some(looks) = settings_of(scale, settings, last_tick(timeline)) else {
-            return Ok(None);
-        };
-        let plan = look_plan(alloc, timeline, &looks)?;
-        let start = settings.asked().start;
-        Ok(Some(LookForecast::of_plan(scale, limits, start, &plan)))
+        let pages = timeline.page_count() as usize;
+        let mut marks = Vec::from_elem(alloc, 0, word_count(pages))?;
+        let mut list = Vec::from_elem(alloc, 0, pages)?;
+        Ok(LookForecast::over(timeline, settings, scale, limits, &mut marks, &mut list))
     }
 }
 

@@ -3,8 +3,9 @@ use Rattle.std.specs.Option.{option_map}
 use Rattle.migration_model.specs.Looks.{HypervisorSettings, end_after}
 use Rattle.migration_model.specs.Rates.{duration_of}
 use Rattle.look_planner.specs.Plans.{end_of}
-use Rattle.lent_looks.proofs.Summing.{found, sums_end, sums_go_on, sums_start}
-use Rattle.lent_looks.proofs.walking.sum_lists.Goals as goal
+use Rattle.look_planner.proofs.Ways.{has_found}
+use Rattle.look_planner.proofs.SummedLists.{sums_end, sums_go_on, sums_start}
+use Rattle.look_planner.proofs.summing.sum_lists.Goals as goal
 
 pub loop-end-init : goal.loop-end-init
 loop-end-init g c = sums_start (g.T.Timeline.pages c.args.timeline.now) (g.T.Timeline.touches c.args.timeline.now)
@@ -23,7 +24,7 @@ loop-end-preserved g c =
     sym (c.end_with.ensures (now.from + so.ticks) so.is_look) ∙ ap (option_map end_of) c.in_default.is in
     sums_go_on pages touches s now (record { from = sent.to; next = seen.next; listed = seen.pages }) sent
     c.loop-end.marks c.loop-end.room c.look-found.new.marks c.look-found.new.room c.loop-end.lists
-    c.loop-end.total c.loop-end.invariant so (found pages touches now sent c.loop-end.room
+    c.loop-end.total c.loop-end.invariant so (has_found pages touches now sent c.loop-end.room
     c.look-found.new.room seen.pages c.look-found.ensures.list c.look-found.ensures.count) none refl
     (c.look-found.ensures.ready _ refl refl refl)
 
@@ -48,7 +49,7 @@ returns-in-Some g c =
       total = c.loop-end.total + sent.count + seen.pages;
       left = seen.pages;
       down = c.duration.result;
-    }) c.loop-end.invariant so (found pages touches now sent c.loop-end.room c.look-found.new.room seen.pages
+    }) c.loop-end.invariant so (has_found pages touches now sent c.loop-end.room c.look-found.new.room seen.pages
     c.look-found.ensures.list c.look-found.ensures.count) (omega (arith, after.listed, after.room_len))
     (sym (c.in-Some.ensures (now.from + so.ticks) so.is_look)) c.looks_of.ensures refl refl refl
     (c.duration.ensures.value ∙ ap (λ r. duration_of seen.pages r) rate)

@@ -1,6 +1,6 @@
 use Rattle.std.proofs.Common.{◌≡◌, ◌∙◌, ap, arith, nat_lt}
-use Rattle.lent_looks.proofs.Lacking.{all_marked}
-use Rattle.lent_looks.proofs.bitmap.mark_all.Goals as goal
+use Rattle.look_planner.proofs.Marks.{all_marked}
+use Rattle.look_planner.proofs.bitmap.mark_all.Goals as goal
 
 pub returns-clause-pages : goal.returns-clause-pages
 returns-clause-pages c =

@@ -1,6 +1,6 @@
 use Rattle.std.proofs.Common.{◌+◌, ◌-◌}
-use Rattle.lent_looks.proofs.Summing.{IsSummed}
-use Rattle.lent_looks.proofs.walking.sum_lists.Given as goal
+use Rattle.look_planner.proofs.SummedLists.{IsSummed}
+use Rattle.look_planner.proofs.summing.sum_lists.Given as goal
 
 abbrev pub invariant-loop-end : goal.invariant-loop-end
 invariant-loop-end g l = IsSummed (g.T.Timeline.pages l.timeline) (g.T.Timeline.touches l.timeline) l.settings

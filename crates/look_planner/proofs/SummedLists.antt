@@ -3,48 +3,33 @@ use Rattle.std.proofs.Common.{◌≡◌, ℕ, ◌+◌, ◌-◌, ◌≤◌, List,
 use Rattle.std.proofs.Common.{min, refl, sym, ap, ◌∙◌, inl, inr, arith}
 use Rattle.std.proofs.lemmas.Bool.{cases_lt}
 use Rattle.std.proofs.lemmas.List.{length-take-le, length_push}
-use Rattle.migration_model.specs.Looks.{HypervisorSettings, SentList, end_after, pages_left}
+use Rattle.migration_model.specs.Looks.{HypervisorSettings, end_after}
 use Rattle.migration_model.specs.Rates.{duration_of}
 use Rattle.migration_model.specs.Touches.{GuestTouch}
 use Rattle.look_planner.specs.Plans.{PlanNumbers, end_of, looks_of}
 use Rattle.look_planner.specs.declared.parts.ListRow.{ListRow}
 use Rattle.look_planner.proofs.Ways.{HasFound, IsOnWay, IsWhole, ends, goes, goes_on, starts}
-use Rattle.lent_looks.specs.Sums.{AreSums}
-use Rattle.lent_looks.specs.Walks.{CanBegin, CanSend, GoesOnSo, IsListSent}
-use Rattle.lent_looks.specs.declared.bitmap.ListNumbers.{ListNumbers}
-use Rattle.lent_looks.specs.declared.pace.Sent.{Sent}
-use Rattle.lent_looks.specs.declared.sums.LookSums.{LookSums}
-use Rattle.lent_looks.proofs.Sending.{list_sent, list_sent_is}
-
--- what the look after a list found
-abbrev pub FoundBy : ℕ → List GuestTouch → ListNumbers → Sent → List ℕ → List ℕ → ℕ → Type 0
-FoundBy pages touches now sent room rest left =
-    HasFound pages touches (record { from = now.from; next = now.next; listed = now.listed })
-    (record { to = sent.to; count = sent.count; is_look = sent.is_look }) room rest left
-
-pub found : (pages : ℕ) (touches : List GuestTouch) (now : ListNumbers) (sent : Sent) (room rest : List ℕ) (left : ℕ)
-    → ((list : SentList) → IsListSent now sent room list → take left rest ≡ pages_left pages touches list)
-    → ((list : SentList) → IsListSent now sent room list → left ≡ length (pages_left pages touches list))
-    → FoundBy pages touches now sent room rest left
-found pages touches now sent room rest left rest_is left_is =
-    let list = list_sent now sent room in
-    let is = list_sent_is now sent room in
-    record { rest_is = rest_is list is; left_is = left_is list is }
+use Rattle.look_planner.specs.Sums.{AreSums}
+use Rattle.look_planner.specs.Bitmaps.{IsFirst, IsReady}
+use Rattle.look_planner.specs.Pacing.{IsSentSo}
+use Rattle.look_planner.specs.declared.bitmap.ListNumbers.{ListNumbers}
+use Rattle.look_planner.specs.declared.pace.Sent.{Sent}
+use Rattle.look_planner.specs.declared.sums.LookSums.{LookSums}
 
 -- the lists so far are so many, and send so many pages; each but the first took a tick
 pub record IsSummed (pages : ℕ) (touches : List GuestTouch) (s : HypervisorSettings) (now : ListNumbers)
     (marks room : List ℕ) (lists total : ℕ) : Type 0 where
   pub rows : List ListRow
-  pub on_way : IsOnWay pages touches s (record { from = now.from; next = now.next; listed = now.listed }) marks
+  pub on_way : IsOnWay pages touches s now marks
       room rows total
   pub lists_are : lists ≡ length rows
   pub few : lists + (1 - now.listed) ≤ now.from + 1
 
 pub sums_start : (pages : ℕ) (touches : List GuestTouch) (s : HypervisorSettings) (now : ListNumbers)
-    (marks room : List ℕ) → CanBegin pages touches s now marks room → IsSummed pages touches s now marks room 0 0
+    (marks room : List ℕ) → IsFirst pages touches s now marks room → IsSummed pages touches s now marks room 0 0
 sums_start pages touches s now marks room first = record {
   rows = [];
-  on_way = starts pages touches s (record { from = now.from; next = now.next; listed = now.listed }) marks room []
+  on_way = starts pages touches s now marks room []
       first refl;
   lists_are = refl;
   few = omega arith;
@@ -63,10 +48,10 @@ later_few from listed later_from later_listed to ticks end threshold lists few w
 
 pub sums_go_on : (pages : ℕ) (touches : List GuestTouch) (s : HypervisorSettings) (now later : ListNumbers)
     (sent : Sent) (marks room new_marks new_room : List ℕ) (lists total : ℕ)
-    → IsSummed pages touches s now marks room lists total → (so : GoesOnSo s now.from now.listed sent)
-    → FoundBy pages touches now sent room new_room later.listed
+    → IsSummed pages touches s now marks room lists total → (so : IsSentSo s now.from now.listed sent)
+    → HasFound pages touches now sent room new_room later.listed
     → end_after s (now.from + so.ticks) later.listed (lists + 1) ≡ None → later.from ≡ sent.to
-    → CanSend pages touches later new_marks new_room
+    → IsReady pages touches later new_marks new_room
     → IsSummed pages touches s later new_marks new_room (lists + 1) (total + sent.count)
 sums_go_on pages touches s now later sent marks room new_marks new_room lists total before so ran none from ready =
     let way = before.on_way in
@@ -79,9 +64,9 @@ sums_go_on pages touches s now later sent marks room new_marks new_room lists to
     let after = goes s (now.from + so.ticks) later.listed (lists + 1) none in
     record {
       rows = new;
-      on_way = goes_on pages touches s (record { from = now.from; next = now.next; listed = now.listed })
-          (record { from = later.from; next = later.next; listed = later.listed })
-          (record { to = sent.to; count = sent.count; is_look = sent.is_look }) marks room new_marks new_room before.rows new row total
+      on_way = goes_on pages touches s now
+          later
+          sent marks room new_marks new_room before.rows new row total
           (total + sent.count) way so ran told refl refl refl from ready;
       lists_are = count;
       few = later_few now.from now.listed later.from later.listed sent.to so.ticks s.end s.threshold lists before.few
@@ -90,8 +75,8 @@ sums_go_on pages touches s now later sent marks room new_marks new_room lists to
 
 pub sums_end : (pages : ℕ) (touches : List GuestTouch) (s : HypervisorSettings) (now : ListNumbers) (sent : Sent)
     (marks room rest : List ℕ) (lists total left : ℕ) (sums : LookSums)
-    → IsSummed pages touches s now marks room lists total → (so : GoesOnSo s now.from now.listed sent)
-    → FoundBy pages touches now sent room rest left → left ≤ length rest
+    → IsSummed pages touches s now marks room lists total → (so : IsSentSo s now.from now.listed sent)
+    → HasFound pages touches now sent room rest left → left ≤ length rest
     → end_after s (now.from + so.ticks) left (lists + 1) ≡ Some (end_of sums.end)
     → sums.looks ≡ looks_of (end_of sums.end) (lists + 1) → sums.stop ≡ sent.to
     → sums.total ≡ total + sent.count + left → sums.left ≡ left → sums.down ≡ duration_of left s.rate
@@ -113,8 +98,8 @@ sums_end pages touches s now sent marks room rest lists total left sums before s
       down = duration_of left s.rate;
       sent = total + sent.count;
     } in
-    let whole : IsWhole pages touches s numbers = ends pages touches s (record { from = now.from; next = now.next; listed = now.listed })
-    (record { to = sent.to; count = sent.count; is_look = sent.is_look }) marks room rest (take left rest)
+    let whole : IsWhole pages touches s numbers = ends pages touches s now
+    sent marks room rest (take left rest)
     before.rows new row total (total + sent.count) left (duration_of left s.rate) (end_of sums.end) way so ran told
     refl refl refl refl refl in
     let here : length (take left rest) ≡ left = length-take-le left rest fits in

@@ -1,5 +1,5 @@
 use Rattle.round_planner.proofs.Scans.{begun, marked_pages}
-use Rattle.lent_looks.proofs.bitmap.mark_since.Goals as goal
+use Rattle.look_planner.proofs.bitmap.mark_since.Goals as goal
 
 pub returns-clause-pages : goal.returns-clause-pages
 returns-clause-pages g c =

@@ -3,7 +3,7 @@ use Rattle.std.specs.Prelude.{◌≡◌, ℕ, ◌+◌, List, length}
 use Rattle.migration_model.specs.Looks.{HypervisorSettings}
 use Rattle.migration_model.specs.Touches.{GuestTouch}
 use Rattle.look_planner.specs.Plans.{AreNumbers, PlanNumbers, end_of, looks_in}
-use Rattle.lent_looks.specs.declared.sums.LookSums.{LookSums}
+use Rattle.look_planner.specs.declared.sums.LookSums.{LookSums}
 
 -- a plan of these numbers has these sums
 pub record HasSums (numbers : PlanNumbers) (sums : LookSums) : Type 0 where

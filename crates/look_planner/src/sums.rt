@@ -1,6 +1,6 @@
 //! The sums of a plan.
 
-use look_planner::PlanEnd;
+use crate::parts::PlanEnd;
 
 /// The sums of a hypervisor's plan.
 #[derive(Clone, Copy, Debug, PartialEq, Eq)]

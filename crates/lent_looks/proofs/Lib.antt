@@ -1,3 +1,0 @@
-pub mod Lacking
-pub mod Sending
-pub mod Summing
