@@ -475,7 +475,7 @@ struct precopy_forecast {
  * Sets *forecast to what a migration comes to like QEMU, as the line `like QEMU` of `precopy-view predict` tells it.
  *
  * It tests what precopy_predict does, in the same order. Of a question it does not use `first`, `increment`, `rounds`
- * and `skip`. It takes 16 bytes for each write, some 9 for each page, and 80 for each look.
+ * and `skip`. It takes 16 bytes for each write, and some 5 for each page.
  */
 PRECOPY_ANSWERS PRECOPY_NOT_NULL(3, 4, 5)
 uint32_t precopy_forecast(const uint8_t *trace, size_t trace_length, const struct precopy_question *question,

@@ -276,7 +276,8 @@ def check_forecast(line, document):
     if member is None:
         wanted = ""
     elif "left_bytes" in member:
-        wanted = f"Like QEMU: the trace ends first, looks {member['looks']}, left {size_text(member['left_bytes'])}"
+        amounts = f"sent {size_text(member['sent_bytes'])}, left {size_text(member['left_bytes'])}"
+        wanted = f"Like QEMU: the trace ends first, looks {member['looks']}, {amounts}"
     else:
         time, down = (time_text(micros(member[name])) for name in ("time_seconds", "down_seconds"))
         kept = "kept" if member["kept"] else "not kept"

@@ -30,7 +30,7 @@ MOST_TOLD = 1e18
 STOOD, TOO_SHORT = "the guest stood still for", "the recording ends before the migration"
 VERDICTS = ("yes", "no", "unknown")
 # What `json predict` tells of a migration like QEMU: what it costs, or what is left when the recording ends before.
-ENDED, CUT = {"looks", "time_seconds", "sent_bytes", "down_seconds", "kept"}, {"looks", "left_bytes"}
+ENDED, CUT = {"looks", "time_seconds", "sent_bytes", "down_seconds", "kept"}, {"looks", "sent_bytes", "left_bytes"}
 
 
 class Wanted(NamedTuple):
