@@ -60,7 +60,8 @@ export function endingOf(prediction) {
 
 /** What comes of a plan like QEMU, in the words of `precopy-view predict`. */
 export function forecastWords({ end, looks, time, bytes, left, downtime, kept }) {
-  const told = end === "record" ? [`the trace ends first, looks ${looks}`, `sent ${bytesText(bytes - left)}`, `left ${bytesText(left)}`]
+  const told = end === "record"
+    ? [`the trace ends first, looks ${looks}`, `sent ${bytesText(bytes - left)}`, `left ${bytesText(left)}`]
     : [`looks ${looks}`, `time ${timeText(time)}`, `sent ${bytesText(bytes)}`,
       `downtime ${timeText(downtime)}`, keptWords({ kept })];
   return `Like QEMU: ${told.map((words) => words.replaceAll(" ", "\u00a0")).join(", ")}`;
