@@ -48,7 +48,7 @@ class Case(NamedTuple):
 
 
 class Told(NamedTuple):
-    """At a share of that link: the answer of all pages, how often each is told of a sample, and how often a wrong one."""
+    """At a share of that link: the answer of all pages, how often each is told of a sample, and how many are wrong."""
 
     truth: str
     answers: dict[str, int]
@@ -144,10 +144,14 @@ def main() -> int:
     options = parser.parse_args()
     made = [name for name in options.names if os.sep not in name]
     subprocess.run(
-        [os.path.join(TOP, "bench", "workloads"), "--traces", options.traces, *made], check=True, stdout=subprocess.DEVNULL
+        [os.path.join(TOP, "bench", "workloads"), "--traces", options.traces, *made],
+        check=True,
+        stdout=subprocess.DEVNULL,
     )
     print(f"{options.samples} samples of {options.sampled} pages; links are shares of that at which the plan turns")
-    print(f"{'trace':12}{'link':>6} {'all pages':>10}" + "".join(f"{answer:>11}" for answer in ANSWERS) + f"{'wrong':>8}")
+    print(
+        f"{'trace':12}{'link':>6} {'all pages':>10}" + "".join(f"{answer:>11}" for answer in ANSWERS) + f"{'wrong':>8}"
+    )
     sure, wrong, far, uncertain = 0, 0, 0, 0
     with multiprocessing.Pool(2) as pool:
         for name in options.names:
