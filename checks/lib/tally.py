@@ -73,15 +73,17 @@ def drawn_from(draw):
 
 
 class Case:
-    """What was expected of a case, and what of it does not hold; how many of these are only late."""
+    """What was expected of a case, and what of it does not hold; how many of these are only late, and what the first
+    was drawn from, if that is known."""
 
     def __init__(self):
-        self.tried, self.faults, self.late = 0, [], 0
+        self.tried, self.faults, self.late, self.draw = 0, [], 0, None
 
     def add(self, good, told) -> bool:
         self.tried += 1
         if not good:
             self.faults.append(str(told))
+            self.draw = self.draw or draw_now()
         return bool(good)
 
 
@@ -128,7 +130,7 @@ class Tally:
             case.add(False, "nothing was tried")
         more = len(case.faults) - MOST_TOLD
         told = [*case.faults[:MOST_TOLD], *([f"and {more} more"] if more > 0 else [])]
-        self.add(not case.faults, f"{name}: " + "\n    ".join(told), is_late=case.late == len(case.faults))
+        self.add(not case.faults, f"{name}: " + "\n    ".join(told), case.draw, case.late == len(case.faults))
 
     def tries(self, name: str, act, *words) -> None:
         """A case that raises what it does not want."""

@@ -15,7 +15,7 @@ import tracemalloc
 
 import precopy
 from checks.lib import traces as all_traces
-from checks.lib.harness import drawn, draws
+from checks.lib.harness import drawn
 from checks.lib.tally import LeftOut
 from checks.lib.traces import header, record
 from checks.library import python_edges, traces
@@ -108,8 +108,7 @@ class Index:
         return self.value
 
 
-def check_number(tally, name, call, low, high):
-    chosen = draws(name)
+def check_number(tally, chosen, name, call, low, high):
     values = [*HOSTILE, low - 1, high + 1, low, high, *(chosen.getrandbits(70) for _ in range(10))]
     for value in [*values, *(Index(value) for value in values)]:
         found = outcome(call, value)
@@ -129,15 +128,15 @@ def quiet_page(trace):
 
 
 def check_numbers(tally):
-    chosen = draws("numbers")
-    trace = all_traces.generated(chosen)
-    while quiet_page(trace) is None:
+    for chosen in drawn("numbers", range(1)):
         trace = all_traces.generated(chosen)
-    for name, call, (low, high) in taking_numbers(trace):
-        with tally.case(f"numbers in Python: {name}") as case:
-            check_number(case, name, call, low, high)
-    good = precopy.memory_before(trace, 1 << 40) == precopy.memory(trace) == precopy.memory_before(trace, 1 << 63)
-    tally.add(good, "memory before a tick after all writes")
+        while quiet_page(trace) is None:
+            trace = all_traces.generated(chosen)
+        for name, call, (low, high) in taking_numbers(trace):
+            with tally.case(f"numbers in Python: {name}") as case:
+                check_number(case, chosen, name, call, low, high)
+        good = precopy.memory_before(trace, 1 << 40) == precopy.memory(trace) == precopy.memory_before(trace, 1 << 63)
+        tally.add(good, "memory before a tick after all writes")
 
 
 # ---- Bytes.
