@@ -205,10 +205,10 @@ def need(*commands: str) -> None:
 
 
 def module(name: str):
-    """A module that Debian has. It leaves the case out if the module is not here and cannot be installed."""
-    package = f"python3-{name}"
-    if not importlib.util.find_spec(name) and not is_installed([package]):
-        raise LeftOut(f"there is no module {name}, and {package} could not be installed")
+    """A module of the list. It leaves the case out if the module is not here and cannot be installed."""
+    packages = tools()[name]
+    if not importlib.util.find_spec(name) and not is_installed(packages):
+        raise LeftOut(f"there is no module {name}, and {' '.join(packages)} could not be installed")
     importlib.invalidate_caches()
     try:
         return importlib.import_module(name)

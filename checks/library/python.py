@@ -16,7 +16,7 @@ import tracemalloc
 import precopy
 from checks.lib import traces as all_traces
 from checks.lib.harness import drawn
-from checks.lib.tally import LeftOut
+from checks.lib.tally import LeftOut, is_installed, tools
 from checks.lib.traces import header, record
 from checks.library import python_edges, traces
 from precopy_dev.tree import TOP
@@ -364,6 +364,8 @@ def check_pip(tally, folder):
     python = "/usr/bin/python3" if os.access("/usr/bin/python3", os.X_OK) else sys.executable
     fresh, packed = os.path.join(folder, "a venv"), os.path.join(folder, "packed")
     made = run(python, "-m", "venv", fresh)
+    if made.returncode and is_installed(tools()["venv"]):
+        made = run(python, "-m", "venv", fresh)
     if made.returncode:
         raise LeftOut(f"{python} makes no environment: {made.stdout.decode()[-200:]}")
     shutil.copytree(f"{TOP}/bindings/python", packed, ignore=shutil.ignore_patterns("__pycache__"))
