@@ -19,6 +19,8 @@ MOST_TOLD = 5
 TOOLS = os.path.join(os.path.dirname(os.path.abspath(__file__)), "tools.txt")
 # What is told of a case that fails only since something was late. The gate knows by it what may be tried again.
 LATE = "late: other work on this machine may be why"
+# Whether the first failure is the end. Checks that a check runs do not inherit it.
+ENDS_EARLY = bool(os.environ.pop("CHECKS_END_EARLY", ""))
 # What this process left out, each with its reason.
 SKIPPED: list[tuple[str, str]] = []
 
@@ -104,7 +106,7 @@ class Tally:
             self.failed_draws += [draw.line] if draw else []
             more = [f"    drawn: {draw}"] * bool(draw) + [f"    {LATE}"] * is_late
             print("\n".join([f"  FAILED {told}", *more]), flush=True)
-            if "CHECKS_END_EARLY" in os.environ:
+            if ENDS_EARLY:
                 # Other threads may work on, and would be waited for.
                 print(self, flush=True)
                 os._exit(1)
