@@ -128,10 +128,7 @@ class Guest:
         return f"No memory is mapped at address {asked:#x}\r\n"
 
 
-def serve(guest, path):
-    server = socket.socket(socket.AF_UNIX)
-    server.bind(path)
-    server.listen()
+def serve(guest, server):
     while True:
         client, _ = server.accept()
         with contextlib.suppress(OSError), client, client.makefile("rw") as stream:
@@ -150,10 +147,11 @@ def say(stream, message):
 def main(path, layout):
     ctypes.CDLL(None).prctl(SET_NAME, b"qemu-system-x86", 0, 0, 0)
     guest = Guest(json.loads(layout))
-    thread = threading.Thread(target=serve, args=(guest, path), daemon=True)
-    thread.start()
-    while not os.path.exists(path):
-        pass
+    # Whoever reads what is printed may connect.
+    server = socket.socket(socket.AF_UNIX)
+    server.bind(path)
+    server.listen()
+    threading.Thread(target=serve, args=(guest, server), daemon=True).start()
     told = {}
     while True:
         told["nodes"] = {node.name: [node.address, node.pages] for node in guest.all_nodes()}
