@@ -74,4 +74,4 @@ def agrees(wanted, printed):
 def is_due(status, words, printed):
     """Whether a status is that of which the lines tell, or 0 if it is that of a reader of them."""
     told = [number for pattern, number in TOLD_STATUSES if re.search(pattern, printed, re.M)]
-    return status in (told[:1] or [0]) or status == 0 and ("|" in words or told == [3])
+    return status in (told[:1] or [0]) or status == 0 and "|" in words
