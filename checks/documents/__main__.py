@@ -23,7 +23,7 @@ import tempfile
 
 from checks.documents import heads, links, names, refusal_words
 from checks.lib.harness import run_main
-from checks.lib.pages import INDEX, agrees, manuals, pages, quotes, steps
+from checks.lib.pages import INDEX, agrees, is_due, manuals, pages, quotes, steps
 from checks.lib.tally import left_out, why_not
 from precopy_dev.tree import TOP, read
 
@@ -37,15 +37,6 @@ WORDS_IN_ALL = 36_000
 FIGURES, MADE = "docs/MEASUREMENTS.md", re.compile(r"^\|.*\n|^ +\d[\d.]* +\d.*\n", re.M)
 # What a command begins with that needs a running guest, or is of a shell that runs on.
 LEFT_OUT = ("tools/compare-qemu", "tools/record", "export")
-# What tells of a status: the beginning of a line, or a part of one.
-TOLD_STATUSES = (
-    (r"^precopy(-view)?: (settings|cases?\b|--)|^error: ", 2),
-    (r"^precopy(-view)?: (trace|memory|live|write)", 1),
-    (r"^converges: unknown", 4),
-    (r"^downtime: .*, kept: uncertain", 5),
-    (r"^downtime: .*, kept: no", 3),
-    (r"^best: .*, not kept$", 3),
-)
 # Words that look like files and are none of the repository's.
 NO_FILES = {"crates/precopy/out/precopy", "manifest.json"}
 FILE = re.compile(r"[\w.*-]+(?:/[\w.*-]+)*/?")
@@ -66,12 +57,6 @@ def make_folder(folder, given):
     for name, path in programs.items():
         os.symlink(path, os.path.join(folder, name))
     return {**os.environ, "PATH": f"{folder}{os.pathsep}{os.environ.get('PATH', '')}", "LC_ALL": "C"}
-
-
-def is_due(status, words, printed):
-    """Whether a status is that of which the lines tell, or 0 if it is that of a reader of them."""
-    told = [number for pattern, number in TOLD_STATUSES if re.search(pattern, printed, re.M)]
-    return status in (told[:1] or [0]) or status == 0 and ("|" in words or told == [3])
 
 
 def try_steps(case, folder, given, found):

@@ -46,8 +46,9 @@ def commands(tally, folder, run):
         with tally.case(f"the commands of the installed {path}") as case:
             for kind, words, wanted in steps:
                 status, printed = run(path, ["python3", "-c", words] if kind == "python" else ["sh", "-c", words])
-                good = status == 0 if kind == "python" else pages.agrees(wanted, printed)
-                case.add(good, f"{words}\n{printed}")
+                agrees = kind == "python" or pages.agrees(wanted, printed)
+                good = agrees and (pages.is_due(status, words, printed) if kind == "command" else status == 0)
+                case.add(good, f"{words}\nstatus {status}\n{printed}")
         count += len(steps)
     tally.add(count > 30, f"the installed documents have {count} commands")
 

@@ -8,7 +8,7 @@ import signal
 import subprocess
 import time
 
-from checks.lib.harness import drawn, draws
+from checks.lib.harness import drawn
 from checks.lib.tally import LeftOut, has
 from precopy_dev.packaging import launcher
 from precopy_dev.tree import TOP
@@ -31,9 +31,10 @@ def joined(mine):
 
 def joined_settings():
     """Settings of users, and what becomes of each."""
-    chosen = draws("settings of users")
-    drawn = [":".join(chosen.choices(PIECES, k=chosen.randint(1, 4))) for _ in range(20)]
-    return [(mine, joined(mine)) for mine in ["", "mine", "glibc.malloc.hugetlb=0", ":".join(LARGE_PAGES), *drawn]]
+    yield from ((mine, joined(mine)) for mine in ("", "mine", "glibc.malloc.hugetlb=0", ":".join(LARGE_PAGES)))
+    for chosen in drawn("settings of users", range(20)):
+        mine = ":".join(chosen.choices(PIECES, k=chosen.randint(1, 4)))
+        yield mine, joined(mine)
 
 
 class Installed:

@@ -35,6 +35,11 @@ BUG = "examples/left_out.py examples/gzip.pcwt --mended"
 PLAN = "-Iinclude examples/c/plan.c out/library/libprecopy.a"
 
 
+# The tools that some of a command's words need.
+NEEDED = {"make": ("make",), "lib": ("cc",), "install-lib": ("cc",), "cc": ("cc",), "cargo": ("cargo", "cc")}
+NEEDED |= {"deb": ("dh", "dh_python3")}
+
+
 class FirstRun(NamedTuple):
     """A command, the parts that it is there to build, and what must be there afterwards."""
 
@@ -124,8 +129,7 @@ def check(tally, given):
     chosen = [it for it in COMMANDS if any(word in it.words for word in given.only or ())] or [of_today]
     for first in COMMANDS if given.all else chosen:
         with tally.case(first.words) as case:
-            if first.words == "make deb":
-                need("dh", "dh_python3")
+            need(*(tool for word in first.words.split() for tool in NEEDED.get(word, ())))
             try_first(case, first, set(BUILT) if given.all else set(first.builds))
 
 

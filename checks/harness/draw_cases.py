@@ -73,6 +73,9 @@ def check(tally, given):
     run_cases(tally, [a_case, another], None)
     for draw in drawn("in a try", range(2)):
         tally.tries("a try", lambda: expect(draw.number == 0, "wrong"))
+    with tally.case("several") as case:
+        for draw in drawn("in several", range(2)):
+            case.add(draw.number == 0, "wrong")
     tally.add(False, "drawn from nothing")
 """
 
@@ -83,10 +86,38 @@ def told_of_each_kind(_, folder):
     told = [
         f"a_case: wrong\n    drawn: in a case 1 of seed {SEED}\n",
         f"a try: wrong\n    drawn: in a try 1 of seed {SEED}\n",
+        f"several: wrong\n    drawn: in several 1 of seed {SEED}\n",
     ]
-    expect_told(done, 1, "1 passed, 4 failed", *(f"  FAILED {each}" for each in told))
+    expect_told(done, 1, "1 passed, 5 failed", *(f"  FAILED {each}" for each in told))
     found = re.findall(rb"FAILED (?:another: )?drawn from nothing\n    drawn", done.output)
-    expect(not found and done.output.count(b"  KEEP ") == 2, done.output.decode())
+    expect(not found and done.output.count(b"  KEEP ") == 3, done.output.decode())
+
+
+# A case that draws once.
+OF_A_CASE = """\
+def a_case(_, folder):
+    draw = draws("of a case")
+    number = draw.getrandbits(32)
+    print("drew", number, "by", draw)
+    expect(number != {}, "wrong")
+
+
+def check(tally, given):
+    run_cases(tally, [a_case], None)
+"""
+
+
+def kept_of_a_case(_, folder):
+    """A case that draws is tried with each draw with which it failed once, too, and fails if one of them fails."""
+    (wrong,), (other,) = (numbers_of(small_check(folder, OF_A_CASE.format(0), seed=seed)) for seed in (SEED, OTHER))
+    told = f"  FAILED a_case: wrong\n    drawn: of a case 0 of seed {SEED}\n"
+    keeps = f"  KEEP it as a case by a line of checks/small/failed_seeds.tsv: of a case\t0\t{SEED}\tWHY\n"
+    expect_told(small_check(folder, OF_A_CASE.format(wrong)), 1, "0 passed, 1 failed", told, keeps)
+    keep(folder, f"of a case\t0\t{SEED}\tit was wrong\n")
+    expect_told(small_check(folder, OF_A_CASE.format(wrong), seed=OTHER), 1, "1 passed, 1 failed", told)
+    done = small_check(folder, OF_A_CASE.format(0), seed=OTHER)
+    expect_told(done, 0, "2 passed, 0 failed")
+    expect(numbers_of(done) == [other, wrong], f"{done}")
 
 
 def lines_that_keep_nothing(_, folder):

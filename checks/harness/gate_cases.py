@@ -1,9 +1,10 @@
 """Cases of checks/harness about the gate: what .ci/run makes of what its steps say, and of their statuses."""
 
+import datetime
 import os
 import shutil
 
-from checks.lib.harness import Run, cases_of, expect, run
+from checks.lib.harness import SEED, Run, cases_of, expect, run
 from checks.lib.tally import LATE
 from precopy_dev.tree import TOP
 
@@ -11,6 +12,7 @@ from precopy_dev.tree import TOP
 STEP = """\
 #!/bin/sh
 name=$1
+echo "drawn from $CHECKS_SEED"
 [ -f "said/$name" ] || { echo "1 passed, 0 failed"; exit 0; }
 cat "said/$name"
 status=$(cat "said/$name.status")
@@ -38,7 +40,8 @@ def gate(folder: str, *words: str, **said: tuple[int, str]) -> Run:
     for name, (status, text) in said.items():
         put(os.path.join(top, "said", name), text)
         put(os.path.join(top, "said", f"{name}.status"), f"{status}")
-    return run([os.path.join(top, ".ci", "run"), *words])
+    environment = {name: value for name, value in os.environ.items() if name != SEED}
+    return run([os.path.join(top, ".ci", "run"), *words], env=environment)
 
 
 def put(path: str, text: str) -> None:
@@ -120,6 +123,21 @@ def left_out_and_flaky(_, folder):
     )
     done = gate(folder, "--all", **said)
     expect_gate(done, 1, others + 3, 0, 2, told=("with --all nothing may be left out",))
+
+
+def today() -> str:
+    return f"{datetime.datetime.now(datetime.timezone.utc):%Y%m%d}"
+
+
+def seeds(_, folder):
+    """The gate tells its seed first, which is the day, or is given. Each step has it."""
+    before, done = today(), gate(folder)
+    days = dict.fromkeys([before, today()])
+    for told, wanted in ((done, days), (gate(folder, "--seed", "7"), ["7"])):
+        first, *lines = told.output.decode().splitlines()
+        expect(first in [f"seed {seed}" for seed in wanted], f"the first line is {first!r}")
+        drawn = [line for line in lines if line.startswith("drawn from ")]
+        expect(drawn == [first.replace("seed", "drawn from")] * counts_of(told)[0], f"{first}, and {drawn}")
 
 
 def words(_, folder):

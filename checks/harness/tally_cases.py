@@ -7,7 +7,8 @@ import sys
 
 from checks.harness.small import small_check
 from checks.lib.harness import Run, cases_of, expect, run
-from checks.lib.tally import LATE, LeftOut
+from checks.lib.tally import LATE, LeftOut, need
+from checks.recording import known_pages
 from precopy_dev.tree import TOP
 
 
@@ -119,20 +120,53 @@ def check(tally, given):
 
 
 # Checks of which little can be tried without some tools: their words, and how much they try and leave out.
-WITHOUT_TOOLS = (("baselines", [sys.executable], 0, 1), ("qemu", [sys.executable], 0, 1), ("lint", [], 1, 7))
-FEW_TOOLS = ("sh", "dirname", "readlink", "git")
+PROGRAM = [sys.executable]
+WITHOUT_TOOLS = (("baselines", PROGRAM, 0, 1), ("qemu", PROGRAM, 0, 1), ("lint", [], 1, 7))
+FEW_TOOLS = ("sh", "dirname", "readlink", "git", "env")
 
 
-def without_tools(_, folder):
-    """Where a check's tools are not there, and cannot be installed, it says how much it has not tried, and why."""
+def expect_left_out(name, words, tried, count, reason, **how):
+    """A check that can be tried only in part says how much of it is not, and why."""
+    done = run([os.path.join(TOP, "checks", "run"), name, *words], **how)
+    expect_told(done, 0, f"{tried} passed, 0 failed, {count} skipped")
+    reasons = re.findall(rb"^  SKIPPED .*: " + reason + rb"$", done.output, re.M)
+    expect(len(reasons) == count, f"{name}: {done.output}")
+
+
+def few_tools(folder):
+    """An environment with few tools, into which none can be installed."""
     os.symlink(sys.executable, os.path.join(folder, "python3"))
     for name in FEW_TOOLS:
         os.symlink(shutil.which(name), os.path.join(folder, name))
+    return {**os.environ, "PATH": folder}
+
+
+def need_built(*path):
+    """Leaves the case out where what a check would build first is not built."""
+    if not os.path.exists(os.path.join(TOP, *path)):
+        raise LeftOut(f"{os.path.join(*path)} is not built here")
+
+
+def without_tools(_, folder):
+    environment = few_tools(folder)
     for name, words, tried, count in WITHOUT_TOOLS:
-        done = run([os.path.join(TOP, "checks", "run"), name, *words], env={**os.environ, "PATH": folder})
-        expect_told(done, 0, f"{tried} passed, 0 failed, {count} skipped")
-        reasons = re.findall(rb"^  SKIPPED .*: there is no [\w-]+, and .* could not be installed$", done.output, re.M)
-        expect(len(reasons) == count, f"{name}: {done.output}")
+        expect_left_out(
+            name, words, tried, count, rb"there is no [\w-]+, and .* could not be installed", env=environment
+        )
+
+
+def without_browsers(_, folder):
+    need_built("out", "browser_planner.wasm")
+    reason = rb"there is no (?:node with 64-bit memory|[\w-]+, and .* could not be installed)"
+    expect_left_out("page", PROGRAM, 3, 3, reason, env=few_tools(folder))
+
+
+def without_userfaultfd(_, __):
+    """Where the kernel does not have the system call."""
+    need_built("out", "library", "libprecopy.a")
+    need("cc", "make")
+    reason = rb"sender: status 3, sender: pages cannot be watched .*: Function not implemented"
+    expect_left_out("sending", PROGRAM, 5, 2, reason, preexec_fn=lambda: known_pages.filtered(known_pages.IS_NONE))
 
 
 def of_another_tree(_, folder):

@@ -65,11 +65,6 @@ def seed() -> int:
     return int(os.environ[SEED])
 
 
-def draws(name: object) -> random.Random:
-    """Random numbers of this run, for what has this name."""
-    return random.Random(f"{name} {seed()}")
-
-
 class Draw(random.Random):
     """Random numbers of one case: the number, the kind and the seed tell what it draws, whatever else is drawn."""
 
@@ -119,6 +114,14 @@ def drawn(kind: str, numbers: Iterable[int]) -> Iterator[Draw]:
     OF_THREAD.draw = None
 
 
+def draws(name: str) -> Draw:
+    """Random numbers of a case of run_cases. It is tried once more with each draw of this name that failed once."""
+    OF_THREAD.draw = draw = Draw(name, 0, OF_THREAD.seeds[name] if name in OF_THREAD.seeds else seed())
+    OF_THREAD.names.add(name)
+    DRAWN.add(draw.line)
+    return draw
+
+
 def tell_failed_draws(tally: Tally) -> None:
     """Says which lines keep the draws with which cases failed."""
     kept, name = kept_lines(), os.path.basename(folder_of_check())
@@ -153,7 +156,19 @@ def cases_of(module: str) -> list:
 
 
 def outcome(case, words: tuple) -> Failure | None:
-    """What is wrong with a case in a folder of its own, or why it is left out; None if it passes."""
+    """What is wrong with a case in a folder of its own, or why it is left out; None if it passes. It is tried again
+    with the draws that failed once, if it has draws of their names."""
+    OF_THREAD.names, OF_THREAD.seeds = set(), {}
+    wrong = outcome_of_one(case, words)
+    for name, _, of_seed in (line.split("\t") for line in kept_lines()):
+        if name in OF_THREAD.names and not wrong:
+            OF_THREAD.seeds = {name: int(of_seed)}
+            wrong = outcome_of_one(case, words)
+    return wrong
+
+
+def outcome_of_one(case, words: tuple) -> Failure | None:
+    """The same, by the draws of OF_THREAD.seeds, or of this run."""
     with tempfile.TemporaryDirectory() as folder, drawn_from(None):
         try:
             case(*words, folder)

@@ -8,6 +8,15 @@ from precopy_dev.tree import TOP
 
 # Made from the sources by `make docs`, and no part of them.
 INDEX = "docs/INDEX.md"
+# What tells of a status: the beginning of a line, or a part of one.
+TOLD_STATUSES = (
+    (r"^precopy(-view)?: (settings|cases?\b|--)|^error: ", 2),
+    (r"^precopy(-view)?: (trace|memory|live|write)", 1),
+    (r"^converges: unknown", 4),
+    (r"^downtime: .*, kept: uncertain", 5),
+    (r"^downtime: .*, kept: no", 3),
+    (r"^best: .*, not kept$", 3),
+)
 
 
 def pages():
@@ -60,3 +69,9 @@ def agrees(wanted, printed):
     """Whether the lines are those that are wanted, where `...` stands for any."""
     pattern = "".join(r"(?:.*\n)*" if line == "..." else re.escape(line) + r"\n" for line in wanted)
     return re.fullmatch(pattern, printed) is not None
+
+
+def is_due(status, words, printed):
+    """Whether a status is that of which the lines tell, or 0 if it is that of a reader of them."""
+    told = [number for pattern, number in TOLD_STATUSES if re.search(pattern, printed, re.M)]
+    return status in (told[:1] or [0]) or status == 0 and "|" in words

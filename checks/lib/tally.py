@@ -19,6 +19,8 @@ MOST_TOLD = 5
 TOOLS = os.path.join(os.path.dirname(os.path.abspath(__file__)), "tools.txt")
 # What is told of a case that fails only since something was late. The gate knows by it what may be tried again.
 LATE = "late: other work on this machine may be why"
+# Whether the first failure is the end. Checks that a check runs do not inherit it.
+ENDS_EARLY = bool(os.environ.pop("CHECKS_END_EARLY", ""))
 # What this process left out, each with its reason.
 SKIPPED: list[tuple[str, str]] = []
 
@@ -73,15 +75,17 @@ def drawn_from(draw):
 
 
 class Case:
-    """What was expected of a case, and what of it does not hold; how many of these are only late."""
+    """What was expected of a case, and what of it does not hold; how many of these are only late, and what the first
+    was drawn from, if that is known."""
 
     def __init__(self):
-        self.tried, self.faults, self.late = 0, [], 0
+        self.tried, self.faults, self.late, self.draw = 0, [], 0, None
 
     def add(self, good, told) -> bool:
         self.tried += 1
         if not good:
             self.faults.append(str(told))
+            self.draw = self.draw or draw_now()
         return bool(good)
 
 
@@ -102,7 +106,7 @@ class Tally:
             self.failed_draws += [draw.line] if draw else []
             more = [f"    drawn: {draw}"] * bool(draw) + [f"    {LATE}"] * is_late
             print("\n".join([f"  FAILED {told}", *more]), flush=True)
-            if "CHECKS_END_EARLY" in os.environ:
+            if ENDS_EARLY:
                 # Other threads may work on, and would be waited for.
                 print(self, flush=True)
                 os._exit(1)
@@ -128,7 +132,7 @@ class Tally:
             case.add(False, "nothing was tried")
         more = len(case.faults) - MOST_TOLD
         told = [*case.faults[:MOST_TOLD], *([f"and {more} more"] if more > 0 else [])]
-        self.add(not case.faults, f"{name}: " + "\n    ".join(told), is_late=case.late == len(case.faults))
+        self.add(not case.faults, f"{name}: " + "\n    ".join(told), case.draw, case.late == len(case.faults))
 
     def tries(self, name: str, act, *words) -> None:
         """A case that raises what it does not want."""
@@ -203,10 +207,10 @@ def need(*commands: str) -> None:
 
 
 def module(name: str):
-    """A module that Debian has. It leaves the case out if the module is not here and cannot be installed."""
-    package = f"python3-{name}"
-    if not importlib.util.find_spec(name) and not is_installed([package]):
-        raise LeftOut(f"there is no module {name}, and {package} could not be installed")
+    """A module of the list. It leaves the case out if the module is not here and cannot be installed."""
+    packages = tools()[name]
+    if not importlib.util.find_spec(name) and not is_installed(packages):
+        raise LeftOut(f"there is no module {name}, and {' '.join(packages)} could not be installed")
     importlib.invalidate_caches()
     try:
         return importlib.import_module(name)

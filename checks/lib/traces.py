@@ -58,6 +58,11 @@ class Trace:
         """The ticks at which each page is written."""
         return redrawn.by_page(self.pages, self.writes)
 
+    @cached_property
+    def whole(self) -> bytes:
+        """The memory that all writes leave."""
+        return self.memory()
+
     def memory(self, before: int | None = None) -> bytes:
         """The memory that the writes leave, or those before a tick."""
         memory = bytearray(self.pages * self.size)

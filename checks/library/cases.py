@@ -7,7 +7,7 @@ import sys
 
 import precopy
 from checks.lib import traces as all_traces
-from checks.lib.harness import drawn, draws, expect
+from checks.lib.harness import drawn, expect
 from checks.lib.library_runs import LIBRARY, is_done, program_says, read, run
 from checks.lib.traces import EXAMPLES
 from checks.library import beside, header, installs, places, python, rust, streams, traces
@@ -96,7 +96,15 @@ def check_streams(tally):
     for chosen in drawn("streams of frames", range(60)):
         with tally.case(str(chosen)) as case:
             check_stream(case, chosen)
-    sizes, frames = traces.frames(draws("a stream that is cut"))
+    for chosen in drawn("a stream that is cut", range(1)):
+        check_cuts(tally, *traces.frames(chosen))
+    for chosen in drawn("damaged streams", range(300)):
+        with tally.case(str(chosen)) as case:
+            check_damage(case, chosen)
+
+
+def check_cuts(tally, sizes, frames):
+    """A stream that comes in two parts, cut at each byte."""
     text = b"".join(traces.frame_text(*frame) for frame in frames)
     ends = traces.ends_of(frames)
     for cut in range(len(text) + 1):
@@ -105,9 +113,6 @@ def check_streams(tally):
         good = taken == max(end for end in ends if end <= cut)
         good = good and traces.taken_of(flat, text[taken:]) == len(text) - taken
         tally.add(good and traces.state(flat) == traces.joined(sizes, frames), f"a stream cut at byte {cut}")
-    for chosen in drawn("damaged streams", range(300)):
-        with tally.case(str(chosen)) as case:
-            check_damage(case, chosen)
 
 
 def check_stream(tally, chosen):

@@ -15,8 +15,8 @@ import tracemalloc
 
 import precopy
 from checks.lib import traces as all_traces
-from checks.lib.harness import drawn, draws
-from checks.lib.tally import LeftOut
+from checks.lib.harness import drawn
+from checks.lib.tally import LeftOut, is_installed, tools
 from checks.lib.traces import header, record
 from checks.library import python_edges, traces
 from precopy_dev.tree import TOP
@@ -109,8 +109,7 @@ class Index:
         return self.value
 
 
-def check_number(tally, name, call, low, high):
-    chosen = draws(name)
+def check_number(tally, chosen, name, call, low, high):
     values = [*HOSTILE, low - 1, high + 1, low, high, *(chosen.getrandbits(70) for _ in range(10))]
     for value in [*values, *(Index(value) for value in values)]:
         found = outcome(call, value)
@@ -130,15 +129,15 @@ def quiet_page(trace):
 
 
 def check_numbers(tally):
-    chosen = draws("numbers")
-    trace = all_traces.generated(chosen)
-    while quiet_page(trace) is None:
+    for chosen in drawn("numbers", range(1)):
         trace = all_traces.generated(chosen)
-    for name, call, (low, high) in taking_numbers(trace):
-        with tally.case(f"numbers in Python: {name}") as case:
-            check_number(case, name, call, low, high)
-    good = precopy.memory_before(trace, 1 << 40) == precopy.memory(trace) == precopy.memory_before(trace, 1 << 63)
-    tally.add(good, "memory before a tick after all writes")
+        while quiet_page(trace) is None:
+            trace = all_traces.generated(chosen)
+        for name, call, (low, high) in taking_numbers(trace):
+            with tally.case(f"numbers in Python: {name}") as case:
+                check_number(case, chosen, name, call, low, high)
+        good = precopy.memory_before(trace, 1 << 40) == precopy.memory(trace) == precopy.memory_before(trace, 1 << 63)
+        tally.add(good, "memory before a tick after all writes")
 
 
 # ---- Bytes.
@@ -366,6 +365,8 @@ def check_pip(tally, folder):
     python = "/usr/bin/python3" if os.access("/usr/bin/python3", os.X_OK) else sys.executable
     fresh, packed = os.path.join(folder, "a venv"), os.path.join(folder, "packed")
     made = run(python, "-m", "venv", fresh)
+    if made.returncode and is_installed(tools()["venv"]):
+        made = run(python, "-m", "venv", fresh)
     if made.returncode:
         raise LeftOut(f"{python} makes no environment: {made.stdout.decode()[-200:]}")
     shutil.copytree(f"{TOP}/bindings/python", packed, ignore=shutil.ignore_patterns("__pycache__"))

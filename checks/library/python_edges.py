@@ -17,7 +17,7 @@ from checks.lib import traces as all_traces
 from checks.lib.harness import drawn
 from checks.lib.library_runs import LIBRARY, TOP, read
 from checks.lib.stream_rows import NEW, RIGHT, STOP, frame
-from checks.lib.tally import LeftOut, is_installed
+from checks.lib.tally import LeftOut, is_installed, tools
 from checks.lib.traces import header
 from checks.library import traces
 
@@ -260,7 +260,7 @@ def python_with_numpy():
 
 
 def check_arrays(tally):
-    python = python_with_numpy() or (is_installed(["python3-numpy"]) and python_with_numpy())
+    python = python_with_numpy() or (is_installed(tools()["numpy"]) and python_with_numpy())
     if not python:
         raise LeftOut("no Python here has the module numpy, and python3-numpy could not be installed")
     ran = script(python, ARRAYS, os.path.join(TOP, "examples", "gzip.pcwt"))

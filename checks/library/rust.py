@@ -9,7 +9,7 @@ import shutil
 import precopy
 from checks.lib import stream_model, stream_rows
 from checks.lib import traces as all_traces
-from checks.lib.harness import drawn, draws
+from checks.lib.harness import drawn
 from checks.lib.library_runs import LIBRARY, TOP, is_done, program_says, read, run
 from checks.lib.migration_model import Question, answer_of, sweep_of
 from checks.lib.tally import left_out, why_not
@@ -25,9 +25,14 @@ SOURCES = ("flat.rs", "lib.rs", "places.rs", "predictions.rs", "refusals.rs", "s
 
 def receive(tally, folder, path, trace):
     """The frames of a trace's memory, older ones too, dealt to three streams. The example in C takes them."""
+    for chosen in drawn(f"frames of {os.path.basename(path)}", range(1)):
+        words, stream = received(tally, folder, path, trace, chosen)
+    return words, stream
+
+
+def received(tally, folder, path, trace, chosen):
     sizes = precopy.check_trace(trace)
-    chosen, paths = draws(path), [os.path.join(folder, f"stream{number}") for number in range(3)]
-    texts = []
+    paths, texts = [os.path.join(folder, f"stream{number}") for number in range(3)], []
     for memory, stamp in ((precopy.memory(trace), sizes.writes), (precopy.memory_before(trace, 9), 0)):
         for page in range(sizes.pages if sizes.writes or not stamp else 0):
             content = bytes(memory[page << sizes.shift : page + 1 << sizes.shift])

@@ -9,7 +9,7 @@ import time
 
 import precopy
 from checks.lib import stream_model, stream_rows
-from checks.lib.harness import drawn, draws
+from checks.lib.harness import drawn
 from checks.lib.library_runs import TOP, run
 from checks.lib.stream_rows import frame
 from checks.lib.traces import generated, header, record
@@ -197,9 +197,9 @@ def check_tool(tally, folder):
     tally.add(done.returncode == 2 and b"is not there" in done.stderr, f"tools/check without the library: {done}")
 
 
-def check_speed(tally):
+def check_speed(tally, chosen):
     """The check beside `accept`, over streams of a guest that was written all over."""
-    chosen, pages, writes = draws("speed"), 4096, 20000
+    pages, writes = 4096, 20000
     drawn = (record(tick, chosen.randrange(pages), 0, chosen.randbytes(8)) for tick in range(writes))
     text = header(pages, writes, 12) + b"".join(drawn)
     guest = stream_model.Guest(text)
@@ -236,5 +236,6 @@ def check(tally):
     with tempfile.TemporaryDirectory() as folder:
         with tally.case("tools/check") as case:
             check_tool(case, folder)
-    with tally.case("the check of streams beside accept") as case:
-        check_speed(case)
+    for chosen in drawn("speed", range(1)):
+        with tally.case("the check of streams beside accept") as case:
+            check_speed(case, chosen)

@@ -3,9 +3,9 @@
     checks/run load [--seed N] [PRECOPY]
 
 Live runs are over examples/*.pcwt, with settings drawn at random; each is compared with a fold of the writes that is
-made here, for --at-stop of those before the stop tick of `precopy report`. Of each way to end, and of each kind of
-start, there must be a number. With little room for addresses a job gives its whole output or one of the refusals that
-it may have, and the whole output if it has enough room. A run is a case.
+made here, for --at-stop of those before the stop tick of `precopy report`, which is that of a model. Of each way to
+end, and of each kind of start, there must be a number. With little room for addresses a job gives its whole output or
+one of the refusals that it may have, and the whole output if it has enough room. A run is a case.
 """
 
 import bisect
@@ -16,6 +16,7 @@ from concurrent.futures import ThreadPoolExecutor
 from checks.lib.harness import drawn, expect, run, run_main
 from checks.lib.tally import drawn_from
 from checks.lib.traces import EXAMPLES, Trace
+from precopy_dev.models import redrawn
 
 AT_ONCE, LIVE_RUNS = 2, 1000
 # How often each must be seen, at least, in all live runs.
@@ -68,6 +69,13 @@ def settings(draw, trace):
     return words_of(plan) + skip, words_of(crew)
 
 
+def stop_by_model(trace, plan):
+    """The tick at which a plan stops the guest."""
+    given = {name.removeprefix("--"): int(number) for name, number in zip(plan[::2], plan[1::2])}
+    numbers = [given[name] for name in ("min", "max", "inc", "threshold", "rounds", "start")]
+    return redrawn.planned(trace.guest, redrawn.Settings(*numbers, "--skip" in plan, given.get("base"))).stop
+
+
 def live_run(program, trace, words, at_stop, seen):
     """One live run, and what is seen in it."""
     plan, crew = words
@@ -77,11 +85,12 @@ def live_run(program, trace, words, at_stop, seen):
     seen["rounds"] += report.output.count(b"\nround ")
     seen["warm starts"] += "--base" in plan
     seen["stop " + stop[1].decode()] += 1
-    wanted = trace.memory(int(stop[2]) if at_stop else None)
+    expect(int(stop[2]) == stop_by_model(trace, plan), f"report {' '.join(plan)}: not the stop of the model: {report}")
+    wanted = trace.memory(int(stop[2])) if at_stop else trace.whole
     if at_stop:
         image = run([program, "image"], trace.cut(int(stop[2])))
         expect(is_whole(image, wanted), f"image of the trace cut at tick {int(stop[2])}: {image}")
-        seen["memory at the stop unlike that at the end"] += wanted != trace.memory()
+        seen["memory at the stop unlike that at the end"] += wanted != trace.whole
     done = run([program, "live", *plan, *crew, *["--at-stop"] * at_stop], trace.text)
     expect(is_whole(done, wanted), done)
 

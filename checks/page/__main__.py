@@ -4,14 +4,14 @@
 
 MODULE is the WebAssembly module, by default out/browser_planner.wasm, which `make page` builds; if it is missing,
 dev/page-module builds it. The page is joined from web/. Numbers that it shows for 400 random settings over 20 traces
-must be those of `precopy report` and `precopy sweep`, and the words that it gives for `precopy-view predict` and `when`
-ask for the same; what a click takes as enough for the limit keeps it. Each damage of the table in docs/FORMATS.md is
-refused by its name; a trace of `2^28` bytes is planned, or refused in a sentence. Fifty traces of all shapes plan at
-once. No task of the page's own thread works for more than 50 ms, however large the trace. The page opens no connection,
-fits widths from 360 to 1,920 pixels in each state, has contrasts of 4.5 for text and 3 for marks in light and in dark,
-and a name of its own for each control. In tables points are below each other, and no plan has a gap beside it, on paper
-neither. If Node is there, web/engine/planner.js plans the same in it, and the tests of checks/page/modules pass.
-Without Chromium all but sizes and Node are left out.
+must be those of `precopy report`, which are a model's, and of `precopy sweep`; the words that it gives for
+`precopy-view predict` and `when` ask for the same; what a click takes as enough for the limit keeps it. Each damage of
+the table in docs/FORMATS.md is refused by its name; a trace of `2^28` bytes is planned, or refused in a sentence. Fifty
+traces of all shapes plan at once. No task of the page's own thread works for more than 50 ms, however large the trace.
+The page opens no connection, fits widths from 360 to 1,920 pixels in each state, has contrasts of 4.5 for text and 3
+for marks in light and in dark, and a name of its own for each control. In tables points are below each other, and no
+plan has a gap beside it, on paper neither. If Node is there, web/engine/planner.js plans the same in it, and the tests
+of checks/page/modules pass. Without Chromium all but sizes and Node are left out.
 
 With --pictures only looks are tried, and FOLDER gets them for a reader's eye: in Chromium a PNG of each state of the
 page at each width, in light and in dark, PDFs of what is printed, and the files that the page saves; in Firefox too the
@@ -21,6 +21,7 @@ part is tried: `node`, `firefox`, or in Chromium `numbers`, `starts`, `damages`,
 """
 
 import copy
+import functools
 import json
 import os
 import re
@@ -30,8 +31,7 @@ import tempfile
 from checks.lib.amount_texts import error_text, moment_text, size_text, time_text
 from checks.lib.harness import drawn, run_main
 from checks.lib.tally import drawn_from, has, left_out
-from checks.lib.traces import Trace
-from checks.lib.view_texts import TOP, Failure, ran, report_facts, sweep_facts, told
+from checks.lib.view_texts import TOP, Failure, ran, sweep_facts, told
 from checks.page import addresses, cases, enough, forecasts, loads
 from checks.page import looks as page_looks
 from checks.page import pictures, records, states, uses, worker
@@ -140,7 +140,7 @@ def check_quantities(tally, command, web):
     for (_, word, amount), found in zip(rows, json.loads(ran.stdout), strict=True):
         is_held = amount is not None and amount < 1 << 53
         tally.add(found == ([amount] * 2 if is_held else None), f"the page takes {word!r} as {found}, not {amount}")
-    words, some = [*command, "--no-warnings", os.path.join(web, "texts.mjs")], amounts()
+    words, some = [*command, "--no-warnings", os.path.join(web, "texts.mjs")], list(amounts())
     ran = subprocess.run(words, input=json.dumps(list(map(str, some))).encode(), capture_output=True, check=False)
     if tally.add(ran.returncode == 0, f"Node: {ran.stderr.decode()[:300]}"):
         for amount, found in zip(some, json.loads(ran.stdout), strict=True):
@@ -185,7 +185,7 @@ def check_node(tally, folder, module, precopy):
 
 def compare_in_node(case, precopy, asked, found):
     """What the module answers beside the lines of a report; of a small sample also its errors, and what is enough."""
-    report = report_facts(told(precopy, ["report", *asked.words()], asked.known.path))
+    report = cases.reported(precopy, asked)
     errors, remedies, forecast = (found.pop(name) for name in ("errors", "remedies", "forecast"))
     case.add(found == node_facts(asked, report), f"{found['stop']}")
     if asked.known.pages <= cases.SMALL:
@@ -204,22 +204,27 @@ def compare_in_node(case, precopy, asked, found):
 
 
 def check_numbers(tally, page, precopy, folder):
-    has_view = os.access(VIEW, os.X_OK)
-    if not has_view:
-        left_out("the words for precopy-view predict", f"{VIEW} is not built")
     for known, some in cases.tries(folder):
         page.load(known.path)
         page.browser.value("document.getElementById('windows-details').open = true")
         for asked in some:
             with drawn_from(asked.draw):
-                tried(tally, f"{known}, {asked.fragment()}", check_one, page, precopy, asked, has_view)
+                tried(tally, f"{known}, {asked.fragment()}", check_one, page, precopy, asked)
     told = f"what is enough was compared for {len(enough.COMPARED)} settings, of {LEAST_COMPARED} at least"
     tally.add(len(enough.COMPARED) >= LEAST_COMPARED, told)
 
 
-def check_one(page, precopy, asked, has_view):
+@functools.cache
+def has_view():
+    is_built = os.access(VIEW, os.X_OK)
+    if not is_built:
+        left_out("the page's words for precopy-view", f"{VIEW} is not built")
+    return is_built
+
+
+def check_one(page, precopy, asked):
     found = page.ask(asked.fragment())
-    document = cases.predicted(VIEW, asked, found) if has_view and not asked.refusal() else None
+    document = cases.predicted(VIEW, asked, found) if not asked.refusal() and has_view() else None
     cases.check_facts(precopy, asked, found, document)
     if not asked.refusal():
         enough.check_enough(asked, page, found, document)
@@ -293,7 +298,7 @@ def check_starts(page, precopy, name, draw):
     check_errors(asked, known, found, chosen)
     if words != f"Plan {cases.plural(len(ticks), 'start')}":
         raise Failure(f"{words!r} for {len(ticks)} starts")
-    if os.access(VIEW, os.X_OK):
+    if has_view():
         check_when(page.browser.value("textOf('command-when')"), known.path, len(ticks), chosen)
 
 

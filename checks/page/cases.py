@@ -8,6 +8,7 @@ import os
 from checks.lib.amount_texts import error_text, moment_text, size_text, time_text
 from checks.lib.harness import drawn
 from checks.lib.host_words import host_lines, is_command, sentence_of
+from checks.lib.migration_model import report_of
 from checks.lib.view_texts import TOP, Failure, document_of, ran, report_facts, sweep_facts, told
 from checks.page import shapes
 from checks.page.tables import round_texts, window_texts
@@ -215,6 +216,26 @@ def check_notes(asked, notes):
             raise Failure(f"the note on {name} is {notes[name]!r}, without {missing}")
 
 
+REPORTS = {}
+
+
+def reported(precopy, asked):
+    """The facts of `precopy report`, which must be those of a plain model."""
+    words = asked.known.path, *asked.words()
+    if words not in REPORTS:
+        found = report_facts(told(precopy, ["report", *asked.words()], asked.known.path))
+        wanted = report_of(asked.known, settings_of(asked), asked.window)
+        if found != wanted:
+            raise Failure(f"a report that is not that of the model: {found} in place of {wanted}")
+        REPORTS[words] = found
+    return REPORTS[words]
+
+
+def settings_of(asked):
+    """Settings as the model has them."""
+    return redrawn.Settings(*asked.settings(), asked.rounds, asked.start, bool(asked.skip), asked.base)
+
+
 def figures(asked, report):
     """What a migration comes to by the lines of a report: its answers, and its prices if it ends within the trace."""
     stop, known = report["stop"], asked.known
@@ -239,12 +260,8 @@ def drawn_errors(asked):
     """The standard errors of bytes, time and downtime by `python/precopy_dev/models/redrawn.py`, if there are any."""
     if not 2 <= asked.sampled < asked.guest:
         return None
-    least, most, increment, threshold = asked.settings()
-    settings = redrawn.Settings(
-        least, most, increment, threshold, asked.rounds, asked.start, bool(asked.skip), asked.base
-    )
     scale = redrawn.Scale(asked.tick, asked.page, asked.sampled, asked.guest)
-    return redrawn.errors(asked.known.guest, settings, scale)
+    return redrawn.errors(asked.known.guest, settings_of(asked), scale)
 
 
 def micros(value):
@@ -364,7 +381,7 @@ def check_facts(precopy, asked, found, document):
         return
     if found["refused"]:
         raise Failure(f"refused: {found['refused']}, {found['fault']}")
-    report = report_facts(told(precopy, ["report", *asked.words()], asked.known.path))
+    report = reported(precopy, asked)
     line = sweep_facts(told(precopy, ["sweep", *asked.place(), asked.case()], asked.known.path))["cases"][0]
     stop = report["stop"]
     if (line["rounds"], line["stop"], line["at"], line["down"], line["total"]) != (

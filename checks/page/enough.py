@@ -97,7 +97,7 @@ def check_shown(asked, lines, found):
             raise Failure(f"{some} is shown for {exact}, where {set_one} is set: {lines}")
 
 
-# The settings of which it was compared what is enough.
+# What is enough for those settings of which it was compared.
 COMPARED = []
 
 
@@ -108,15 +108,16 @@ def check_enough(asked, page, found, document):
     is_late = found["comparison"]["downtime"][0] == "unknown"
     if lines[0].startswith(UNKNOWN) != is_late:
         raise Failure(f"enough: {lines} of a migration that ends {'late' if is_late else 'within the trace'}")
-    COMPARED.append(asked)
     shown, wanted = enough_in(exact), [enough_of(document)]
     if asked.known.pages <= SMALL:
         first = None if asked.first == 100 else asked.limits()[1]
         wanted.append(remedies_of(asked, first, None if asked.increase == 10 else asked.settings()[2]))
-    if max(shown.link or 0, shown.downtime or 0) >= MOST_OF_PAGE:
+    wanted = list(filter(None, wanted))
+    if any(max(some.link or 0, some.downtime or 0) >= MOST_OF_PAGE for some in wanted or [shown]):
         return
+    COMPARED.extend(wanted[:1])
     check_shown(asked, lines, shown)
-    for some in filter(None, wanted):
+    for some in wanted:
         if shown != shown_of(some):
             raise Failure(f"enough: {exact} in place of {some}")
         check_ways(asked, lines, some)

@@ -72,10 +72,10 @@ def check_together(page):
     found = page.browser.value(f"{POINTED}('rounds-plot-this', 0.5, ['pointermove'])")
     second = 1 + 0.5 * 19.297
     require(found["rounds-plot-this"] is None, "the moment is marked where it is pointed at")
-    halo = page.browser.value("getComputedStyle(document.querySelector('.moment')).stroke")
-    require(halo == "rgb(255, 255, 255)", f"the mark of a moment has {halo!r} round it, on bars as blue as it is")
     for name in ("windows-plot", "starts-plot"):
         require(found[name] and abs(found[name] * 37.5 - second) < 0.2, f"{name}: {found[name]}, {second} s")
+    halo = page.browser.value("getComputedStyle(document.querySelector('.moment')).stroke")
+    require(halo == "rgb(255, 255, 255)", f"the mark of a moment has {halo!r} round it, on bars as blue as it is")
     found = page.browser.value(f"{POINTED}('windows-plot', 0.9, ['pointermove'])")
     require(found["rounds-plot-this"] is None and found["starts-plot"] is not None, f"after the plan: {found}")
     page.browser.value(f"{POINTED}('rounds-plot-this', 0.4, ['pointerdown', 'pointermove', 'pointerup'])")

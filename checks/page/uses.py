@@ -9,7 +9,7 @@ import re
 import tempfile
 from fractions import Fraction
 
-from checks.lib.harness import drawn, draws
+from checks.lib.harness import drawn
 from checks.page import forecasts, kept, limits, links, looking, map, records, saves, shapes, told, worker
 from checks.page.acts import asked, read, require, spelled, typed
 from checks.page.cases import example
@@ -262,9 +262,7 @@ def without_units(found):
     return {**found, "rounds": [row[:3] + row[4:] for row in found["rounds"]], "predict": None, "notes": None}
 
 
-def check_units(page):
-    """Another unit of a control is the same amount; a decimal is the amount that it says."""
-    draw = draws("units")
+def check_same_amounts(page, draw):
     for name, units, some in (
         ("link", RATES, "64MiB"),
         ("downtime", TIMES, "300ms"),
@@ -286,6 +284,12 @@ def check_units(page):
             require(not differing, f"{name} {some} in {unit}: other {differing}")
         settled(page)
         require(amount_in(word_of(page, name)) == amount_in(some), word_of(page, name))
+
+
+def check_units(page):
+    """Another unit of a control is the same amount; a decimal is the amount that it says."""
+    for draw in drawn("units", range(1)):
+        check_same_amounts(page, draw)
     page.ask("trace=sqlite&link=1Gbit&downtime=300ms")
     require("--link 1.5Gbit" in typed(page, "link", "1.5")["predict"], "1.5 Gbit/s")
     require("--downtime 0.5ms" in typed(page, "downtime", "0.5")["predict"], "0.5 ms")

@@ -128,13 +128,6 @@ class Guest:
         return f"No memory is mapped at address {asked:#x}\r\n"
 
 
-def listening(path):
-    server = socket.socket(socket.AF_UNIX)
-    server.bind(path)
-    server.listen()
-    return server
-
-
 def serve(guest, server):
     while True:
         client, _ = server.accept()
@@ -154,7 +147,11 @@ def say(stream, message):
 def main(path, layout):
     ctypes.CDLL(None).prctl(SET_NAME, b"qemu-system-x86", 0, 0, 0)
     guest = Guest(json.loads(layout))
-    threading.Thread(target=serve, args=(guest, listening(path)), daemon=True).start()
+    # Whoever reads what is printed may connect.
+    server = socket.socket(socket.AF_UNIX)
+    server.bind(path)
+    server.listen()
+    threading.Thread(target=serve, args=(guest, server), daemon=True).start()
     told = {}
     while True:
         told["nodes"] = {node.name: [node.address, node.pages] for node in guest.all_nodes()}

@@ -10,6 +10,7 @@ in another place of each page.
 """
 
 import ctypes
+import errno
 import fcntl
 import mmap
 import os
@@ -21,6 +22,8 @@ ALIGNED = 2 << 20
 KINDS = {"private": mmap.MAP_PRIVATE, "shared": mmap.MAP_SHARED, "huge": mmap.MAP_PRIVATE}
 CALL_USERFAULTFD, API, REGISTER = 323, 0xC018AA3F, 0xC020AA00
 NO_NEW_PRIVILEGES, SECCOMP, FILTER = 38, 22, 2
+# The effect of a filtered system call: it kills the process, or fails as one that the kernel does not have.
+KILLS, IS_NONE = 0x80000000, 0x00050000 | errno.ENOSYS
 MAP_FIXED = 0x10
 LIBRARY = ctypes.CDLL(None, use_errno=True)
 LIBRARY.mmap.restype = ctypes.c_size_t
@@ -47,10 +50,10 @@ def mapped(kind, pages):
     return memory, begin, address + begin
 
 
-def filtered():
-    """From now on the system call userfaultfd kills this process: a filter of four instructions."""
+def filtered(effect=KILLS):
+    """From now on the system call userfaultfd has this effect: a filter of four instructions."""
     program = struct.pack("=HBBI", 0x20, 0, 0, 0) + struct.pack("=HBBI", 0x15, 0, 1, CALL_USERFAULTFD)
-    program += struct.pack("=HBBI", 0x06, 0, 0, 0x80000000) + struct.pack("=HBBI", 0x06, 0, 0, 0x7FFF0000)
+    program += struct.pack("=HBBI", 0x06, 0, 0, effect) + struct.pack("=HBBI", 0x06, 0, 0, 0x7FFF0000)
     text = ctypes.create_string_buffer(program, len(program))
     head = ctypes.create_string_buffer(struct.pack("@HP", 4, ctypes.addressof(text)))
     if LIBRARY.prctl(NO_NEW_PRIVILEGES, 1, 0, 0, 0) or LIBRARY.prctl(SECCOMP, FILTER, head, 0, 0):

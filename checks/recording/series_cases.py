@@ -330,6 +330,7 @@ NEED_WRITES = {
     nothing_lost,
     full_segments,
     full_from_the_first,
+    guest_of_a_series_ends,
     killed_twice,
     no_room_left,
     a_full_disk,

@@ -8,7 +8,7 @@ from dataclasses import replace
 from fractions import Fraction
 
 from checks.lib.amount_texts import error_text, moment_text, size_text, time_text
-from checks.lib.harness import draws
+from checks.lib.harness import drawn
 from checks.lib.tally import Failure, expect
 from checks.lib.view_texts import TOP, parsed, ran
 from checks.view.limit_cases import PLAIN, RATES, TIMES
@@ -33,27 +33,22 @@ def table():
     return [(kind, word, None if amount == "-" else int(amount)) for kind, word, amount in rows]
 
 
-def drawn():
-    """Random decimals in each unit: what they come to is worked out by fractions."""
-    draw = draws("quantities")
-    for kind, units in UNITS.items():
-        for _ in range(DRAWN):
+def quantities():
+    """The rows of the table, and random decimals in each unit: what they come to is worked out by fractions."""
+    yield from table()
+    for draw in drawn("quantities", range(DRAWN)):
+        for kind, units in UNITS.items():
             unit, places = draw.choice(sorted(units)), draw.randrange(7)
             whole = str(int(10 ** (draw.random() * 4)))
             word = whole + (f".{draw.randrange(10**places):0{places}}" if places else "")
             yield kind, f"{word}{unit}", math.floor(Fraction(word) * units[unit])
 
 
-def quantities():
-    return [*table(), *drawn()]
-
-
 def amounts():
     """Amounts on both sides of those at which a form changes, and random ones."""
-    draw = draws("amounts")
     edges = [*(10**power for power in range(10)), *(1 << power for power in (10, 20, 30, 40))]
-    some = (int(10 ** (draw.random() * 13)) for _ in range(DRAWN))
-    return sorted({*(edge + step for edge in edges for step in (-1, 0, 1)), *some})
+    yield from sorted({edge + step for edge in edges for step in (-1, 0, 1)})
+    yield from (int(10 ** (draw.random() * 13)) for draw in drawn("amounts", range(DRAWN)))
 
 
 def texts_of(amount):
@@ -104,7 +99,7 @@ def check_texts(_, __, amount):
 
 
 def quantity_tries(trace):
-    """Returns the tries of amounts, and those of words over a trace with pages of 4,096 bytes."""
-    tries = [(check_texts, amount) for amount in amounts()]
-    tries += [(check_tool, *row) for row in quantities()]
-    return tries + [(check_program, *row, trace) for row in quantities() if row[0] != "size"]
+    """The tries of amounts, and those of words over a trace with pages of 4,096 bytes."""
+    yield from ((check_texts, amount) for amount in amounts())
+    yield from ((check_tool, *row) for row in quantities())
+    yield from ((check_program, *row, trace) for row in quantities() if row[0] != "size")

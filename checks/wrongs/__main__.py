@@ -245,8 +245,8 @@ def check(tally, given):
         print("\n".join(map(str, chosen)))
         chosen = []
     with tally.case("each edit has its place, and each check at least three faults") as case:
-        for fault in FAULTS:
-            case.add(fault.name or text_of(fault), str(fault))
+        for part in (part for fault in FAULTS for part in fault.parts()):
+            case.add(part.name or text_of(part), str(part))
         counts = collections.Counter(fault.check for fault in FAULTS)
         checks = {name for name in os.listdir(os.path.dirname(HERE)) if os.path.isdir(os.path.join(HERE, "..", name))}
         few = [name for name in checks - {"lib", "wrongs", "__pycache__"} if counts[name] < LEAST]
