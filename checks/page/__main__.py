@@ -31,6 +31,7 @@ import tempfile
 from checks.lib.amount_texts import error_text, moment_text, size_text, time_text
 from checks.lib.harness import drawn, run_main
 from checks.lib.tally import drawn_from, has, left_out
+from checks.lib.traces import Trace
 from checks.lib.view_texts import TOP, Failure, ran, sweep_facts, told
 from checks.page import addresses, cases, enough, forecasts, loads
 from checks.page import looks as page_looks
