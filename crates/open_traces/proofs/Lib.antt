@@ -1,0 +1,3 @@
+pub mod NextPlaces
+pub mod RecordPlaces
+pub mod Opened
