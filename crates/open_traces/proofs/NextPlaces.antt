@@ -1,8 +1,8 @@
 -- Links between equal pages, made from the last page to the first.
-use Rattle.std.proofs.Common.{◌≡◌, ◌≢◌, ℕ, zero, suc, ◌+◌, ◌-◌, ◌<◌, ◌≤◌, Bool, true, false, cond, leb, ltb, eqb, List, []}
-use Rattle.std.proofs.Common.{◌∷◌, length, map, drop, get_or, set, replicate, inl, inr, refl, sym, ap, subst, ◌∙◌, arith}
-use Rattle.std.specs.List.{All, enumerate_from, filter}
-use Rattle.std.proofs.lemmas.Bool.{cases_eq, cases_order, cond-true, cond-false, eq-eqb, ne_eqb}
+use Rattle.std.proofs.Common.{◌≡◌, ℕ, ◌+◌, ◌<◌, Bool, true, false, cond, ltb, eqb, List, []}
+use Rattle.std.proofs.Common.{◌∷◌, length, drop, get_or, set, replicate, inl, inr, refl, sym, ap, ◌∙◌, arith}
+use Rattle.std.specs.List.{enumerate_from, filter}
+use Rattle.std.proofs.lemmas.Bool.{cases_eq, cond-true, cond-false, eq-eqb, ne_eqb}
 use Rattle.std.proofs.lemmas.List.{drop_all, drop_more, get_or-replicate, get_or-set_other, get_or-set_same, get_or_default}
 use Rattle.std.proofs.lemmas.List.{length-replicate, length-set}
 use Rattle.migration_model.proofs.Places.{from, from_is}
@@ -152,21 +152,21 @@ linked_nexts trace pages nexts firsts pages_are linked =
     let count : length pages ≡ length trace.writes = ap length pages_are ∙ length-map trace.writes page in
     let size : length nexts ≡ length (nexts_of trace) = linked.len ∙ count ∙ sym (length-nexts trace) in
     same_lists nexts (nexts_of trace) size (λ n d low.
-        let inside : n < length pages = omega (arith, low, linked.len) in
-        let within : n < length trace.writes = omega (arith, inside, count) in
-        let own : get_or pages n 0 ≡ (get_or trace.writes n no_write).page =
-        ap (λ (l : List ℕ). get_or l n 0) pages_are ∙ get_or-map page trace.writes n no_write 0 within in
-        let one : n + 1 ≡ 1 + n = omega arith in
-        get_or_default nexts n d 0 low ∙ linked.each n (omega arith) inside
-        ∙ (λ i. next_in (pages_are i) (own i) (one i))
-        ∙ next_of trace (get_or trace.writes n no_write).page (1 + n)
-        ∙ sym (get_or-nexts trace n d within))
+    let inside : n < length pages = omega (arith, low, linked.len) in
+    let within : n < length trace.writes = omega (arith, inside, count) in
+    let own : get_or pages n 0 ≡ (get_or trace.writes n no_write).page =
+    ap (λ (l : List ℕ). get_or l n 0) pages_are ∙ get_or-map page trace.writes n no_write 0 within in
+    let one : n + 1 ≡ 1 + n = omega arith in
+    get_or_default nexts n d 0 low ∙ linked.each n (omega arith) inside
+    ∙ (λ i. next_in (pages_are i) (own i) (one i))
+    ∙ next_of trace (get_or trace.writes n no_write).page (1 + n)
+    ∙ sym (get_or-nexts trace n d within))
 
 pub linked_firsts : (trace : GuestTrace) (pages nexts firsts : List ℕ) → pages ≡ pages_of trace.writes
     → length firsts ≡ trace.pages → AreLinked pages 0 nexts firsts → firsts ≡ firsts_of trace
 linked_firsts trace pages nexts firsts pages_are len linked =
     same_lists firsts (firsts_of trace) (len ∙ sym (length-firsts trace)) (λ page d low.
-        let within : page < trace.pages = omega (arith, low, len) in
-        get_or_default firsts page d 0 low ∙ linked.first page low
-        ∙ ap (λ (l : List ℕ). next_in l page 0) pages_are ∙ next_of trace page 0
-        ∙ sym (get_or-firsts trace page d within))
+    let within : page < trace.pages = omega (arith, low, len) in
+    get_or_default firsts page d 0 low ∙ linked.first page low
+    ∙ ap (λ (l : List ℕ). next_in l page 0) pages_are ∙ next_of trace page 0
+    ∙ sym (get_or-firsts trace page d within))

@@ -194,8 +194,7 @@ pub ArePut-all : (writes : List GuestWrite) (count begin : ℕ) (begins pages : 
     → (begins ≡ begins_of writes) × (pages ≡ map (λ (w : GuestWrite). w.page) writes)
 ArePut-all writes count begin begins pages at =
     let all : length writes ≤ count = omega (arith, ap length at.left_is, length-drop count writes) in
-    let page : GuestWrite → ℕ = λ w. w.page in
-    (
+    let page : GuestWrite → ℕ = λ w. w.page in (
       same_lists begins (begins_of writes) (at.begins_len ∙ sym (length-begins writes)) (λ n d low.
           let inside : n < length writes = omega (arith, low, at.begins_len) in
           get_or_default begins n d 0 low ∙ at.begin_each n (omega (arith, inside, all))

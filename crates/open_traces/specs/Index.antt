@@ -1,10 +1,10 @@
 -- The index of a trace that is read in place: where its records are, and how the writes to a page follow one another.
 -- This project's own.
-use Rattle.std.specs.Prelude.{◌≡◌, ℕ, ◌+◌, ◌-◌, ◌==◌, ◌<◌, ◌≤◌, ◌++◌, List, length, map, nat_lt, slice_index, slice_index_or, take}
+use Rattle.std.specs.Prelude.{◌≡◌, ℕ, ◌+◌, ◌==◌, ◌<◌, ◌≤◌, ◌++◌, List, length, map, nat_lt, slice_index, slice_index_or, take}
 use Rattle.std.specs.List.{enumerate_from, filter, flat_map, range_with_len}
 use Rattle.migration_model.specs.Trace.{GuestTrace, GuestWrite, Spells, write_text}
 use Rattle.guest_log.specs.declared.shape.Header.{Header}
-use Rattle.page_versions.specs.Index.{places_of}
+use Rattle.page_versions.specs.Index.{places_of, version_after}
 
 -- where in the bytes of a trace the record of each write begins: behind the header and the earlier records
 abbrev pub begins_of : List GuestWrite → List ℕ
@@ -55,6 +55,10 @@ pub record IsOpenAs (trace : GuestTrace) (bytes begins pages nexts firsts : List
   pub pages_are : pages ≡ pages_of trace.writes
   pub nexts_are : nexts ≡ nexts_of trace
   pub firsts_are : firsts ≡ firsts_of trace
+
+-- the versions of all pages after the first `count` writes, page by page
+abbrev pub versions_at : GuestTrace → ℕ → List ℕ
+versions_at trace count = map (λ page. version_after trace page count) (range_with_len 0 trace.pages)
 
 -- ---- links over pages alone
 

@@ -5,5 +5,6 @@
 mod links;
 mod open_trace;
 mod records;
+mod walks;
 
 pub use open_trace::{OpenTrace, index_length, put_index};
