@@ -13,3 +13,4 @@ pub mod StreamChecks
 pub mod Pieces
 pub mod PieceRuns
 pub mod Places
+pub mod Opened
