@@ -31,6 +31,7 @@ from ._calls import LIBRARY as _LIBRARY
 from ._calls import lent as _lent
 from ._calls import number as _number
 from ._interface import Status
+from ._open_traces import OpenTrace
 from ._predictions import Agreement, Amounts, Errors, Prediction, Question, Reason, Verdict, agreement, enough, predict
 from ._refusals import (
     BufferRefused,
@@ -52,7 +53,7 @@ from ._streams import Finding, StreamCheck, check_streams, writes_before
 
 __all__ = [
     "Agreement", "Amounts", "BufferRefused", "Errors", "Finding", "FlatMemory", "Frame", "FrameRefused", "NoMemory",
-    "Overlap", "PlaceRefused", "Prediction", "Question", "QuestionRefused", "Reason", "Refused", "Round", "Settings",
+    "OpenTrace", "Overlap", "PlaceRefused", "Prediction", "Question", "QuestionRefused", "Reason", "Refused", "Round", "Settings",
     "SettingsRefused", "Sizes", "Status", "StreamCheck", "Sums", "Taken", "TraceRefused", "Verdict", "Write",
     "agreement", "check_settings", "check_streams", "check_trace", "decode_frame", "encode_frame", "enough", "is_zero",
     "memory", "memory_before", "memory_step", "page_at", "page_writes", "plan", "predict", "report", "rounds", "sweep",
