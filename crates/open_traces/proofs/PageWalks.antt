@@ -1,11 +1,13 @@
 -- A page on the way along its own writes.
-use Rattle.std.proofs.Common.{◌≡◌, ◌≢◌, ◌⊎◌, ℕ, suc, ◌+◌, ◌-◌, ◌^◌, ◌<◌, ◌≤◌, Bool, true, false, leb, ltb, eqb, List, []}
-use Rattle.std.proofs.Common.{◌∷◌, length, map, drop, get_or, max, replicate, set, inl, inr, refl, sym, ap, subst, ◌∙◌, arith}
+use Rattle.std.proofs.Common.{◌≡◌, ◌≢◌, ◌⊎◌, ℕ, suc, ◌+◌, ◌-◌, ◌^◌, ◌<◌, ◌≤◌, Bool, true, false, cond, leb, ltb, eqb, List}
+use Rattle.std.proofs.Common.{[], ◌∷◌, ◌++◌, length, map, take, drop, get_or, max, replicate, set, inl, inr, refl, sym, ap, subst, ◌∙◌, arith}
 use Rattle.std.specs.List.{All, filter, fold, range_with_len}
-use Rattle.std.proofs.lemmas.Bool.{cases_eq, cond-true, cond-false, cond_both, eqb-true, le-leb, lt-leb}
+use Rattle.std.proofs.lemmas.Bool.{cases_eq, cond-true, cond-false, cond_both, eq-eqb, eqb-true, le-leb, lt-leb, ne_eqb}
 use Rattle.std.proofs.lemmas.List.{drop-drop, get_or-drop, get_or-map, get_or-set_other, get_or-set_same, get_or_default}
-use Rattle.std.proofs.lemmas.List.{length-drop, length-map, length-set, same_lists}
-use Rattle.std.proofs.lemmas.List.Elements.{All-head, All-nil, All-weaker}
+use Rattle.std.proofs.lemmas.List.{append-nil, get_or-replicate, length-drop, length-map, length-replicate, length-set, same_lists}
+use Rattle.std.proofs.lemmas.List.{length-take-le, take_all, take_more}
+use Rattle.std.proofs.lemmas.List.Sums.{fold-append}
+use Rattle.std.proofs.lemmas.List.Elements.{All-head, All-nil, All-tail, All-weaker}
 use Rattle.std.proofs.lemmas.List.FromFn.{get_or-range_with_len, length-range_with_len}
 use Rattle.migration_model.specs.Memory.{bytes_put, put}
 use Rattle.migration_model.specs.Touches.{touches_of}
@@ -17,7 +19,7 @@ use Rattle.guest_log.specs.Writes.{no_write}
 use Rattle.page_versions.specs.Index.{index_with, places_of, version_after}
 use Rattle.page_versions.specs.Pages.{overwrite, write_at}
 use Rattle.page_versions.proofs.Later.{later_page}
-use Rattle.page_versions.proofs.Places.{bounds, filter_none, places_of_is, places_past, same_places}
+use Rattle.page_versions.proofs.Places.{bounds, filter_none, places_of_is, places_past, places_upto, same_places}
 use Rattle.open_traces.specs.Index.{next_after, versions_at}
 
 -- the places of a page behind a place
@@ -251,36 +253,122 @@ write_fits trace next write is some low at =
 
 -- ---- the versions of all pages
 
--- those of the first pages are put
-pub record ArePutTo (trace : GuestTrace) (count pages : ℕ) (versions : List ℕ) : Type 0 where
-  pub len : length versions ≡ trace.pages
-  pub each : (page : ℕ) → page < pages → get_or versions page 0 ≡ version_after trace page count
+from_push : {X : Type 0} (q : X → Bool) (s : ℕ) (xs : List X) (x : X)
+    → from q s (xs ++ x ∷ []) ≡ from q s xs ++ cond (q x) ((s + length xs) ∷ []) []
+from_push q s [] x =
+    let here : s ≡ s + 0 = omega arith in
+    ap (λ (k : ℕ). cond (q x) (k ∷ []) []) here
+from_push q s (y ∷ xs) x =
+    let next : s + 1 + length xs ≡ s + suc (length xs) = omega arith in
+    let last : List ℕ = cond (q x) ((s + suc (length xs)) ∷ []) [] in
+    ap (λ (l : List ℕ). cond (q y) (s ∷ l) l)
+    (from_push q (s + 1) xs x ∙ ap (λ (k : ℕ). from q (s + 1) xs ++ cond (q x) (k ∷ []) []) next)
+    ∙ cond-append (q y) s (from q (s + 1) xs) last
+  where
+    cond-append : (b : Bool) (k : ℕ) (l more : List ℕ) → cond b (k ∷ l ++ more) (l ++ more) ≡ cond b (k ∷ l) l ++ more
+    cond-append true k l more = refl
+    cond-append false k l more = refl
 
-pub ArePutTo-next : (trace : GuestTrace) (count page version : ℕ) (versions : List ℕ)
-    → ArePutTo trace count page versions → page < trace.pages → version ≡ version_after trace page count
-    → ArePutTo trace count (page + 1) (set versions page version)
-ArePutTo-next trace count page version versions at low is = record {
-  len = length-set versions page version ∙ at.len;
-  each = λ other inside. elim (cases_eq other page) [
-    | inl same ↦
-        ap (λ (k : ℕ). get_or (set versions page version) k 0) same
-        ∙ get_or-set_same versions page version 0 (omega (arith, low, at.len)) ∙ is
-        ∙ sym (ap (λ (k : ℕ). version_after trace k count) same)
-    | inr apart ↦
-        get_or-set_other versions page other version 0 apart ∙ at.each other (omega (arith, inside, apart))
-  ];
+greatest_low : (least most : ℕ) (l : List ℕ) → least ≤ most → All (λ v. v ≤ most) l → fold max least l ≤ most
+greatest_low least most [] low all = low
+greatest_low least most (v ∷ l) low all =
+    let here = All-head (λ (v : ℕ). v ≤ most) v l all in
+    greatest_low (max least v) most l (omega (arith, low, here)) (All-tail (λ (v : ℕ). v ≤ most) v l all)
+
+version_is : (trace : GuestTrace) (page count : ℕ) → version_after trace page count
+    ≡ fold max 0 (from (λ (w : GuestWrite). eqb w.page page) 1 (take count trace.writes))
+version_is trace page count =
+    ap (fold max 0) (ap (filter (λ (v : ℕ). leb v count)) (places_of_is trace page)
+    ∙ places_upto (λ (w : GuestWrite). eqb w.page page) 1 trace.writes count count (omega arith))
+
+-- one more write counts, if it is to the page
+version_next : (trace : GuestTrace) (page place : ℕ) (write : GuestWrite) → place < length trace.writes
+    → write ≡ get_or trace.writes place write → version_after trace page (place + 1)
+    ≡ cond (eqb write.page page) (place + 1) (version_after trace page place)
+version_next trace page place write low at =
+    let q : GuestWrite → Bool = λ w. eqb w.page page in
+    let front : List GuestWrite = take place trace.writes in
+    let places : List ℕ = from q 1 front in
+    let size : length front ≡ place = length-take-le place trace.writes (omega (arith, low)) in
+    let one : 1 + length front ≡ place + 1 = omega (arith, size) in
+    let most : fold max 0 places ≤ place + 1 = greatest_low 0 (place + 1) places (omega arith)
+    (All-weaker (λ (v : ℕ). (1 ≤ v) × (v < 1 + length front)) (λ (v : ℕ). v ≤ place + 1)
+    (λ v b. omega (arith, b.1, size)) places (bounds q 1 front)) in
+    version_is trace page (place + 1)
+    ∙ ap (λ (l : List GuestWrite). fold max 0 (from q 1 l))
+    (take_more trace.writes place write low ∙ ap (λ (w : GuestWrite). front ++ w ∷ []) (sym at))
+    ∙ ap (fold max 0) (from_push q 1 front write)
+    ∙ last (q write) (1 + length front) (place + 1) places one most
+    ∙ ap (cond (q write) (place + 1)) (sym (version_is trace page place))
+  where
+    last : (b : Bool) (n k : ℕ) (l : List ℕ) → n ≡ k → fold max 0 l ≤ k
+        → fold max 0 (l ++ cond b (n ∷ []) []) ≡ cond b k (fold max 0 l)
+    last true n k l same most =
+        let larger : max (fold max 0 l) n ≡ k = omega (arith, same, most) in
+        fold-append max 0 l (n ∷ []) ∙ larger
+    last false n k l same most = ap (fold max 0) (append-nil l)
+
+-- all writes count, and no more
+version_all : (trace : GuestTrace) (page count place : ℕ) → place ≡ length trace.writes → place ≤ count
+    → version_after trace page place ≡ version_after trace page count
+version_all trace page count place all low =
+    let q : GuestWrite → Bool = λ w. eqb w.page page in
+    version_is trace page place
+    ∙ ap (λ (l : List GuestWrite). fold max 0 (from q 1 l))
+    (take_all place trace.writes (omega (arith, all)) ∙ sym (take_all count trace.writes (omega (arith, all, low))))
+    ∙ sym (version_is trace page count)
+
+-- those after the first `place` writes are put
+pub record ArePutTo (trace : GuestTrace) (place : ℕ) (versions : List ℕ) : Type 0 where
+  pub len : length versions ≡ trace.pages
+  pub each : (page : ℕ) → page < trace.pages → get_or versions page 0 ≡ version_after trace page place
+
+pub ArePutTo-none : (trace : GuestTrace) (versions room : List ℕ) → length room ≡ trace.pages
+    → versions ≡ replicate (length room) 0 → ArePutTo trace 0 versions
+ArePutTo-none trace versions room len zeros = record {
+  len = ap length zeros ∙ length-replicate (length room) 0 ∙ len;
+  each = λ page low.
+      ap (λ (l : List ℕ). get_or l page 0) zeros ∙ get_or-replicate (length room) page 0 0 (omega (arith, low, len))
+      ∙ sym (version_is trace page 0);
 }
 
-pub ArePutTo-all : (trace : GuestTrace) (count pages : ℕ) (versions : List ℕ) → ArePutTo trace count pages versions
-    → trace.pages ≤ pages → versions ≡ versions_at trace count
-ArePutTo-all trace count pages versions at all =
+pub ArePutTo-next : (trace : GuestTrace) (place own stamp : ℕ) (versions : List ℕ) → ArePutTo trace place versions
+    → place < length trace.writes → own ≡ (get_or trace.writes place no_write).page → own < trace.pages
+    → stamp ≡ place + 1 → ArePutTo trace (place + 1) (set versions own stamp)
+ArePutTo-next trace place own stamp versions at low own_is fits is = record {
+  len = length-set versions own stamp ∙ at.len;
+  each = λ page inside.
+      let write : GuestWrite = get_or trace.writes place no_write in
+      let next = version_next trace page place write low (get_or_default trace.writes place no_write write low) in
+      elim (cases_eq page own) [
+        | inl same ↦
+            ap (λ (k : ℕ). get_or (set versions own stamp) k 0) same
+            ∙ get_or-set_same versions own stamp 0 (omega (arith, fits, at.len)) ∙ is
+            ∙ sym (cond-true (eqb write.page page) (place + 1) (version_after trace page place)
+            (eq-eqb write.page page (sym own_is ∙ sym same)))
+            ∙ sym next
+        | inr apart ↦
+            get_or-set_other versions own page stamp 0 apart ∙ at.each page inside
+            ∙ sym (cond-false (eqb write.page page) (place + 1) (version_after trace page place)
+            (ne_eqb write.page page (λ e. apart (sym e ∙ sym own_is))))
+            ∙ sym next
+      ];
+}
+
+pub ArePutTo-all : (trace : GuestTrace) (count place : ℕ) (versions : List ℕ) → ArePutTo trace place versions
+    → (place ≡ count) ⊎ ((place ≡ length trace.writes) × (place ≤ count)) → versions ≡ versions_at trace count
+ArePutTo-all trace count place versions at end =
     let range : List ℕ = range_with_len 0 trace.pages in
     let version : ℕ → ℕ = λ page. version_after trace page count in
     let size : length range ≡ trace.pages = length-range_with_len 0 trace.pages in
+    let last : (page : ℕ) → version_after trace page place ≡ version_after trace page count = λ page. elim end [
+      | inl same ↦ ap (version_after trace page) same
+      | inr all ↦ version_all trace page count place all.0 all.1
+    ] in
     same_lists versions (map version range) (at.len ∙ sym (length-map range version ∙ size))
     (λ page d low.
     let inside : page < trace.pages = omega (arith, low, at.len) in
     let own : 0 + page ≡ page = omega arith in
-    get_or_default versions page d 0 low ∙ at.each page (omega (arith, inside, all))
+    get_or_default versions page d 0 low ∙ at.each page inside ∙ last page
     ∙ sym (get_or-map version range page 0 d (omega (arith, size, inside))
     ∙ ap version (get_or-range_with_len 0 trace.pages page 0 inside ∙ own)))

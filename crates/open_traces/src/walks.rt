@@ -31,10 +31,10 @@ impl<'a> OpenTrace<'a> {
         requires { length versions.old ≡ self.now.pages }
         ensures { versions.new ≡ versions_at self.now count }
     {
-        // For the proof: `shape` promises that there are at most 65,536 pages.
-        let _ = self.shape();
-        for page in 0..versions.len() {
-            versions[page] = self.version_after(page as u32, count);
+        let shape = self.shape();
+        versions.fill(0);
+        for place in 0..count.min(shape.writes) {
+            versions[self.page(place + 1) as usize] = place + 1;
         }
     }
 

@@ -1,5 +1,5 @@
 use Rattle.open_traces.proofs.PageWalks.{ArePutTo}
 use Rattle.open_traces.proofs.open_trace.OpenTrace.put_versions.Given as goal
 
-abbrev pub invariant-loop-page : goal.invariant-loop-page
-invariant-loop-page l = ArePutTo l.self l.count l.page l.versions
+abbrev pub invariant-loop-place : goal.invariant-loop-place
+invariant-loop-place l = ArePutTo l.self l.place l.versions
