@@ -39,7 +39,8 @@ pub shows : (trace : GuestTrace) (version shift pages count : ℕ) (bytes : List
     → version ≡ trace.version → shift ≡ trace.shift → pages ≡ trace.pages → count ≡ length trace.writes
     → held_trace version shift pages count bytes ≡ trace
 shows trace version shift pages count bytes spells version_is shift_is pages_is count_is =
-    let writes = ap (λ (n : ℕ). writes_in n (drop 16 bytes)) count_is ∙ (spelling_reads_back bytes trace spells).writes in
+    let read = spelling_reads_back bytes trace spells in
+    let writes = ap (λ (n : ℕ). writes_in n (drop 16 bytes)) count_is ∙ read.writes in
     λ i. trace_with (version_is i) (shift_is i) (pages_is i) (writes i)
 
 -- so it is the trace whose index this is

@@ -1,10 +1,14 @@
 -- A page on the way along its own writes.
-use Rattle.std.proofs.Common.{◌≡◌, ◌≢◌, ◌⊎◌, ℕ, suc, ◌+◌, ◌-◌, ◌^◌, ◌<◌, ◌≤◌, Bool, true, false, cond, leb, ltb, eqb, List}
-use Rattle.std.proofs.Common.{[], ◌∷◌, ◌++◌, length, map, take, drop, get_or, max, replicate, set, inl, inr, refl, sym, ap, subst, ◌∙◌, arith}
+use Rattle.std.proofs.Common.{◌≡◌, ◌≢◌, ◌⊎◌, ℕ, suc, ◌+◌, ◌-◌, ◌^◌, ◌<◌, ◌≤◌, Bool, true, false, cond, leb, ltb, eqb}
+use Rattle.std.proofs.Common.{List}
+use Rattle.std.proofs.Common.{[], ◌∷◌, ◌++◌, length, map, take, drop, get_or, max, replicate, set, inl, inr, refl, sym}
+use Rattle.std.proofs.Common.{ap, subst, ◌∙◌, arith}
 use Rattle.std.specs.List.{All, filter, fold, range_with_len}
 use Rattle.std.proofs.lemmas.Bool.{cases_eq, cond-true, cond-false, cond_both, eq-eqb, eqb-true, le-leb, lt-leb, ne_eqb}
-use Rattle.std.proofs.lemmas.List.{drop-drop, get_or-drop, get_or-map, get_or-set_other, get_or-set_same, get_or_default}
-use Rattle.std.proofs.lemmas.List.{append-nil, get_or-replicate, length-drop, length-map, length-replicate, length-set, same_lists}
+use Rattle.std.proofs.lemmas.List.{drop-drop, get_or-drop, get_or-map, get_or-set_other, get_or-set_same}
+use Rattle.std.proofs.lemmas.List.{get_or_default}
+use Rattle.std.proofs.lemmas.List.{append-nil, get_or-replicate, length-drop, length-map, length-replicate, length-set}
+use Rattle.std.proofs.lemmas.List.{same_lists}
 use Rattle.std.proofs.lemmas.List.{length-take-le, take_all, take_more}
 use Rattle.std.proofs.lemmas.List.Sums.{fold-append}
 use Rattle.std.proofs.lemmas.List.Elements.{All-head, All-nil, All-tail, All-weaker}
@@ -176,7 +180,8 @@ Reached-all trace page version count next at end =
 page_between : (trace : GuestTrace) (page earlier later : ℕ) (places : List ℕ) → IsTrace trace → page < trace.pages
     → earlier ≤ later → earlier ≤ length trace.writes
     → filter (λ (v : ℕ). leb v later) (behind trace page earlier) ≡ places
-    → fold (λ bytes place. overwrite trace.shift bytes (write_at trace.writes place)) (page_at trace page earlier) places
+    → fold (λ bytes place. overwrite trace.shift bytes (write_at trace.writes place)) (page_at trace page earlier)
+    places
     ≡ page_at trace page later
 page_between trace page earlier later places is low rise within same =
     let step : List ℕ → ℕ → List ℕ = λ bytes place. overwrite trace.shift bytes (write_at trace.writes place) in
@@ -203,7 +208,8 @@ Turned-none trace page count next room bytes low is size zeros = record {
       (All-nil (IsGuestWrite trace.version trace.shift trace.pages)));
 }
 
-pub Turned-len : (trace : GuestTrace) (page count version next : ℕ) (bytes : List ℕ) → IsTrace trace → page < trace.pages
+pub Turned-len : (trace : GuestTrace) (page count version next : ℕ) (bytes : List ℕ) → IsTrace trace
+    → page < trace.pages
     → Turned trace page count version next bytes → length bytes ≡ 2 ^ trace.shift
 Turned-len trace page count version next bytes is low at = ap length at.bytes_are
     ∙ length-page_at trace page version is low
@@ -214,7 +220,8 @@ pub Turned-is : (trace : GuestTrace) (page count version next : ℕ) (bytes : Li
 Turned-is trace page count version next bytes at some = IsNext-from trace page version next at.is some at.within
 
 pub Turned-next : (trace : GuestTrace) (page count version next after : ℕ) (bytes new : List ℕ)
-    (write : GuestWrite) → IsTrace trace → page < trace.pages → Turned trace page count version next bytes → next ≢ 0 → next ≤ count
+    (write : GuestWrite) → IsTrace trace → page < trace.pages → Turned trace page count version next bytes → next ≢ 0
+    → next ≤ count
     → write ≡ get_or trace.writes (next - 1) no_write
     → new ≡ put bytes write.offset (bytes_put trace.shift write) → after ≡ next_after trace page next
     → Turned trace page count next after new
@@ -236,7 +243,8 @@ Turned-next trace page count version next after bytes new write is low before so
     }
 
 pub Turned-all : (trace : GuestTrace) (page count version next : ℕ) (bytes : List ℕ) → IsTrace trace
-    → page < trace.pages → Turned trace page count version next bytes → (next ≡ 0) ⊎ (count < next) → bytes ≡ page_at trace page count
+    → page < trace.pages → Turned trace page count version next bytes → (next ≡ 0) ⊎ (count < next)
+    → bytes ≡ page_at trace page count
 Turned-all trace page count version next bytes is low at end =
     at.bytes_are
     ∙ page_between trace page version count [] is low at.early at.within

@@ -1,6 +1,7 @@
 -- The index of a trace that is read in place: where its records are, and how the writes to a page follow one another.
 -- This project's own.
-use Rattle.std.specs.Prelude.{◌≡◌, ℕ, ◌+◌, ◌==◌, ◌<◌, ◌≤◌, ◌++◌, List, length, map, nat_lt, slice_index, slice_index_or, take}
+use Rattle.std.specs.Prelude.{◌≡◌, ℕ, ◌+◌, ◌==◌, ◌<◌, ◌≤◌, ◌++◌, List, length, map, nat_lt, slice_index}
+use Rattle.std.specs.Prelude.{slice_index_or, take}
 use Rattle.std.specs.List.{enumerate_from, filter, flat_map, range_with_len}
 use Rattle.migration_model.specs.Trace.{GuestTrace, GuestWrite, Spells, write_text}
 use Rattle.guest_log.specs.declared.shape.Header.{Header}

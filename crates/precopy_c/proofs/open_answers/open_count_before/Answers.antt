@@ -8,4 +8,5 @@ returns-clause-count c = count_at c.args.trace.now c.args.tick c.before-count.re
 
 pub returns-clause-memory : goal.returns-clause-memory
 returns-clause-memory c = image_after_count c.args.trace.now c.args.tick c.before-count.result c.shape.ensures.is_trace
-    (count_at c.args.trace.now c.args.tick c.before-count.result c.before-count.ensures.bound c.before-count.ensures.point)
+    (count_at c.args.trace.now c.args.tick c.before-count.result c.before-count.ensures.bound
+    c.before-count.ensures.point)
