@@ -155,8 +155,8 @@ const char *precopy_strerror(uint32_t status);
  *
  * If the buffer is shorter, it returns PRECOPY_SHORT_BUFFER and writes only *needed. It takes no memory.
  */
-PRECOPY_ANSWERS PRECOPY_NOT_NULL(5) uint32_t
-    precopy_refusal_text(uint32_t cause, uint32_t record, uint8_t *text, size_t text_length, size_t *needed);
+PRECOPY_ANSWERS PRECOPY_NOT_NULL(5)
+uint32_t precopy_refusal_text(uint32_t cause, uint32_t record, uint8_t *text, size_t text_length, size_t *needed);
 
 struct precopy_finding;
 
@@ -165,9 +165,9 @@ struct precopy_finding;
  * be, the line about the status, and the write that is missing. With a status that is no finding of streams it is
  * precopy_refusal_text without a record. Otherwise like that.
  */
-PRECOPY_ANSWERS PRECOPY_NOT_NULL(2, 5) uint32_t
-    precopy_finding_text(uint32_t status, const struct precopy_finding *found, uint8_t *text, size_t text_length,
-                         size_t *needed);
+PRECOPY_ANSWERS PRECOPY_NOT_NULL(2, 5)
+uint32_t precopy_finding_text(uint32_t status, const struct precopy_finding *found, uint8_t *text, size_t text_length,
+                              size_t *needed);
 
 /* The version of the library that is linked, as "1.2.3". The text stays. */
 const char *precopy_version(void);
@@ -188,12 +188,13 @@ struct precopy_sizes {
 /*
  * Tests the bytes of a trace, and sets *sizes. Of several causes the first is returned. It takes no memory.
  */
-PRECOPY_ANSWERS PRECOPY_NOT_NULL(3, 4) uint32_t
-    precopy_check_trace(const uint8_t *trace, size_t trace_length, struct precopy_sizes *sizes, uint32_t *record);
+PRECOPY_ANSWERS PRECOPY_NOT_NULL(3, 4)
+uint32_t precopy_check_trace(const uint8_t *trace, size_t trace_length, struct precopy_sizes *sizes, uint32_t *record);
 
 /* Sets *count to the number of writes before a tick: those with a lower tick. It takes no memory. */
-PRECOPY_ANSWERS PRECOPY_NOT_NULL(4, 5) uint32_t
-    precopy_writes_before(const uint8_t *trace, size_t trace_length, uint64_t tick, uint32_t *count, uint32_t *record);
+PRECOPY_ANSWERS PRECOPY_NOT_NULL(4, 5)
+uint32_t precopy_writes_before(const uint8_t *trace, size_t trace_length, uint64_t tick, uint32_t *count,
+                               uint32_t *record);
 
 /* ---- plans */
 
@@ -214,8 +215,7 @@ struct precopy_settings {
 };
 
 /* Settings to begin with: those that the program precopy uses if no option is given. */
-#define PRECOPY_SETTINGS_DEFAULT                                                                                       \
-    { sizeof(struct precopy_settings), 1000, 5000, 500, 64, 30, 0, 1000, 2, 0, 0, 0 }
+#define PRECOPY_SETTINGS_DEFAULT {sizeof(struct precopy_settings), 1000, 5000, 500, 64, 30, 0, 1000, 2, 0, 0, 0}
 
 /* Why pre-copying ends. */
 enum precopy_reason {
@@ -244,16 +244,17 @@ struct precopy_round {
 };
 
 /* Tests settings: returns PRECOPY_OK, or why the first bad one is refused. It takes no memory. */
-PRECOPY_ANSWERS PRECOPY_NOT_NULL(1) uint32_t precopy_check_settings(const struct precopy_settings *settings);
+PRECOPY_ANSWERS PRECOPY_NOT_NULL(1)
+uint32_t precopy_check_settings(const struct precopy_settings *settings);
 
 /*
  * Plans the migration of a trace, and writes the plan's sums into *sums.
  *
  * It takes 16 bytes for each write, and 8 for each page of each round.
  */
-PRECOPY_ANSWERS PRECOPY_NOT_NULL(3, 4, 5) uint32_t
-    precopy_plan(const uint8_t *trace, size_t trace_length, const struct precopy_settings *settings,
-                 struct precopy_sums *sums, uint32_t *record);
+PRECOPY_ANSWERS PRECOPY_NOT_NULL(3, 4, 5)
+uint32_t precopy_plan(const uint8_t *trace, size_t trace_length, const struct precopy_settings *settings,
+                      struct precopy_sums *sums, uint32_t *record);
 
 /*
  * Plans the migration of a trace, and writes its rounds into an array, in order. *count is how many there are.
@@ -261,9 +262,9 @@ PRECOPY_ANSWERS PRECOPY_NOT_NULL(3, 4, 5) uint32_t
  * If the array has fewer elements, it returns PRECOPY_SHORT_BUFFER and writes only *count. There are at most 64 rounds.
  * It takes memory as precopy_plan does.
  */
-PRECOPY_ANSWERS PRECOPY_NOT_NULL(3, 6, 7) uint32_t
-    precopy_rounds(const uint8_t *trace, size_t trace_length, const struct precopy_settings *settings,
-                   struct precopy_round *rounds, size_t rounds_length, size_t *count, uint32_t *record);
+PRECOPY_ANSWERS PRECOPY_NOT_NULL(3, 6, 7)
+uint32_t precopy_rounds(const uint8_t *trace, size_t trace_length, const struct precopy_settings *settings,
+                        struct precopy_round *rounds, size_t rounds_length, size_t *count, uint32_t *record);
 
 /*
  * At least as many bytes as the report on a trace of this length has, as a constant if the length is one. A write has
@@ -286,9 +287,9 @@ PRECOPY_ANSWERS PRECOPY_NOT_NULL(3, 6, 7) uint32_t
  * buffer of PRECOPY_REPORT_BOUND(trace_length) bytes is never too short, so with it one call does. It takes memory as
  * precopy_plan does, and for the text.
  */
-PRECOPY_ANSWERS PRECOPY_NOT_NULL(3, 6, 7) uint32_t
-    precopy_report(const uint8_t *trace, size_t trace_length, const struct precopy_settings *settings, uint8_t *text,
-                   size_t text_length, size_t *needed, uint32_t *record);
+PRECOPY_ANSWERS PRECOPY_NOT_NULL(3, 6, 7)
+uint32_t precopy_report(const uint8_t *trace, size_t trace_length, const struct precopy_settings *settings,
+                        uint8_t *text, size_t text_length, size_t *needed, uint32_t *record);
 
 /*
  * Plans the migration of a trace with each of some settings. sums[i] are the sums of the plan of cases[i]. *best is the
@@ -299,9 +300,10 @@ PRECOPY_ANSWERS PRECOPY_NOT_NULL(3, 6, 7) uint32_t
  * as cases. It refuses the first case that is out of range; precopy_check_settings finds which that is. It takes 20
  * bytes for each write, and memory for each case.
  */
-PRECOPY_ANSWERS PRECOPY_NOT_NULL(7, 8) uint32_t
-    precopy_sweep(const uint8_t *trace, size_t trace_length, const struct precopy_settings *cases, size_t cases_length,
-                  struct precopy_sums *sums, size_t sums_length, size_t *best, uint32_t *record);
+PRECOPY_ANSWERS PRECOPY_NOT_NULL(7, 8)
+uint32_t precopy_sweep(const uint8_t *trace, size_t trace_length, const struct precopy_settings *cases,
+                       size_t cases_length, struct precopy_sums *sums, size_t sums_length, size_t *best,
+                       uint32_t *record);
 
 /* ---- predictions */
 
@@ -334,7 +336,7 @@ struct precopy_question {
  * all were recorded. The link and the downtime are 0, and the caller's to set.
  */
 #define PRECOPY_QUESTION_DEFAULT                                                                                       \
-    { sizeof(struct precopy_question), 0, 0, 0, 0, 1000, 4096, 1, 1, 0, 30, 0, 0, 0, 0, 0, 0 }
+    {sizeof(struct precopy_question), 0, 0, 0, 0, 1000, 4096, 1, 1, 0, 30, 0, 0, 0, 0, 0, 0}
 
 /* An answer that a trace may be too short to give. */
 enum precopy_verdict {
@@ -379,9 +381,9 @@ struct precopy_errors {
  * The question is tested first, then the trace, and then whether its pages are those of the question. It takes memory
  * as precopy_plan does, and for standard errors 4 bytes for each sampled page and the time of 20 more plans.
  */
-PRECOPY_ANSWERS PRECOPY_NOT_NULL(3, 4, 5, 6) uint32_t
-    precopy_predict(const uint8_t *trace, size_t trace_length, const struct precopy_question *question,
-                    struct precopy_prediction *prediction, struct precopy_errors *errors, uint32_t *record);
+PRECOPY_ANSWERS PRECOPY_NOT_NULL(3, 4, 5, 6)
+uint32_t precopy_predict(const uint8_t *trace, size_t trace_length, const struct precopy_question *question,
+                         struct precopy_prediction *prediction, struct precopy_errors *errors, uint32_t *record);
 
 /* How sure a prediction is. Of the starts those count from which the migration ends within the trace. */
 struct precopy_agreement {
@@ -403,9 +405,9 @@ struct precopy_agreement {
  *
  * It tests what precopy_predict does, in the same order. It takes memory as that does, and the time of 62 plans.
  */
-PRECOPY_ANSWERS PRECOPY_NOT_NULL(3, 4, 5) uint32_t
-    precopy_agreement(const uint8_t *trace, size_t trace_length, const struct precopy_question *question,
-                      struct precopy_agreement *agreement, uint32_t *record);
+PRECOPY_ANSWERS PRECOPY_NOT_NULL(3, 4, 5)
+uint32_t precopy_agreement(const uint8_t *trace, size_t trace_length, const struct precopy_question *question,
+                           struct precopy_agreement *agreement, uint32_t *record);
 
 /*
  * What is enough for the downtime limit of a question, each amount by itself, in the question's units. A limit is kept
@@ -444,9 +446,9 @@ struct precopy_amounts {
  * It tests what precopy_predict does, in the same order. It takes memory as precopy_plan does, and the time of some 35
  * plans, at most 99; of a migration that ends after the trace at most 187.
  */
-PRECOPY_ANSWERS PRECOPY_NOT_NULL(3, 4, 5) uint32_t
-    precopy_enough(const uint8_t *trace, size_t trace_length, const struct precopy_question *question,
-                   struct precopy_amounts *amounts, uint32_t *record);
+PRECOPY_ANSWERS PRECOPY_NOT_NULL(3, 4, 5)
+uint32_t precopy_enough(const uint8_t *trace, size_t trace_length, const struct precopy_question *question,
+                        struct precopy_amounts *amounts, uint32_t *record);
 
 /* ---- memory */
 
@@ -456,17 +458,17 @@ PRECOPY_ANSWERS PRECOPY_NOT_NULL(3, 4, 5) uint32_t
  *
  * If the buffer is shorter, it returns PRECOPY_SHORT_BUFFER and writes only *needed. It takes no memory.
  */
-PRECOPY_ANSWERS PRECOPY_NOT_NULL(5, 6) uint32_t
-    precopy_memory(const uint8_t *trace, size_t trace_length, uint8_t *memory, size_t memory_length, size_t *needed,
-                   uint32_t *record);
+PRECOPY_ANSWERS PRECOPY_NOT_NULL(5, 6)
+uint32_t precopy_memory(const uint8_t *trace, size_t trace_length, uint8_t *memory, size_t memory_length,
+                        size_t *needed, uint32_t *record);
 
 /*
  * Writes the memory before a tick, after the writes of all lower ticks; otherwise like precopy_memory. A migration that
  * stops its guest at that tick must leave this memory.
  */
-PRECOPY_ANSWERS PRECOPY_NOT_NULL(6, 7) uint32_t
-    precopy_memory_before(const uint8_t *trace, size_t trace_length, uint64_t tick, uint8_t *memory,
-                          size_t memory_length, size_t *needed, uint32_t *record);
+PRECOPY_ANSWERS PRECOPY_NOT_NULL(6, 7)
+uint32_t precopy_memory_before(const uint8_t *trace, size_t trace_length, uint64_t tick, uint8_t *memory,
+                               size_t memory_length, size_t *needed, uint32_t *record);
 
 /*
  * Brings memory after the first `from` writes of a trace on to that after the first `to` writes, in place. Memory after
@@ -475,9 +477,9 @@ PRECOPY_ANSWERS PRECOPY_NOT_NULL(6, 7) uint32_t
  * It first returns PRECOPY_BACKWARDS if `to` is below `from`. Of a trace with fewer writes than `to` it applies all. If
  * the memory has not as many bytes as all pages, it returns PRECOPY_MEMORY_LENGTH. It takes no memory.
  */
-PRECOPY_ANSWERS PRECOPY_NOT_NULL(7) uint32_t
-    precopy_memory_step(const uint8_t *trace, size_t trace_length, uint32_t from, uint32_t to, uint8_t *memory,
-                        size_t memory_length, uint32_t *record);
+PRECOPY_ANSWERS PRECOPY_NOT_NULL(7)
+uint32_t precopy_memory_step(const uint8_t *trace, size_t trace_length, uint32_t from, uint32_t to, uint8_t *memory,
+                             size_t memory_length, uint32_t *record);
 
 /* ---- pages */
 
@@ -487,9 +489,9 @@ PRECOPY_ANSWERS PRECOPY_NOT_NULL(7) uint32_t
  *
  * After the trace the page is tested, with PRECOPY_NO_PAGE. It takes no memory.
  */
-PRECOPY_ANSWERS PRECOPY_NOT_NULL(5, 6) uint32_t
-    precopy_version_after(const uint8_t *trace, size_t trace_length, uint32_t page, uint32_t count, uint32_t *version,
-                          uint32_t *record);
+PRECOPY_ANSWERS PRECOPY_NOT_NULL(5, 6)
+uint32_t precopy_version_after(const uint8_t *trace, size_t trace_length, uint32_t page, uint32_t count,
+                               uint32_t *version, uint32_t *record);
 
 /*
  * Writes the versions of all pages after the first `count` writes into an array, page by page. *needed is the number of
@@ -497,14 +499,14 @@ PRECOPY_ANSWERS PRECOPY_NOT_NULL(5, 6) uint32_t
  *
  * If the array has fewer elements, it returns PRECOPY_SHORT_BUFFER and writes only *needed. It takes no memory.
  */
-PRECOPY_ANSWERS PRECOPY_NOT_NULL(6, 7) uint32_t
-    precopy_versions_after(const uint8_t *trace, size_t trace_length, uint32_t count, uint32_t *versions,
-                           size_t versions_length, size_t *needed, uint32_t *record);
+PRECOPY_ANSWERS PRECOPY_NOT_NULL(6, 7)
+uint32_t precopy_versions_after(const uint8_t *trace, size_t trace_length, uint32_t count, uint32_t *versions,
+                                size_t versions_length, size_t *needed, uint32_t *record);
 
 /* Writes the versions of all pages after the writes before a tick; otherwise like precopy_versions_after. */
-PRECOPY_ANSWERS PRECOPY_NOT_NULL(6, 7) uint32_t
-    precopy_versions_before(const uint8_t *trace, size_t trace_length, uint64_t tick, uint32_t *versions,
-                            size_t versions_length, size_t *needed, uint32_t *record);
+PRECOPY_ANSWERS PRECOPY_NOT_NULL(6, 7)
+uint32_t precopy_versions_before(const uint8_t *trace, size_t trace_length, uint64_t tick, uint32_t *versions,
+                                 size_t versions_length, size_t *needed, uint32_t *record);
 
 /*
  * Writes the bytes of a page at a stamp: as the write to it with this place leaves them, or zeros for 0.
@@ -512,9 +514,9 @@ PRECOPY_ANSWERS PRECOPY_NOT_NULL(6, 7) uint32_t
  * After the trace the page is tested, with PRECOPY_NO_PAGE, and then the stamp, with PRECOPY_NO_VERSION. If `content`
  * is shorter than a page, it returns PRECOPY_SHORT_BUFFER. It takes no memory.
  */
-PRECOPY_ANSWERS PRECOPY_NOT_NULL(7) uint32_t
-    precopy_page_at(const uint8_t *trace, size_t trace_length, uint32_t page, uint32_t stamp, uint8_t *content,
-                    size_t content_length, uint32_t *record);
+PRECOPY_ANSWERS PRECOPY_NOT_NULL(7)
+uint32_t precopy_page_at(const uint8_t *trace, size_t trace_length, uint32_t page, uint32_t stamp, uint8_t *content,
+                         size_t content_length, uint32_t *record);
 
 /* A write to a page. */
 struct precopy_write {
@@ -530,9 +532,9 @@ struct precopy_write {
  * If the array has fewer elements, it returns PRECOPY_SHORT_BUFFER and writes only *count. After the trace the page is
  * tested, with PRECOPY_NO_PAGE. It takes no memory.
  */
-PRECOPY_ANSWERS PRECOPY_NOT_NULL(6, 7) uint32_t
-    precopy_page_writes(const uint8_t *trace, size_t trace_length, uint32_t page, struct precopy_write *writes,
-                        size_t writes_length, size_t *count, uint32_t *record);
+PRECOPY_ANSWERS PRECOPY_NOT_NULL(6, 7)
+uint32_t precopy_page_writes(const uint8_t *trace, size_t trace_length, uint32_t page, struct precopy_write *writes,
+                             size_t writes_length, size_t *count, uint32_t *record);
 
 /* ---- frames */
 
@@ -550,9 +552,9 @@ struct precopy_frame {
  * After the sizes the page is tested, then the stamp, and then the number of bytes. If the buffer is shorter than the
  * frame, it returns PRECOPY_SHORT_BUFFER and writes only *needed. It takes memory for one frame.
  */
-PRECOPY_ANSWERS PRECOPY_NOT_NULL(1, 8) uint32_t
-    precopy_encode_frame(const struct precopy_sizes *sizes, uint32_t page, uint32_t stamp, const uint8_t *bytes,
-                         size_t bytes_length, uint8_t *frame, size_t frame_length, size_t *needed);
+PRECOPY_ANSWERS PRECOPY_NOT_NULL(1, 8)
+uint32_t precopy_encode_frame(const struct precopy_sizes *sizes, uint32_t page, uint32_t stamp, const uint8_t *bytes,
+                              size_t bytes_length, uint8_t *frame, size_t frame_length, size_t *needed);
 
 /*
  * Decodes the frame at the front of some bytes: writes what it has into *frame, and the bytes of its page to
@@ -561,9 +563,9 @@ PRECOPY_ANSWERS PRECOPY_NOT_NULL(1, 8) uint32_t
  * Bytes after the frame are left: the next frame begins at bytes + frame->size. If `content` is shorter than a page, it
  * returns PRECOPY_SHORT_BUFFER. It takes no memory.
  */
-PRECOPY_ANSWERS PRECOPY_NOT_NULL(1, 4) uint32_t
-    precopy_decode_frame(const struct precopy_sizes *sizes, const uint8_t *bytes, size_t bytes_length,
-                         struct precopy_frame *frame, uint8_t *content, size_t content_length);
+PRECOPY_ANSWERS PRECOPY_NOT_NULL(1, 4)
+uint32_t precopy_decode_frame(const struct precopy_sizes *sizes, const uint8_t *bytes, size_t bytes_length,
+                              struct precopy_frame *frame, uint8_t *content, size_t content_length);
 
 /* What is known about a page of flat memory. If the struct is all zeros, the page did not come. */
 struct precopy_page {
@@ -590,16 +592,17 @@ struct precopy_taken {
  * Any other status leaves memory, pages and *taken as they were. After the sizes the length of memory is tested, then
  * the number of pages, and then the stream. It takes no memory.
  */
-PRECOPY_ANSWERS PRECOPY_NOT_NULL(1, 8) uint32_t
-    precopy_accept(const struct precopy_sizes *sizes, const uint8_t *stream, size_t stream_length, uint8_t *memory,
-                   size_t memory_length, struct precopy_page *pages, size_t pages_length, struct precopy_taken *taken);
+PRECOPY_ANSWERS PRECOPY_NOT_NULL(1, 8)
+uint32_t precopy_accept(const struct precopy_sizes *sizes, const uint8_t *stream, size_t stream_length, uint8_t *memory,
+                        size_t memory_length, struct precopy_page *pages, size_t pages_length,
+                        struct precopy_taken *taken);
 
 /*
  * Returns PRECOPY_OK if each page came, or PRECOPY_PAGE_MISSING, and then *page is the first that did not. It
  * takes no memory.
  */
-PRECOPY_ANSWERS PRECOPY_NOT_NULL(3) uint32_t
-    precopy_missing(const struct precopy_page *pages, size_t pages_length, size_t *page);
+PRECOPY_ANSWERS PRECOPY_NOT_NULL(3)
+uint32_t precopy_missing(const struct precopy_page *pages, size_t pages_length, size_t *page);
 
 /* What is wrong in streams. What does not apply is 0. */
 struct precopy_finding {
@@ -634,10 +637,10 @@ struct precopy_finding {
  * Any other status leaves *found as it was. The sizes are tested first, with PRECOPY_STREAM_SIZES. It takes memory for
  * a copy of the trace, and some 50 bytes for each write and 30 for each page.
  */
-PRECOPY_ANSWERS PRECOPY_NOT_NULL(8, 9) uint32_t
-    precopy_check_streams(const uint8_t *trace, size_t trace_length, uint32_t stop, const uint8_t *bytes,
-                          size_t bytes_length, const size_t *sizes, size_t sizes_length, struct precopy_finding *found,
-                          uint32_t *record);
+PRECOPY_ANSWERS PRECOPY_NOT_NULL(8, 9)
+uint32_t precopy_check_streams(const uint8_t *trace, size_t trace_length, uint32_t stop, const uint8_t *bytes,
+                               size_t bytes_length, const size_t *sizes, size_t sizes_length,
+                               struct precopy_finding *found, uint32_t *record);
 
 /* How far streams have come that are checked in pieces. It begins with the stop, and zeros. */
 struct precopy_progress {
@@ -662,19 +665,19 @@ struct precopy_progress {
  * takes memory, as precopy_check_streams does. It also takes as long as an index of the trace, whatever the piece, so
  * gather some MiB before each call.
  */
-PRECOPY_ANSWERS PRECOPY_NOT_NULL(5, 8, 9) uint32_t
-    precopy_check_piece(const uint8_t *trace, size_t trace_length, const uint8_t *piece, size_t piece_length,
-                        struct precopy_progress *progress, struct precopy_page *states, size_t states_length,
-                        struct precopy_finding *found, uint32_t *record);
+PRECOPY_ANSWERS PRECOPY_NOT_NULL(5, 8, 9)
+uint32_t precopy_check_piece(const uint8_t *trace, size_t trace_length, const uint8_t *piece, size_t piece_length,
+                             struct precopy_progress *progress, struct precopy_page *states, size_t states_length,
+                             struct precopy_finding *found, uint32_t *record);
 
 /*
  * Checks, when all streams have ended, that each page came at its version at the stop: returns PRECOPY_OK, or
  * PRECOPY_PAGE_BEHIND or PRECOPY_PAGE_MISSING and sets *found. Otherwise like precopy_check_piece.
  */
-PRECOPY_ANSWERS PRECOPY_NOT_NULL(3, 6, 7) uint32_t
-    precopy_check_pages(const uint8_t *trace, size_t trace_length, const struct precopy_progress *progress,
-                        const struct precopy_page *states, size_t states_length, struct precopy_finding *found,
-                        uint32_t *record);
+PRECOPY_ANSWERS PRECOPY_NOT_NULL(3, 6, 7)
+uint32_t precopy_check_pages(const uint8_t *trace, size_t trace_length, const struct precopy_progress *progress,
+                             const struct precopy_page *states, size_t states_length, struct precopy_finding *found,
+                             uint32_t *record);
 
 /* ---- traces that stay open */
 
@@ -701,35 +704,36 @@ struct precopy_trace {
  *
  * If there are fewer words, it returns PRECOPY_SHORT_BUFFER and writes only *needed. It takes no memory.
  */
-PRECOPY_ANSWERS PRECOPY_NOT_NULL(5, 6, 7) uint32_t
-    precopy_trace_open(const uint8_t *bytes, size_t bytes_length, uint32_t *words, size_t words_length,
-                       struct precopy_trace *trace, size_t *needed, uint32_t *record);
+PRECOPY_ANSWERS PRECOPY_NOT_NULL(5, 6, 7)
+uint32_t precopy_trace_open(const uint8_t *bytes, size_t bytes_length, uint32_t *words, size_t words_length,
+                            struct precopy_trace *trace, size_t *needed, uint32_t *record);
 
 /* What precopy_writes_before does, by binary search. It always returns PRECOPY_OK. */
-PRECOPY_ANSWERS PRECOPY_NOT_NULL(1, 3) uint32_t
-    precopy_trace_writes_before(const struct precopy_trace *trace, uint64_t tick, uint32_t *count);
+PRECOPY_ANSWERS PRECOPY_NOT_NULL(1, 3)
+uint32_t precopy_trace_writes_before(const struct precopy_trace *trace, uint64_t tick, uint32_t *count);
 
 /* What precopy_memory_before does; it reads the writes before the tick alone. */
-PRECOPY_ANSWERS PRECOPY_NOT_NULL(1, 5) uint32_t
-    precopy_trace_memory_before(const struct precopy_trace *trace, uint64_t tick, uint8_t *memory, size_t memory_length,
-                                size_t *needed);
+PRECOPY_ANSWERS PRECOPY_NOT_NULL(1, 5)
+uint32_t precopy_trace_memory_before(const struct precopy_trace *trace, uint64_t tick, uint8_t *memory,
+                                     size_t memory_length, size_t *needed);
 
 /* What precopy_version_after does, along the writes to the page. */
-PRECOPY_ANSWERS PRECOPY_NOT_NULL(1, 4) uint32_t
-    precopy_trace_version_after(const struct precopy_trace *trace, uint32_t page, uint32_t count, uint32_t *version);
+PRECOPY_ANSWERS PRECOPY_NOT_NULL(1, 4)
+uint32_t precopy_trace_version_after(const struct precopy_trace *trace, uint32_t page, uint32_t count,
+                                     uint32_t *version);
 
 /* What precopy_versions_after and precopy_versions_before do, from the index alone. */
-PRECOPY_ANSWERS PRECOPY_NOT_NULL(1, 5) uint32_t
-    precopy_trace_versions_after(const struct precopy_trace *trace, uint32_t count, uint32_t *versions,
-                                 size_t versions_length, size_t *needed);
-PRECOPY_ANSWERS PRECOPY_NOT_NULL(1, 5) uint32_t
-    precopy_trace_versions_before(const struct precopy_trace *trace, uint64_t tick, uint32_t *versions,
-                                  size_t versions_length, size_t *needed);
+PRECOPY_ANSWERS PRECOPY_NOT_NULL(1, 5)
+uint32_t precopy_trace_versions_after(const struct precopy_trace *trace, uint32_t count, uint32_t *versions,
+                                      size_t versions_length, size_t *needed);
+PRECOPY_ANSWERS PRECOPY_NOT_NULL(1, 5)
+uint32_t precopy_trace_versions_before(const struct precopy_trace *trace, uint64_t tick, uint32_t *versions,
+                                       size_t versions_length, size_t *needed);
 
 /* What precopy_page_at does; it reads the writes to the page alone. */
-PRECOPY_ANSWERS PRECOPY_NOT_NULL(1) uint32_t
-    precopy_trace_page_at(const struct precopy_trace *trace, uint32_t page, uint32_t stamp, uint8_t *content,
-                          size_t content_length);
+PRECOPY_ANSWERS PRECOPY_NOT_NULL(1)
+uint32_t precopy_trace_page_at(const struct precopy_trace *trace, uint32_t page, uint32_t stamp, uint8_t *content,
+                               size_t content_length);
 
 /* Returns whether each byte is 0; with no bytes it is true. It takes no memory. */
 PRECOPY_ANSWERS

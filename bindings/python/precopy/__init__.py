@@ -53,11 +53,11 @@ from ._streams import Finding, StreamCheck, check_streams, writes_before
 
 __all__ = [
     "Agreement", "Amounts", "BufferRefused", "Errors", "Finding", "FlatMemory", "Frame", "FrameRefused", "NoMemory",
-    "OpenTrace", "Overlap", "PlaceRefused", "Prediction", "Question", "QuestionRefused", "Reason", "Refused", "Round", "Settings",
-    "SettingsRefused", "Sizes", "Status", "StreamCheck", "Sums", "Taken", "TraceRefused", "Verdict", "Write",
-    "agreement", "check_settings", "check_streams", "check_trace", "decode_frame", "encode_frame", "enough", "is_zero",
-    "memory", "memory_before", "memory_step", "page_at", "page_writes", "plan", "predict", "report", "rounds", "sweep",
-    "version", "version_after", "versions_after", "versions_before", "writes_before",
+    "OpenTrace", "Overlap", "PlaceRefused", "Prediction", "Question", "QuestionRefused", "Reason", "Refused", "Round",
+    "Settings", "SettingsRefused", "Sizes", "Status", "StreamCheck", "Sums", "Taken", "TraceRefused", "Verdict",
+    "Write", "agreement", "check_settings", "check_streams", "check_trace", "decode_frame", "encode_frame", "enough",
+    "is_zero", "memory", "memory_before", "memory_step", "page_at", "page_writes", "plan", "predict", "report",
+    "rounds", "sweep", "version", "version_after", "versions_after", "versions_before", "writes_before",
 ]  # fmt: skip
 
 
