@@ -37,6 +37,7 @@
  *
  * - Only a pointer whose length is 0 may be null. Each other pointer is aligned for its type.
  * - The memory that a pointer and its length describe is there, and all of an input is initialized.
+ * - A struct precopy_trace is as precopy_trace_open left it, and so are the bytes and the words that it was given.
  * - What a function writes overlaps nothing else that is passed to it, and no other thread reads or writes it
  *   meanwhile. No thread writes an input meanwhile.
  * - No function is called from a signal handler, nor from the forked child of a process with threads.
@@ -727,6 +728,62 @@ PRECOPY_ANSWERS PRECOPY_NOT_NULL(3, 6, 7)
 uint32_t precopy_check_pages(const uint8_t *trace, size_t trace_length, const struct precopy_progress *progress,
                              const struct precopy_page *states, size_t states_length, struct precopy_finding *found,
                              uint32_t *record);
+
+/* ---- traces that stay open */
+
+/*
+ * A trace that stays open between calls. Each call over it costs what it answers, and not another pass over the trace.
+ * It borrows the bytes of the trace and the words of its index: both stay where they are, unchanged, as long as it is
+ * used. There is nothing to close. No call changes it, so several threads may use it at once, and a copy is as good.
+ */
+struct precopy_trace {
+    struct precopy_sizes sizes; /* the sizes of the trace */
+    uint32_t version;           /* the version of its format */
+    const uint8_t *bytes;       /* the rest is the library's */
+    size_t bytes_length;
+    const uint32_t *words;
+    size_t words_length;
+};
+
+/* At least as many words as the index of a trace with so many bytes has: 3 for each write, and 1 for each page. */
+#define PRECOPY_WORDS_BOUND(trace_length) (3 * PRECOPY_MOST(trace_length, 1048576) + 65536)
+
+/*
+ * Opens a trace: tests its bytes, makes its index over the front of `words`, and sets *trace. *needed is the number of
+ * words in the index.
+ *
+ * If there are fewer words, it returns PRECOPY_SHORT_BUFFER and writes only *needed. It takes no memory.
+ */
+PRECOPY_ANSWERS PRECOPY_NOT_NULL(5, 6, 7)
+uint32_t precopy_trace_open(const uint8_t *bytes, size_t bytes_length, uint32_t *words, size_t words_length,
+                            struct precopy_trace *trace, size_t *needed, uint32_t *record);
+
+/* What precopy_writes_before does, by binary search. It always returns PRECOPY_OK. */
+PRECOPY_ANSWERS PRECOPY_NOT_NULL(1, 3)
+uint32_t precopy_trace_writes_before(const struct precopy_trace *trace, uint64_t tick, uint32_t *count);
+
+/* What precopy_memory_before does; it reads the writes before the tick alone. */
+PRECOPY_ANSWERS PRECOPY_NOT_NULL(1, 5)
+uint32_t precopy_trace_memory_before(const struct precopy_trace *trace, uint64_t tick, uint8_t *memory,
+                                     size_t memory_length, size_t *needed);
+
+/* What precopy_version_after does, along the writes to the page. */
+PRECOPY_ANSWERS PRECOPY_NOT_NULL(1, 4)
+uint32_t precopy_trace_version_after(const struct precopy_trace *trace, uint32_t page, uint32_t count,
+                                     uint32_t *version);
+
+/* What precopy_versions_after and precopy_versions_before do, from the index alone. */
+PRECOPY_ANSWERS PRECOPY_NOT_NULL(1, 5)
+uint32_t precopy_trace_versions_after(const struct precopy_trace *trace, uint32_t count, uint32_t *versions,
+                                      size_t versions_length, size_t *needed);
+PRECOPY_ANSWERS PRECOPY_NOT_NULL(1, 5)
+uint32_t precopy_trace_versions_before(const struct precopy_trace *trace, uint64_t tick, uint32_t *versions,
+                                       size_t versions_length, size_t *needed);
+
+/* What precopy_page_at does; it reads the writes to the page alone. */
+PRECOPY_ANSWERS PRECOPY_NOT_NULL(1)
+uint32_t precopy_trace_page_at(const struct precopy_trace *trace, uint32_t page, uint32_t stamp, uint8_t *content,
+                               size_t content_length);
 
 /* Returns whether each byte is 0; with no bytes it is true. It takes no memory. */
 PRECOPY_ANSWERS

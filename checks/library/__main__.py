@@ -10,7 +10,8 @@ a page that nobody may touch in front of them or behind them, and each trial is 
 is the proved archive, which is built without sanitizers. The address and undefined-behaviour sanitizers watch the three
 programs around it. Frames are shuffled, repeated, damaged, and cut at every byte. Mistakes are planted in random frames
 of 2,000 streams, of which the library's check must name each (checks/library/streams.py). Versions, writes and steps of
-memory are worked out once more for random traces (checks/library/places.py). Numbers out of range and bytes of all
+memory are worked out once more for random traces (checks/library/places.py), also over open traces
+(checks/library/open_traces.py). Numbers out of range and bytes of all
 kinds go to Python, which pip installs in a fresh environment, and to Rust, whose answers must be the model's too.
 Python is also given memory that overlaps a trace, streams that are cut off, too little memory, and arrays of
 numpy if it has that. The crate is linked with each form of the library. The examples run, and so does what

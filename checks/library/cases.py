@@ -10,7 +10,7 @@ from checks.lib import traces as all_traces
 from checks.lib.harness import drawn, expect
 from checks.lib.library_runs import LIBRARY, is_done, program_says, read, run
 from checks.lib.traces import EXAMPLES
-from checks.library import beside, header, installs, places, python, rust, streams, traces
+from checks.library import beside, header, installs, open_traces, places, python, rust, streams, traces
 from precopy_dev.tree import TOP
 from precopy_tools import version
 
@@ -295,6 +295,7 @@ def check(tally, folder, program, only):
         "beside": lambda: beside.check(tally, program),
         "streams": lambda: (check_streams(tally), streams.check(tally)),
         "places": lambda: places.check(tally),
+        "opened": lambda: open_traces.check(tally),
         "python": lambda: python.check(tally, folder),
         "rust": lambda: check_rust(tally, folder, program),
     }

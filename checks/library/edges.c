@@ -35,7 +35,8 @@ static void nulls_of_traces(void) {
     struct precopy_agreement agreement;
     struct precopy_forecast forecast;
     struct precopy_link_shares shares;
-    uint32_t written;
+    struct precopy_trace held;
+    uint32_t written, words[4];
     size_t count = 9;
     ROW(precopy_check_trace(NULL, 0, &found, &record) == PRECOPY_SHORT_HEADER);
     ROW(precopy_plan(NULL, 0, &good, &sums, &record) == PRECOPY_SHORT_HEADER);
@@ -63,6 +64,14 @@ static void nulls_of_traces(void) {
     count = 0;
     ROW(precopy_page_at(NULL, 0, 0, 1, NULL, 0, &record) == PRECOPY_SHORT_HEADER);
     ROW(precopy_page_at(trace, sizeof trace, 0, 1, NULL, 0, &record) == PRECOPY_SHORT_BUFFER);
+    ROW(precopy_trace_open(NULL, 0, NULL, 0, &held, &count, &record) == PRECOPY_SHORT_HEADER && count == 0);
+    ROW(precopy_trace_open(trace, sizeof trace, NULL, 0, &held, &count, &record) == PRECOPY_SHORT_BUFFER && count > 0);
+    ROW(precopy_trace_open(trace, sizeof trace, words, count, &held, &count, &record) == PRECOPY_OK);
+    ROW(precopy_trace_versions_after(&held, 1, NULL, 0, &count) == PRECOPY_SHORT_BUFFER && count == 1);
+    ROW(precopy_trace_versions_before(&held, 1, NULL, 0, &count) == PRECOPY_SHORT_BUFFER && count == 1);
+    ROW(precopy_trace_memory_before(&held, 1, NULL, 0, &count) == PRECOPY_SHORT_BUFFER && count == 16);
+    ROW(precopy_trace_page_at(&held, 0, 1, NULL, 0) == PRECOPY_SHORT_BUFFER);
+    count = 0;
     ROW(precopy_page_writes(NULL, 0, 0, NULL, 0, &count, &record) == PRECOPY_SHORT_HEADER && count == 0);
     ROW(precopy_page_writes(trace, sizeof trace, 0, NULL, 0, &count, &record) == PRECOPY_SHORT_BUFFER && count == 1);
     ROW(precopy_memory_step(NULL, 0, 0, 1, NULL, 0, &record) == PRECOPY_SHORT_HEADER);

@@ -286,6 +286,84 @@ uint32_t __wrap_precopy_page_writes(const uint8_t *trace, size_t length, uint32_
                                                        writes_length, OUT(count, 1), OUT(record, 1)));
 }
 
+/* A handle whose bytes and words lie between guard pages too. */
+static const struct precopy_trace *open_trace(struct fences *fences, const struct precopy_trace *trace,
+                                              struct precopy_trace *meanwhile) {
+    *meanwhile = *trace;
+    meanwhile->bytes = read_only(fences, trace->bytes, trace->bytes_length);
+    meanwhile->words = read_only(fences, trace->words, trace->words_length * sizeof *trace->words);
+    return read_only(fences, meanwhile, sizeof *meanwhile);
+}
+
+FENCED(trace_open);
+uint32_t __wrap_precopy_trace_open(const uint8_t *bytes, size_t bytes_length, uint32_t *words, size_t words_length,
+                                   struct precopy_trace *trace, size_t *needed, uint32_t *record) {
+    struct fences all = {.count = 0};
+    uint32_t status =
+        given_back(&all, __real_precopy_trace_open(IN(bytes, bytes_length), bytes_length, OUT(words, words_length),
+                                                   words_length, OUT(trace, 1), OUT(needed, 1), OUT(record, 1)));
+    if (status == PRECOPY_OK) {
+        trace->bytes = bytes, trace->words = words; /* and not where they lay meanwhile */
+    }
+    return status;
+}
+
+FENCED(trace_writes_before);
+uint32_t __wrap_precopy_trace_writes_before(const struct precopy_trace *trace, uint64_t tick, uint32_t *count) {
+    struct fences all = {.count = 0};
+    struct precopy_trace meanwhile;
+    return given_back(&all,
+                      __real_precopy_trace_writes_before(open_trace(&all, trace, &meanwhile), tick, OUT(count, 1)));
+}
+
+FENCED(trace_memory_before);
+uint32_t __wrap_precopy_trace_memory_before(const struct precopy_trace *trace, uint64_t tick, uint8_t *memory,
+                                            size_t memory_length, size_t *needed) {
+    struct fences all = {.count = 0};
+    struct precopy_trace meanwhile;
+    return given_back(&all,
+                      __real_precopy_trace_memory_before(open_trace(&all, trace, &meanwhile), tick,
+                                                         OUT(memory, memory_length), memory_length, OUT(needed, 1)));
+}
+
+FENCED(trace_version_after);
+uint32_t __wrap_precopy_trace_version_after(const struct precopy_trace *trace, uint32_t page, uint32_t count,
+                                            uint32_t *version) {
+    struct fences all = {.count = 0};
+    struct precopy_trace meanwhile;
+    return given_back(
+        &all, __real_precopy_trace_version_after(open_trace(&all, trace, &meanwhile), page, count, OUT(version, 1)));
+}
+
+FENCED(trace_versions_after);
+uint32_t __wrap_precopy_trace_versions_after(const struct precopy_trace *trace, uint32_t count, uint32_t *versions,
+                                             size_t versions_length, size_t *needed) {
+    struct fences all = {.count = 0};
+    struct precopy_trace meanwhile;
+    return given_back(&all, __real_precopy_trace_versions_after(open_trace(&all, trace, &meanwhile), count,
+                                                                OUT(versions, versions_length), versions_length,
+                                                                OUT(needed, 1)));
+}
+
+FENCED(trace_versions_before);
+uint32_t __wrap_precopy_trace_versions_before(const struct precopy_trace *trace, uint64_t tick, uint32_t *versions,
+                                              size_t versions_length, size_t *needed) {
+    struct fences all = {.count = 0};
+    struct precopy_trace meanwhile;
+    return given_back(&all, __real_precopy_trace_versions_before(open_trace(&all, trace, &meanwhile), tick,
+                                                                 OUT(versions, versions_length), versions_length,
+                                                                 OUT(needed, 1)));
+}
+
+FENCED(trace_page_at);
+uint32_t __wrap_precopy_trace_page_at(const struct precopy_trace *trace, uint32_t page, uint32_t stamp,
+                                      uint8_t *content, size_t content_length) {
+    struct fences all = {.count = 0};
+    struct precopy_trace meanwhile;
+    return given_back(&all, __real_precopy_trace_page_at(open_trace(&all, trace, &meanwhile), page, stamp,
+                                                         OUT(content, content_length), content_length));
+}
+
 FENCED(encode_frame);
 uint32_t __wrap_precopy_encode_frame(const struct precopy_sizes *sizes, uint32_t page, uint32_t stamp,
                                      const uint8_t *bytes, size_t bytes_length, uint8_t *frame, size_t frame_length,

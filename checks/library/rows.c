@@ -295,6 +295,45 @@ static void memories(void) {
     ROW(precopy_memory(trace, sizeof trace, memory, 63, &needed, &record) == PRECOPY_SHORT_BUFFER && needed == 64);
 }
 
+/* The worked trace, which stays open: 5 writes to 4 pages make an index of 19 words. */
+static void open_traces(void) {
+    static const uint32_t after_four[5] = {1, 3, 0, 4, 9}, before_last[5] = {1, 3, 0, 0, 9};
+    uint32_t words[20], versions[5] = {9, 9, 9, 9, 9}, count = 9, version = 9;
+    uint8_t content[17], memory[65], wanted[65];
+    struct precopy_trace held = {0}, none = {0};
+    size_t needed = 9;
+    words[19] = 9;
+    ROW(precopy_trace_open(trace, sizeof trace, words, 18, &held, &needed, &record) == PRECOPY_SHORT_BUFFER);
+    ROW(needed == 19 && !memcmp(&held, &none, sizeof held));
+    ROW(precopy_trace_open(trace, sizeof trace - 1, words, 20, &held, &needed, &record) == PRECOPY_SHORT_RECORD);
+    ROW(record == 4 && needed == 19 && !memcmp(&held, &none, sizeof held));
+    record = 9;
+    ROW(precopy_trace_open(trace, sizeof trace, words, 20, &held, &needed, &record) == PRECOPY_OK && needed == 19);
+    ROW(words[19] == 9 && held.sizes.shift == 4 && held.sizes.pages == 4 && held.sizes.writes == 5);
+    ROW(19 <= PRECOPY_WORDS_BOUND(sizeof trace));
+    ROW(precopy_trace_writes_before(&held, 2500, &count) == PRECOPY_OK && count == 3);
+    ROW(precopy_trace_writes_before(&held, 2501, &count) == PRECOPY_OK && count == 5);
+    ROW(precopy_trace_version_after(&held, 1, 4, &version) == PRECOPY_OK && version == 3);
+    ROW(precopy_trace_version_after(&held, 4, 5, &version) == PRECOPY_NO_PAGE && version == 3);
+    ROW(precopy_trace_versions_after(&held, 4, versions, 5, &needed) == PRECOPY_OK && needed == 4);
+    ROW(!memcmp(versions, after_four, sizeof versions));
+    ROW(precopy_trace_versions_before(&held, 2500, versions, 5, &needed) == PRECOPY_OK && needed == 4);
+    ROW(!memcmp(versions, before_last, sizeof versions));
+    ROW(precopy_trace_versions_before(&held, 0, versions, 3, &needed) == PRECOPY_SHORT_BUFFER && needed == 4);
+    ROW(!memcmp(versions, before_last, sizeof versions));
+    memset(content, 9, sizeof content);
+    ROW(precopy_trace_page_at(&held, 1, 4, content, 17) == PRECOPY_NO_VERSION && content[0] == 9);
+    ROW(precopy_trace_page_at(&held, 4, 0, content, 17) == PRECOPY_NO_PAGE && content[0] == 9);
+    ROW(precopy_trace_page_at(&held, 1, 3, content, 15) == PRECOPY_SHORT_BUFFER && content[0] == 9);
+    ROW(precopy_trace_page_at(&held, 1, 3, content, 17) == PRECOPY_OK && content[0] == 3 && content[15] == 2);
+    ROW(content[16] == 9);
+    memset(memory, 9, sizeof memory), memset(wanted, 9, sizeof wanted);
+    ROW(precopy_memory_before(trace, sizeof trace, 2500, wanted, 65, &needed, &record) == PRECOPY_OK);
+    ROW(precopy_trace_memory_before(&held, 2500, memory, 65, &needed) == PRECOPY_OK && needed == 64);
+    ROW(!memcmp(memory, wanted, sizeof memory));
+    ROW(precopy_trace_memory_before(&held, 2500, memory, 63, &needed) == PRECOPY_SHORT_BUFFER && needed == 64);
+}
+
 static void pages(void) {
     static const uint8_t first[16] = {1};
     static const uint32_t after_four[5] = {1, 3, 0, 4, 9}, after_all[5] = {1, 5, 0, 4, 9};
@@ -560,6 +599,7 @@ int main(void) {
     questions();
     memories();
     pages();
+    open_traces();
     traces();
     frames();
     sentences();

@@ -20,7 +20,7 @@ from precopy_dev.models import redrawn
 
 HEADER, CRATE = "include/precopy.h", "bindings/rust"
 BAD_ROUNDS = 25
-SOURCES = ("flat.rs", "lib.rs", "places.rs", "predictions.rs", "refusals.rs", "streams.rs")
+SOURCES = ("flat.rs", "lib.rs", "open_trace.rs", "places.rs", "predictions.rs", "refusals.rs", "streams.rs")
 
 
 def receive(tally, folder, path, trace):

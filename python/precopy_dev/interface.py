@@ -38,7 +38,7 @@ OF_PLANNER = {
     "Forecast": "FORECAST",
 }
 # Structs that Rust's callers see as they are in C stand in its sources by hand, with what they mean.
-RUST_BY_HAND = {"Page", "Round", "Taken", "Write"}
+RUST_BY_HAND = {"Page", "Round", "Taken", "Trace", "Write"}
 STATUSES_IN_RUST = """\
 //! The statuses of the library. Made by `dev/interface`.
 

@@ -31,6 +31,7 @@ from ._calls import LIBRARY as _LIBRARY
 from ._calls import lent as _lent
 from ._calls import number as _number
 from ._interface import Status
+from ._open_traces import OpenTrace
 from ._predictions import (
     Agreement,
     Amounts,
@@ -68,12 +69,12 @@ from ._streams import Finding, StreamCheck, check_streams, writes_before
 
 __all__ = [
     "Agreement", "Amounts", "BufferRefused", "Errors", "Finding", "FlatMemory", "Forecast", "ForecastEnd", "Frame",
-    "FrameRefused", "LinkShares", "NoMemory", "Overlap", "PlaceRefused", "Prediction", "Question", "QuestionRefused",
-    "Reason", "Refused", "Round", "Settings", "SettingsRefused", "Sizes", "Status", "StreamCheck", "Sums", "Taken",
-    "TraceRefused", "Verdict", "Write", "agreement", "check_settings", "check_streams", "check_trace", "decode_frame",
-    "encode_frame", "enough", "forecast", "is_zero", "link_shares", "memory", "memory_before", "memory_step", "page_at",
-    "page_writes", "plan", "predict", "report", "rounds", "sweep", "version", "version_after", "versions_after",
-    "versions_before", "writes_before",
+    "FrameRefused", "LinkShares", "NoMemory", "OpenTrace", "Overlap", "PlaceRefused", "Prediction", "Question",
+    "QuestionRefused", "Reason", "Refused", "Round", "Settings", "SettingsRefused", "Sizes", "Status",
+    "StreamCheck", "Sums", "Taken", "TraceRefused", "Verdict", "Write", "agreement", "check_settings",
+    "check_streams", "check_trace", "decode_frame", "encode_frame", "enough", "forecast", "is_zero", "link_shares",
+    "memory", "memory_before", "memory_step", "page_at", "page_writes", "plan", "predict", "report", "rounds",
+    "sweep", "version", "version_after", "versions_after", "versions_before", "writes_before",
 ]  # fmt: skip
 
 

@@ -166,6 +166,17 @@ class Progress(Structure):
     _fields_ = [*_of(c_size_t, "stream", "frames", "bytes"), *_of(c_uint32, "stop")]
 
 
+class Trace(Structure):
+    _fields_ = [
+        *_of(Sizes, "sizes"),
+        *_of(c_uint32, "version"),
+        *_of(c_void_p, "bytes"),
+        *_of(c_size_t, "bytes_length"),
+        *_of(POINTER(c_uint32), "words"),
+        *_of(c_size_t, "words_length"),
+    ]
+
+
 # The arguments of each function.
 CALLS = {
     "refusal_text": [c_uint32, c_uint32, c_void_p, c_size_t, POINTER(c_size_t)],
@@ -251,5 +262,20 @@ CALLS = {
         POINTER(Finding),
         POINTER(c_uint32),
     ],
+    "trace_open": [
+        c_void_p,
+        c_size_t,
+        POINTER(c_uint32),
+        c_size_t,
+        POINTER(Trace),
+        POINTER(c_size_t),
+        POINTER(c_uint32),
+    ],
+    "trace_writes_before": [POINTER(Trace), c_uint64, POINTER(c_uint32)],
+    "trace_memory_before": [POINTER(Trace), c_uint64, c_void_p, c_size_t, POINTER(c_size_t)],
+    "trace_version_after": [POINTER(Trace), c_uint32, c_uint32, POINTER(c_uint32)],
+    "trace_versions_after": [POINTER(Trace), c_uint32, POINTER(c_uint32), c_size_t, POINTER(c_size_t)],
+    "trace_versions_before": [POINTER(Trace), c_uint64, POINTER(c_uint32), c_size_t, POINTER(c_size_t)],
+    "trace_page_at": [POINTER(Trace), c_uint32, c_uint32, c_void_p, c_size_t],
     "is_zero": [c_void_p, c_size_t],
 }

@@ -1,6 +1,6 @@
 //! The functions and structs of `include/precopy.h`, as they are in C. Made by `dev/interface`.
 
-use crate::{Page, Round, Taken, Write};
+use crate::{Page, Round, Taken, Trace, Write};
 use std::os::raw::c_char;
 
 #[repr(C)]
@@ -388,6 +388,45 @@ extern "C" {
         states_length: usize,
         found: *mut Finding,
         record: *mut u32,
+    ) -> u32;
+    pub fn precopy_trace_open(
+        bytes: *const u8,
+        bytes_length: usize,
+        words: *mut u32,
+        words_length: usize,
+        trace: *mut Trace,
+        needed: *mut usize,
+        record: *mut u32,
+    ) -> u32;
+    pub fn precopy_trace_writes_before(trace: *const Trace, tick: u64, count: *mut u32) -> u32;
+    pub fn precopy_trace_memory_before(
+        trace: *const Trace,
+        tick: u64,
+        memory: *mut u8,
+        memory_length: usize,
+        needed: *mut usize,
+    ) -> u32;
+    pub fn precopy_trace_version_after(trace: *const Trace, page: u32, count: u32, version: *mut u32) -> u32;
+    pub fn precopy_trace_versions_after(
+        trace: *const Trace,
+        count: u32,
+        versions: *mut u32,
+        versions_length: usize,
+        needed: *mut usize,
+    ) -> u32;
+    pub fn precopy_trace_versions_before(
+        trace: *const Trace,
+        tick: u64,
+        versions: *mut u32,
+        versions_length: usize,
+        needed: *mut usize,
+    ) -> u32;
+    pub fn precopy_trace_page_at(
+        trace: *const Trace,
+        page: u32,
+        stamp: u32,
+        content: *mut u8,
+        content_length: usize,
     ) -> u32;
     pub fn precopy_is_zero(bytes: *const u8, bytes_length: usize) -> bool;
 }

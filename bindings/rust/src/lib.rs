@@ -3,6 +3,7 @@
 
 mod calls;
 mod flat;
+mod open_trace;
 mod places;
 mod predictions;
 mod refusals;
@@ -13,6 +14,7 @@ mod streams;
 pub use flat::{
     accept, decode_frame, decode_frame_into, encode_frame, encode_frame_into, missing, FlatMemory, Frame, Page, Taken,
 };
+pub use open_trace::OpenTrace;
 pub use places::{
     memory_step, page_at, page_at_into, page_writes, page_writes_into, version_after, versions_after,
     versions_after_into, versions_before, versions_before_into, Write,
@@ -25,6 +27,7 @@ pub use refusals::Refused;
 pub use status::Status;
 pub use streams::{check_streams, writes_before, Finding, FramePlace, StreamCheck};
 
+use open_trace::Trace;
 use refusals::{checked, checked_buffer, with_record, NO_RECORD};
 use std::ffi::CStr;
 

@@ -4,8 +4,8 @@ mod guest;
 
 use guest::TRACE;
 use precopy::{
-    Amounts, Errors, Forecast, ForecastEnd, LinkShares, Question, Reason, Refused, Settings, Sizes, Status, Sums,
-    Taken, Verdict, Write,
+    Amounts, Errors, Forecast, ForecastEnd, LinkShares, OpenTrace, Question, Reason, Refused, Settings, Sizes, Status,
+    Sums, Taken, Verdict, Write,
 };
 
 const REPORT: &str = "trace pages 4 size 16 writes 5
@@ -329,6 +329,40 @@ fn pages() {
         status: Status::MemoryLength,
     };
     assert_eq!(precopy::memory_step(&TRACE, 3, 4, &mut memory[..63]), Err(length));
+}
+
+#[test]
+fn open_traces() {
+    let opened = OpenTrace::open(&TRACE).unwrap();
+    let held = &opened;
+    assert_eq!(held.sizes(), precopy::check_trace(&TRACE).unwrap());
+    assert_eq!((held.writes_before(2500), held.writes_before(2501)), (Ok(3), Ok(5)));
+    assert_eq!(
+        (held.version_after(1, 4), held.version_after(1, u32::MAX)),
+        (Ok(3), Ok(5))
+    );
+    // Several threads may ask at once.
+    std::thread::scope(|scope| {
+        let asked = [4, u32::MAX].map(|count| scope.spawn(move || held.versions_after(count)));
+        let [four, all] = asked.map(|it| it.join().unwrap());
+        assert_eq!(four.as_deref(), Ok(&[1, 3, 0, 4][..]));
+        assert_eq!(all.as_deref(), Ok(&[1, 5, 0, 4][..]));
+    });
+    assert_eq!(held.versions_before(2500).as_deref(), Ok(&[1, 3, 0, 0][..]));
+    assert_eq!(held.page_at(1, 3), precopy::page_at(&TRACE, 1, 3));
+    assert_eq!(held.memory_before(2500), precopy::memory_before(&TRACE, 2500));
+    let short = held.page_at_into(1, 3, &mut [0; 15]);
+    assert_eq!(short, Err(Refused::ShortBuffer { needed: 16 }));
+    let short = held.memory_before_into(0, &mut [0; 63]);
+    assert_eq!(short, Err(Refused::ShortBuffer { needed: 64 }));
+    let place = |status| Refused::Place { status };
+    assert_eq!(held.page_at(1, 4), Err(place(Status::NoVersion)));
+    assert_eq!(held.version_after(4, 0), Err(place(Status::NoPage)));
+    let cut = Refused::Trace {
+        status: Status::ShortRecord,
+        record: Some(4),
+    };
+    assert_eq!(OpenTrace::open(&TRACE[..101]).err(), Some(cut));
 }
 
 #[test]

@@ -11,3 +11,4 @@ pub mod PieceStates
 pub mod PieceRefusals
 pub mod PieceRuns
 pub mod PieceStreams
+pub mod TracePoints

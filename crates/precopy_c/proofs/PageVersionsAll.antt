@@ -8,7 +8,7 @@ use Rattle.std.proofs.lemmas.List.{length-replicate, length-set, same_lists}
 use Rattle.std.proofs.lemmas.List.FromFn.{get_or-range_with_len, length-range_with_len}
 use Rattle.migration_model.specs.Trace.{GuestTrace, GuestWrite}
 use Rattle.page_versions.specs.Index.{version_after}
-use Rattle.precopy_c.specs.Places.{versions_of}
+use Rattle.open_traces.specs.Index.{versions_at}
 use Rattle.precopy_c.proofs.PageVersions.{Reaches, Reaches-counted, Reaches-end, Reaches-hit, Reaches-miss, Reaches-start}
 
 -- each page has the version that it has after `place` writes, which the remaining ones turn into the last
@@ -57,7 +57,7 @@ AllReach-next trace place count versions new write left at more own is =
 
 all_are : (trace : GuestTrace) (count : ℕ) (versions : List ℕ) → length versions ≡ trace.pages
     → ((page : ℕ) → page < trace.pages → get_or versions page 0 ≡ version_after trace page count)
-    → versions ≡ versions_of trace count
+    → versions ≡ versions_at trace count
 all_are trace count versions len each =
     let range = range_with_len 0 trace.pages in
     let version : ℕ → ℕ = λ page. version_after trace page count in
@@ -71,14 +71,14 @@ all_are trace count versions len each =
     ∙ sym (get_or-map version range page 0 d (omega (arith, size, inside))))
 
 pub AllReach-counted : (trace : GuestTrace) (place count : ℕ) (versions : List ℕ) (left : List GuestWrite)
-    → AllReach trace place count versions left → place ≡ count → versions ≡ versions_of trace count
+    → AllReach trace place count versions left → place ≡ count → versions ≡ versions_at trace count
 AllReach-counted trace place count versions left at all =
     all_are trace count versions at.len
     (λ page low. Reaches-counted page (get_or versions page 0) place count left (version_after trace page count)
     (at.each page low) all)
 
 pub AllReach-end : (trace : GuestTrace) (place count : ℕ) (versions : List ℕ)
-    → AllReach trace place count versions [] → versions ≡ versions_of trace count
+    → AllReach trace place count versions [] → versions ≡ versions_at trace count
 AllReach-end trace place count versions at =
     all_are trace count versions at.len
     (λ page low. Reaches-end page (get_or versions page 0) place count (version_after trace page count)

@@ -15,3 +15,4 @@ pub mod StreamChecks
 pub mod Pieces
 pub mod PieceRuns
 pub mod Places
+pub mod Opened

@@ -1,7 +1,7 @@
 -- What C sees of the versions and the writes of a page, and of memory that is brought on from one place of a trace to
 -- another; and why there is no answer. Numbers 67 and 68 are of these calls alone. This project's own.
 use Rattle.std.specs.Prelude.{◌≡◌, ◌≢◌, ℕ, ◌^◌, ◌==◌, ◌<◌, ◌≤◌, List, length, drop, map, take}
-use Rattle.std.specs.List.{enumerate_from, filter, fold, range_with_len}
+use Rattle.std.specs.List.{enumerate_from, filter, fold}
 use Rattle.migration_model.specs.Memory.{apply, image_after, memory_with}
 use Rattle.migration_model.specs.Trace.{GuestTrace, GuestWrite, Spells}
 use Rattle.page_versions.specs.Index.{version_after}
@@ -37,10 +37,6 @@ IsToldOf number old new Holds =
 pub record IsVersion (trace : GuestTrace) (page stamp : ℕ) : Type 0 where
   pub page_is : page < trace.pages
   pub version : version_after trace page stamp ≡ stamp
-
--- the versions of all pages after the first `count` writes, page by page
-abbrev pub versions_of : GuestTrace → ℕ → List ℕ
-versions_of trace count = map (λ page. version_after trace page count) (range_with_len 0 trace.pages)
 
 -- a write and its place, as C sees them
 abbrev pub row_at : ℕ × GuestWrite → PageWrite

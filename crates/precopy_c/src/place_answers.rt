@@ -38,6 +38,15 @@ impl PlaceRefusal {
     ghost use Rattle.std.specs.Prelude.{◌≡◌, ◌≤◌};
     ghost use Rattle.precopy_c.specs.Places.{number_of_place, record_of_place};
 
+    /// Returns the number that C sees.
+    pub(crate) fn number(self) -> u32
+        ensures number { result ≡ number_of_place self }
+        ensures some { 1 ≤ result }
+    {
+        let mut record = 0;
+        self.told(&mut record)
+    }
+
     /// Tells C of this refusal: sets `record` to the record of a trace that it names, if it names one, and returns its
     /// number.
     pub(crate) fn told(self, record: &mut u32) -> u32

@@ -6,13 +6,14 @@
 ghost use Rattle.std.specs.Prelude.{◌≡◌, ◌≢◌, ◌<◌, ◌≤◌, ◌⊎◌, ◌^◌, IfErr, IsOk, OnErr, OnOk, length};
 ghost use Rattle.migration_model.specs.Trace.{GuestTrace, Spells};
 ghost use Rattle.migration_model.specs.Versions.{page_at};
+ghost use Rattle.open_traces.specs.Index.{versions_at};
 ghost use Rattle.page_versions.specs.Index.{version_after};
 ghost use Rattle.trace_codec.specs.Refusals.{Refuses};
 ghost use Rattle.trace_codec.specs.declared.error.TraceError.{TraceError};
 ghost use Rattle.c_layout.specs.Refusals.{number_of_trace, record_after};
 ghost use Rattle.precopy_c.specs.Buffers.{over};
 ghost use Rattle.precopy_c.specs.Memories.{writes_before};
-ghost use Rattle.precopy_c.specs.Places.{IsToldOf, IsVersion, RefusesPage, RefusesVersion, versions_of};
+ghost use Rattle.precopy_c.specs.Places.{IsToldOf, IsVersion, RefusesPage, RefusesVersion};
 
 use crate::answers::Refusal;
 use crate::memories::count_before;
@@ -67,7 +68,7 @@ pub extern "C" fn precopy_version_after(
 /// Makes the versions of all pages after the first `count` writes, page by page, in one pass.
 fn put_versions(trace: &TraceView<'_>, count: u32, versions: &mut [u32])
     requires { length versions.old ≡ trace.now.pages }
-    ensures { versions.new ≡ versions_of trace.now count }
+    ensures { versions.new ≡ versions_at trace.now count }
 {
     // For the proof: `shape` promises that the view is of a trace.
     let _ = trace.shape();
@@ -90,7 +91,7 @@ fn answer_versions(
     needed: &mut usize,
 ) -> Result<(), Refusal>
     ensures needed { needed.new ≡ trace.now.pages }
-    ensures put { OnOk result (room.new ≡ over (versions_of trace.now count) room.old) }
+    ensures put { OnOk result (room.new ≡ over (versions_at trace.now count) room.old) }
     ensures refused { IfErr result (λ e. e ≡ Refusal.ShortBuffer) }
     ensures short { OnErr result (length room.old < trace.now.pages) }
     ensures unchanged { OnErr result (room.new ≡ room.old) }
@@ -116,7 +117,7 @@ pub extern "C" fn precopy_versions_after(
     record: &mut u32,
 ) -> u32
     ensures made { result ≡ 0 → (t : GuestTrace) × Spells trace.now t × (needed.new ≡ t.pages)
-        × (versions.new ≡ over (versions_of t count) versions.old) }
+        × (versions.new ≡ over (versions_at t count) versions.old) }
     ensures short { result ≡ 61 → (t : GuestTrace) × Spells trace.now t × (needed.new ≡ t.pages)
         × (length versions.old < needed.new) }
     ensures refused { result ≢ 0 → result ≢ 61 → (e : TraceError) × Refuses trace.now e × (result ≡ number_of_trace e)
@@ -145,7 +146,7 @@ pub extern "C" fn precopy_versions_before(
     record: &mut u32,
 ) -> u32
     ensures made { result ≡ 0 → (t : GuestTrace) × Spells trace.now t × (needed.new ≡ t.pages)
-        × (versions.new ≡ over (versions_of t (writes_before t tick)) versions.old) }
+        × (versions.new ≡ over (versions_at t (writes_before t tick)) versions.old) }
     ensures short { result ≡ 61 → (t : GuestTrace) × Spells trace.now t × (needed.new ≡ t.pages)
         × (length versions.old < needed.new) }
     ensures refused { result ≢ 0 → result ≢ 61 → (e : TraceError) × Refuses trace.now e × (result ≡ number_of_trace e)

@@ -1,8 +1,12 @@
 //! Sums of a hypervisor's plan in memory that is lent. They are those of the worked plans.
 
 use super::plan::guest;
+use guest_log::Timeline;
 use look_planner::{LookAsked, LookSettings, LookSums, PlanEnd, look_sums};
+use page_bitmap::word_count;
+use std::alloc::Global;
 use std::test::Fail;
+use trace_codec::Trace;
 
 /// The writes of the worked guest.
 const TOUCHES: [(u64, u32); 5] = [(0, 0), (5, 1), (1200, 1), (2500, 3), (2500, 1)];
@@ -21,6 +25,14 @@ fn has_sums(sums: &LookSums, expected: &Sums) -> bool {
         && sums.down == down
 }
 
+/// Returns the sums of a plan in memory that holds something else before.
+fn sums_of(alloc: Global, trace: &Trace, settings: &LookSettings) -> Result<LookSums, Fail> {
+    let pages = trace.page_count() as usize;
+    let mut marks = Vec::from_elem(alloc, u64::MAX, word_count(pages))?;
+    let mut room = Vec::from_elem(alloc, 7, pages)?;
+    Ok(look_sums(trace, settings, &mut marks, &mut room))
+}
+
 #[test]
 fn worked_sums(rt: HostRuntime) -> Result<(), Fail> {
     /// The window, the threshold, the end of the record, and the sums.
@@ -32,7 +44,6 @@ fn worked_sums(rt: HostRuntime) -> Result<(), Fail> {
         (0, 1, 2600, (PlanEnd::Record, 1, 2600, 7, 2, 1000)),
     ];
     let trace = guest(rt.alloc(), 4, &TOUCHES)?;
-    let (mut marks, mut room) = ([u64::MAX; 1], [7u32; 4]);
     for (window, threshold, end, expected) in &CASES {
         let settings = LookSettings::new(LookAsked {
             start: 0,
@@ -43,7 +54,7 @@ fn worked_sums(rt: HostRuntime) -> Result<(), Fail> {
             looks: None,
             end: *end,
         })?;
-        let sums = look_sums(&trace, &settings, &mut marks, &mut room);
+        let sums = sums_of(rt.alloc(), &trace, &settings)?;
         assert!(rt; has_sums(&sums, expected));
     }
     Ok(())

@@ -1,0 +1,85 @@
+"""A trace that stays open between calls."""
+
+from __future__ import annotations
+
+import ctypes
+from typing import Any, List
+
+from . import _calls, _interface
+from ._calls import LIBRARY as _LIBRARY
+from ._calls import lent as _lent
+from ._calls import number as _number
+from ._refusals import Bytes
+from ._refusals import check as _check
+from ._refusals import check_over as _check_over
+from ._refusals import room as _room
+
+
+class OpenTrace:
+    """A trace that stays open: each call over it costs what it answers, and not another pass over the trace. Its bytes
+    are not copied; they neither move nor shrink as long as it is there, and nothing may change them. Several threads
+    may call at once."""
+
+    def __init__(self, trace: Bytes) -> None:
+        self._held = _lent(trace)
+        _, length = self._held.__enter__()
+        words = 3 * min(1 << 20, max(0, length - 16) // 16) + (1 << 16)
+        self._words = _room(ctypes.c_uint32 * words)
+        self._trace, needed = _interface.Trace(), ctypes.c_size_t()
+        _check_over(_LIBRARY.precopy_trace_open, trace, self._words, words, self._trace, needed)
+
+    @property
+    def shift(self) -> int:
+        """The page shift: a page has 2**shift bytes."""
+        return int(self._trace.sizes.shift)
+
+    @property
+    def pages(self) -> int:
+        """How many pages the guest has."""
+        return int(self._trace.sizes.pages)
+
+    @property
+    def writes(self) -> int:
+        """How many writes the trace has."""
+        return int(self._trace.sizes.writes)
+
+    def writes_before(self, tick: int) -> int:
+        """Returns the number of writes before a tick."""
+        count = ctypes.c_uint32()
+        _check(_LIBRARY.precopy_trace_writes_before(self._trace, _number("tick", tick, 64), count))
+        return count.value
+
+    def memory_before(self, tick: int) -> bytearray:
+        """Returns the memory before a tick: what a migration that stops the guest there must leave."""
+        at, needed = _number("tick", tick, 64), ctypes.c_size_t()
+        room: bytearray = _room(bytearray, self.pages << self.shift)
+        with _lent(room, _calls.WRITABLE) as (start, length):
+            _check(_LIBRARY.precopy_trace_memory_before(self._trace, at, start, length, needed))
+        return room
+
+    def version_after(self, page: int, count: int) -> int:
+        """Returns the version of a page after the first `count` writes: the place of the last of them that is to the
+        page, or 0."""
+        version, where = ctypes.c_uint32(), (_number("page", page, 32), _number("count", count, 32))
+        _check(_LIBRARY.precopy_trace_version_after(self._trace, *where, version))
+        return version.value
+
+    def versions_after(self, count: int) -> List[int]:
+        """Returns the versions of all pages after the first `count` writes."""
+        return self._versions(_LIBRARY.precopy_trace_versions_after, _number("count", count, 32))
+
+    def versions_before(self, tick: int) -> List[int]:
+        """Returns the versions of all pages after the writes before a tick."""
+        return self._versions(_LIBRARY.precopy_trace_versions_before, _number("tick", tick, 64))
+
+    def page_at(self, page: int, stamp: int) -> bytes:
+        """Returns the bytes of a page at a stamp: as the write to it with this place leaves them, or zeros for 0."""
+        room = _room(ctypes.create_string_buffer, 1 << self.shift)
+        where = _number("page", page, 32), _number("stamp", stamp, 32)
+        _check(_LIBRARY.precopy_trace_page_at(self._trace, *where, ctypes.addressof(room), len(room)))
+        return room.raw
+
+    def _versions(self, call: Any, place: int) -> List[int]:
+        found, needed = _room(ctypes.c_uint32 * self.pages), ctypes.c_size_t()
+        _check(call(self._trace, place, found, len(found), needed))
+        return list(found)

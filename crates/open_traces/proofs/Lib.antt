@@ -1,0 +1,4 @@
+pub mod NextPlaces
+pub mod RecordPlaces
+pub mod Opened
+pub mod PageWalks
