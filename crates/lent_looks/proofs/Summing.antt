@@ -79,9 +79,11 @@ sums_go_on pages touches s now later sent marks room new_marks new_room lists to
     let after = goes s (now.from + so.ticks) later.listed (lists + 1) none in
     record {
       rows = new;
-      on_way = goes_on pages touches s (record { from = now.from; next = now.next; listed = now.listed })
+      on_way = goes_on pages touches s
+          (record { from = now.from; next = now.next; listed = now.listed })
           (record { from = later.from; next = later.next; listed = later.listed })
-          (record { to = sent.to; count = sent.count; is_look = sent.is_look }) marks room new_marks new_room before.rows new row total
+          (record { to = sent.to; count = sent.count; is_look = sent.is_look }) marks room new_marks new_room
+          before.rows new row total
           (total + sent.count) way so ran told refl refl refl from ready;
       lists_are = count;
       few = later_few now.from now.listed later.from later.listed sent.to so.ticks s.end s.threshold lists before.few
@@ -113,7 +115,8 @@ sums_end pages touches s now sent marks room rest lists total left sums before s
       down = duration_of left s.rate;
       sent = total + sent.count;
     } in
-    let whole : IsWhole pages touches s numbers = ends pages touches s (record { from = now.from; next = now.next; listed = now.listed })
+    let whole : IsWhole pages touches s numbers = ends pages touches s
+    (record { from = now.from; next = now.next; listed = now.listed })
     (record { to = sent.to; count = sent.count; is_look = sent.is_look }) marks room rest (take left rest)
     before.rows new row total (total + sent.count) left (duration_of left s.rate) (end_of sums.end) way so ran told
     refl refl refl refl refl in

@@ -1,14 +1,12 @@
 //! The plan of a hypervisor in memory that is lent: its sums, without a heap.
 //!
-//! [`look_sums`] walks over the lists of the plan that [`look_planner`] makes, and keeps only their sums. A planner in a
-//! web page has no heap, and its predictions need no more.
+//! [`look_sums`] walks over the lists of the plan that [`look_planner`] makes, and keeps only their sums. A planner in
+//! a web page has no heap, and its predictions need no more.
 //!
 //! ```
 //! let settings = LookSettings::new(asked)?;
 //! let sums = look_sums(&log, &settings, marks, room);
 //! ```
-//!
-//! Tests make this call: `worked_looks` of the crate `planning_rows`.
 #![tactic(auto)]
 
 mod bitmap;
