@@ -1,7 +1,5 @@
 //! A plan, list by list, of which only the sums are kept.
 
-// `AreNumbers` holds of one value alone: `one_look_plan`.
-
 ghost use Rattle.std.specs.Prelude.{◌≡◌, ◌+◌, ◌<◌, ◌≤◌, ◌^◌, ℕ, length, nat_lt, not};
 ghost use Rattle.std.specs.Option.{option_map};
 ghost use Rattle.migration_model.specs.Looks.{end_after, is_most};
