@@ -26,7 +26,7 @@ from checks.predictions.questions import Asked
 from precopy_dev.tree import TOP
 
 VERDICTS = {"yes": 20, "no": 10, "uncertain": 8, "unknown": 10, "refused": 4}
-OTHERS = {"few left": 20, "trace ends": 10, "not begun": 2, "share turns": 10, "no share turns": 10}
+OTHERS = {"few left": 20, "trace ends": 10, "not begun": 4, "share turns": 10, "no share turns": 10}
 FEW, AT_ONCE = 6, 4
 
 

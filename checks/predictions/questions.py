@@ -27,8 +27,8 @@ from precopy_tools.formats import samples
 EXAMPLES = os.path.join(TOP, "examples")
 SMALL, SHAPES, RECORDS = 2, 4, 2
 OF_TRACE, OF_RECORD = 17, 16
-# One of so many questions about a trace is refused.
-SELDOM = 8
+# One of so many questions about a trace is refused, and one of so many begins after it.
+SELDOM, AFTER = 8, 10
 # More pages than these take the model too long, and fewer writes decide nothing.
 MOST_PAGES, LEAST_WRITES = 5_000, 50
 
@@ -131,6 +131,8 @@ def random_question(draw: random.Random, trace: Trace) -> Question:
     asked = Question(1, None, 0, 0, tick, trace.size, sampled, guest, None, rounds, 0, None, skips)
     asked = limited(draw, asked, trace)
     start = draw.choice([0, draw.randrange(trace.last + 1), draw.randrange(trace.last + 5)])
+    if draw.randrange(AFTER) == 0:
+        start = trace.last + draw.randrange(1, 9)
     base = draw.choice([None, None, draw.randrange(start + 1), start + draw.choice([0, 0, 0, 0, 1])])
     first = draw.choice([None, None, max(125, asked.link * draw.randrange(10, 101) // 100 // 125 * 125)])
     increment = draw.choice([None, None, draw.randrange(1 + min(1_000_000, asked.rate(asked.link)))])

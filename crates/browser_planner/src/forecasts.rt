@@ -104,8 +104,8 @@ fn asked_forecast(
 }
 
 /// Answers what comes of the migration of a trace if its hypervisor looks at its dirty bitmap again only when few pages
-/// are left, as QEMU does. It is refused if anything lent is too short: a slot of `touches` for each write, and a bit of
-/// `marks` and a slot of `list` for each page.
+/// are left, as QEMU does. It is refused if anything lent is too short: a slot of `touches` for each write, and a bit
+/// of `marks` and a slot of `list` for each page.
 #[unsafe(no_mangle)]
 pub extern "C" fn lent_forecast(
     trace: &[u8],

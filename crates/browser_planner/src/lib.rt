@@ -13,6 +13,8 @@
 mod answering;
 mod answers;
 mod errors;
+#[cfg(test)]
+mod forecast_tests;
 mod forecasts;
 mod plans;
 #[cfg(test)]
