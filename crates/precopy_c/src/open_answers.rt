@@ -2,7 +2,7 @@
 
 // `Spells`, and so `Shows`, holds of one value alone: `one_trace`.
 
-ghost use Rattle.std.specs.Prelude.{◌≡◌, ◌≢◌, ◌<◌, ◌≤◌, IfErr, IsOk, OnErr, OnOk, length, ◌^◌};
+ghost use Rattle.std.specs.Prelude.{◌≡◌, ◌≢◌, ◌<◌, ◌≤◌, ◌⊎◌, IfErr, IsOk, OnErr, OnOk, length, ◌^◌};
 ghost use Rattle.migration_model.specs.Memory.{image_after, image_before};
 ghost use Rattle.migration_model.specs.Trace.{GuestTrace};
 ghost use Rattle.migration_model.specs.Versions.{page_at};
@@ -39,7 +39,7 @@ pub extern "C" fn precopy_trace_writes_before(
     count: &mut u32,
 ) -> u32
     requires { IsOpened trace.now }
-    ensures found { (t : GuestTrace) × Shows trace.now t × (count.new ≡ writes_before t tick)
+    ensures found { result ≡ 0 → (t : GuestTrace) × Shows trace.now t × (count.new ≡ writes_before t tick)
         × (image_after t count.new ≡ image_before t tick) }
     ensures status { result ≡ 0 }
 {
@@ -96,9 +96,10 @@ pub extern "C" fn precopy_trace_memory_before(
     requires { IsOpened trace.now }
     ensures made { result ≡ 0 → (t : GuestTrace) × Shows trace.now t × (needed.new ≡ memory_length t)
         × (memory.new ≡ over (image_before t tick).bytes memory.old) }
-    ensures short { result ≢ 0 → (t : GuestTrace) × Shows trace.now t × (result ≡ 61) × (needed.new ≡ memory_length t)
-        × (length memory.old < needed.new) × (memory.new ≡ memory.old) }
-    ensures only { (t : GuestTrace) → Shows trace.now t → memory_length t ≤ length memory.old → result ≡ 0 }
+    ensures short { result ≡ 61 → (t : GuestTrace) × Shows trace.now t × (needed.new ≡ memory_length t)
+        × (length memory.old < needed.new) }
+    ensures only { (t : GuestTrace) → Shows trace.now t → (result ≡ 0) ⊎ (result ≡ 61) }
+    ensures unchanged { result ≢ 0 → memory.new ≡ memory.old }
 {
     match answer_open_memory(&trace.opened(), tick, memory, needed) {
         Ok(()) => 0,
@@ -141,9 +142,10 @@ pub extern "C" fn precopy_trace_versions_after(
     requires { IsOpened trace.now }
     ensures made { result ≡ 0 → (t : GuestTrace) × Shows trace.now t × (needed.new ≡ t.pages)
         × (versions.new ≡ over (versions_at t count) versions.old) }
-    ensures short { result ≢ 0 → (t : GuestTrace) × Shows trace.now t × (result ≡ 61) × (needed.new ≡ t.pages)
-        × (length versions.old < needed.new) × (versions.new ≡ versions.old) }
-    ensures only { (t : GuestTrace) → Shows trace.now t → t.pages ≤ length versions.old → result ≡ 0 }
+    ensures short { result ≡ 61 → (t : GuestTrace) × Shows trace.now t × (needed.new ≡ t.pages)
+        × (length versions.old < needed.new) }
+    ensures only { (t : GuestTrace) → Shows trace.now t → (result ≡ 0) ⊎ (result ≡ 61) }
+    ensures unchanged { result ≢ 0 → versions.new ≡ versions.old }
 {
     match answer_open_versions(&trace.opened(), count, versions, needed) {
         Ok(()) => 0,
@@ -163,9 +165,10 @@ pub extern "C" fn precopy_trace_versions_before(
     requires { IsOpened trace.now }
     ensures made { result ≡ 0 → (t : GuestTrace) × Shows trace.now t × (needed.new ≡ t.pages)
         × (versions.new ≡ over (versions_at t (writes_before t tick)) versions.old) }
-    ensures short { result ≢ 0 → (t : GuestTrace) × Shows trace.now t × (result ≡ 61) × (needed.new ≡ t.pages)
-        × (length versions.old < needed.new) × (versions.new ≡ versions.old) }
-    ensures only { (t : GuestTrace) → Shows trace.now t → t.pages ≤ length versions.old → result ≡ 0 }
+    ensures short { result ≡ 61 → (t : GuestTrace) × Shows trace.now t × (needed.new ≡ t.pages)
+        × (length versions.old < needed.new) }
+    ensures only { (t : GuestTrace) → Shows trace.now t → (result ≡ 0) ⊎ (result ≡ 61) }
+    ensures unchanged { result ≢ 0 → versions.new ≡ versions.old }
 {
     let opened = trace.opened();
     let count = open_count_before(&opened, tick);
