@@ -96,7 +96,7 @@ pub extern "C" fn precopy_trace_memory_before(
     requires { IsOpened trace.now }
     ensures made { result ≡ 0 → (t : GuestTrace) × Shows trace.now t × (needed.new ≡ memory_length t)
         × (memory.new ≡ over (image_before t tick).bytes memory.old) }
-    ensures short { result ≡ 61 → (t : GuestTrace) × Shows trace.now t × (needed.new ≡ memory_length t)
+    ensures short { result ≢ 0 → (t : GuestTrace) × Shows trace.now t × (result ≡ 61) × (needed.new ≡ memory_length t)
         × (length memory.old < needed.new) }
     ensures only { (t : GuestTrace) → Shows trace.now t → (result ≡ 0) ⊎ (result ≡ 61) }
     ensures unchanged { result ≢ 0 → memory.new ≡ memory.old }
@@ -142,7 +142,7 @@ pub extern "C" fn precopy_trace_versions_after(
     requires { IsOpened trace.now }
     ensures made { result ≡ 0 → (t : GuestTrace) × Shows trace.now t × (needed.new ≡ t.pages)
         × (versions.new ≡ over (versions_at t count) versions.old) }
-    ensures short { result ≡ 61 → (t : GuestTrace) × Shows trace.now t × (needed.new ≡ t.pages)
+    ensures short { result ≢ 0 → (t : GuestTrace) × Shows trace.now t × (result ≡ 61) × (needed.new ≡ t.pages)
         × (length versions.old < needed.new) }
     ensures only { (t : GuestTrace) → Shows trace.now t → (result ≡ 0) ⊎ (result ≡ 61) }
     ensures unchanged { result ≢ 0 → versions.new ≡ versions.old }
@@ -165,7 +165,7 @@ pub extern "C" fn precopy_trace_versions_before(
     requires { IsOpened trace.now }
     ensures made { result ≡ 0 → (t : GuestTrace) × Shows trace.now t × (needed.new ≡ t.pages)
         × (versions.new ≡ over (versions_at t (writes_before t tick)) versions.old) }
-    ensures short { result ≡ 61 → (t : GuestTrace) × Shows trace.now t × (needed.new ≡ t.pages)
+    ensures short { result ≢ 0 → (t : GuestTrace) × Shows trace.now t × (result ≡ 61) × (needed.new ≡ t.pages)
         × (length versions.old < needed.new) }
     ensures only { (t : GuestTrace) → Shows trace.now t → (result ≡ 0) ⊎ (result ≡ 61) }
     ensures unchanged { result ≢ 0 → versions.new ≡ versions.old }
