@@ -41,6 +41,7 @@ pub extern "C" fn precopy_trace_writes_before(
     requires { IsOpened trace.now }
     ensures found { result ≡ 0 → (t : GuestTrace) × Shows trace.now t × (count.new ≡ writes_before t tick)
         × (image_after t count.new ≡ image_before t tick) }
+    ensures only { (t : GuestTrace) → Shows trace.now t → result ≡ 0 }
     ensures status { result ≡ 0 }
 {
     *count = open_count_before(&trace.opened(), tick);
