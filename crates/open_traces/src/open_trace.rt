@@ -64,7 +64,8 @@ impl<'a> OpenTrace<'a> {
     /// Returns the trace with this header, these bytes and this index.
     pub fn of(header: Header, bytes: &'a [u8], words: &'a [u32]) -> OpenTrace<'a>
         requires { IsOpenWith header bytes.now words.now }
-        ensures { (trace : GuestTrace) → Spells bytes.now trace → result ≡ trace }
+        ensures shown { Spells bytes.now result }
+        ensures only { (trace : GuestTrace) → Spells bytes.now trace → result ≡ trace }
     {
         let count = header.shape.writes as usize;
         let (begins, rest) = words.split_at(count);

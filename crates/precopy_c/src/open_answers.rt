@@ -2,7 +2,7 @@
 
 // `Spells`, and so `Shows`, holds of one value alone: `one_trace`.
 
-ghost use Rattle.std.specs.Prelude.{◌≡◌, ◌≢◌, ◌<◌, ◌≤◌, IfErr, IsOk, OnErr, OnOk, length, ◌^◌};
+ghost use Rattle.std.specs.Prelude.{◌≡◌, ◌≢◌, ◌<◌, ◌≤◌, ◌⊎◌, IfErr, IsOk, OnErr, OnOk, length, ◌^◌};
 ghost use Rattle.migration_model.specs.Memory.{image_after, image_before};
 ghost use Rattle.migration_model.specs.Trace.{GuestTrace};
 ghost use Rattle.migration_model.specs.Versions.{page_at};
@@ -39,8 +39,10 @@ pub extern "C" fn precopy_trace_writes_before(
     count: &mut u32,
 ) -> u32
     requires { IsOpened trace.now }
-    ensures { (t : GuestTrace) × Shows trace.now t × (result ≡ 0) × (count.new ≡ writes_before t tick)
+    ensures found { result ≡ 0 → (t : GuestTrace) × Shows trace.now t × (count.new ≡ writes_before t tick)
         × (image_after t count.new ≡ image_before t tick) }
+    ensures only { (t : GuestTrace) → Shows trace.now t → result ≡ 0 }
+    ensures status { result ≡ 0 }
 {
     *count = open_count_before(&trace.opened(), tick);
     0
@@ -96,7 +98,9 @@ pub extern "C" fn precopy_trace_memory_before(
     ensures made { result ≡ 0 → (t : GuestTrace) × Shows trace.now t × (needed.new ≡ memory_length t)
         × (memory.new ≡ over (image_before t tick).bytes memory.old) }
     ensures short { result ≢ 0 → (t : GuestTrace) × Shows trace.now t × (result ≡ 61) × (needed.new ≡ memory_length t)
-        × (length memory.old < needed.new) × (memory.new ≡ memory.old) }
+        × (length memory.old < needed.new) }
+    ensures only { (t : GuestTrace) → Shows trace.now t → (result ≡ 0) ⊎ (result ≡ 61) }
+    ensures unchanged { result ≢ 0 → memory.new ≡ memory.old }
 {
     match answer_open_memory(&trace.opened(), tick, memory, needed) {
         Ok(()) => 0,
@@ -140,7 +144,9 @@ pub extern "C" fn precopy_trace_versions_after(
     ensures made { result ≡ 0 → (t : GuestTrace) × Shows trace.now t × (needed.new ≡ t.pages)
         × (versions.new ≡ over (versions_at t count) versions.old) }
     ensures short { result ≢ 0 → (t : GuestTrace) × Shows trace.now t × (result ≡ 61) × (needed.new ≡ t.pages)
-        × (length versions.old < needed.new) × (versions.new ≡ versions.old) }
+        × (length versions.old < needed.new) }
+    ensures only { (t : GuestTrace) → Shows trace.now t → (result ≡ 0) ⊎ (result ≡ 61) }
+    ensures unchanged { result ≢ 0 → versions.new ≡ versions.old }
 {
     match answer_open_versions(&trace.opened(), count, versions, needed) {
         Ok(()) => 0,
@@ -161,7 +167,9 @@ pub extern "C" fn precopy_trace_versions_before(
     ensures made { result ≡ 0 → (t : GuestTrace) × Shows trace.now t × (needed.new ≡ t.pages)
         × (versions.new ≡ over (versions_at t (writes_before t tick)) versions.old) }
     ensures short { result ≢ 0 → (t : GuestTrace) × Shows trace.now t × (result ≡ 61) × (needed.new ≡ t.pages)
-        × (length versions.old < needed.new) × (versions.new ≡ versions.old) }
+        × (length versions.old < needed.new) }
+    ensures only { (t : GuestTrace) → Shows trace.now t → (result ≡ 0) ⊎ (result ≡ 61) }
+    ensures unchanged { result ≢ 0 → versions.new ≡ versions.old }
 {
     let opened = trace.opened();
     let count = open_count_before(&opened, tick);
@@ -185,6 +193,7 @@ pub extern "C" fn precopy_trace_version_after(
         × (version.new ≡ version_at t page count) }
     ensures refused { result ≢ 0 → (t : GuestTrace) × Shows trace.now t × (result ≡ 67) × (t.pages ≤ page)
         × (version.new ≡ version.old) }
+    ensures only { (t : GuestTrace) → Shows trace.now t → page < t.pages → result ≡ 0 }
 {
     let opened = trace.opened();
     if page >= opened.shape().pages {
@@ -237,6 +246,8 @@ pub extern "C" fn precopy_trace_page_at(
         × (content.new ≡ over (page_at t page stamp) content.old) }
     ensures refused { result ≢ 0 → (t : GuestTrace) × Shows trace.now t
         × IsNumberOfPlace result (LacksVersion t page stamp (length content.old)) }
+    ensures only { (t : GuestTrace) → Shows trace.now t → IsVersion t page stamp → 2 ^ t.shift ≤ length content.old
+        → result ≡ 0 }
     ensures unchanged { result ≢ 0 → content.new ≡ content.old }
 {
     match answer_open_page(&trace.opened(), page, stamp, content) {

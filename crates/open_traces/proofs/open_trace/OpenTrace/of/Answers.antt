@@ -1,5 +1,6 @@
-use Rattle.std.proofs.Common.{◌≡◌, ◌∙◌, ap, drop, length, refl, take, arith}
+use Rattle.std.proofs.Common.{◌≡◌, ◌∙◌, ap, drop, length, refl, subst, sym, take, arith}
 use Rattle.std.proofs.lemmas.List.{length-drop}
+use Rattle.migration_model.specs.Trace.{GuestTrace, Spells}
 use Rattle.migration_model.proofs.Traces.{one_trace_lem}
 use Rattle.open_traces.specs.Index.{index_length}
 use Rattle.open_traces.proofs.Opened.{is_open_as, length-index, shows}
@@ -48,8 +49,16 @@ invariant_of-result c =
     c.args.words.now c.requires.is_open c.requires.version_is c.requires.shift_is c.requires.pages_is
     c.requires.writes_is refl)
 
-pub returns : goal.returns
-returns c = λ trace spells.
+pub returns-clause-shown : goal.returns-clause-shown
+returns-clause-shown c =
+    let shape = c.args.header.shape in
+    subst (λ (t : GuestTrace). Spells c.args.bytes.now t)
+    (sym (shows c.requires.trace c.args.header.version shape.shift shape.pages shape.writes c.args.bytes.now
+    c.requires.is_open.spells c.requires.version_is c.requires.shift_is c.requires.pages_is c.requires.writes_is))
+    c.requires.is_open.spells
+
+pub returns-clause-only : goal.returns-clause-only
+returns-clause-only c = λ trace spells.
     let shape = c.args.header.shape in
     shows c.requires.trace c.args.header.version shape.shift shape.pages shape.writes c.args.bytes.now
     c.requires.is_open.spells c.requires.version_is c.requires.shift_is c.requires.pages_is c.requires.writes_is
