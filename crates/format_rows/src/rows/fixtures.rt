@@ -4,7 +4,7 @@ ghost use Rattle.std.specs.Prelude.{◌≡◌};
 
 use page_versions::PageIndex;
 use std::alloc::Global;
-use std::test::Fail;
+use std::process::Abort;
 use stream_check::{StreamsError, check_streams};
 use trace_codec::{Shape, decode};
 use worked_guest::TRACE;
@@ -59,39 +59,43 @@ pub(crate) const RIGHT: [Sent<'static>; 5] = [
 ];
 
 /// Appends the encoding of a frame to a stream.
-fn add_frame(stream: &mut Vec<u8>, sent: &Sent<'_>) -> Result<(), Fail> {
+fn add_frame(rt: &impl Abort, stream: &mut Vec<u8>, sent: &Sent<'_>) {
     let (page, stamp, bytes) = *sent;
-    stream.extend_from_slice(&page.to_le_bytes())?;
-    stream.extend_from_slice(&stamp.to_le_bytes())?;
+    stream
+        .extend_from_slice(&page.to_le_bytes())
+        .expect(rt, "memory");
+    stream
+        .extend_from_slice(&stamp.to_le_bytes())
+        .expect(rt, "memory");
     if *bytes == ZEROS {
-        stream.push(0)?;
-        return Ok(());
+        stream.push(0).expect(rt, "memory");
+        return;
     }
-    stream.push(1)?;
-    stream.extend_from_slice(bytes)?;
-    Ok(())
+    stream.push(1).expect(rt, "memory");
+    stream.extend_from_slice(bytes).expect(rt, "memory");
 }
 
 /// Returns the stream of these frames.
-pub(crate) fn stream_of(alloc: Global, sent: &[Sent<'_>]) -> Result<Vec<u8>, Fail> {
+pub(crate) fn stream_of(rt: &impl Abort, alloc: Global, sent: &[Sent<'_>]) -> Vec<u8> {
     let mut stream = Vec::new(alloc);
     for one in sent {
-        add_frame(&mut stream, one)?;
+        add_frame(rt, &mut stream, one);
     }
-    Ok(stream)
+    stream
 }
 
 /// Checks two streams of the worked guest.
 pub(crate) fn checked(
+    rt: &impl Abort,
     alloc: Global,
     first: &[u8],
     second: &[u8],
-) -> Result<Result<(), StreamsError>, Fail> {
-    let trace = decode(alloc, &TRACE)?;
-    let index = PageIndex::build_alone(alloc, &trace)?;
+) -> Result<(), StreamsError> {
+    let trace = decode(alloc, &TRACE).expect(rt, "a trace");
+    let index = PageIndex::build_alone(alloc, &trace).expect(rt, "an index");
     let mut bytes = Vec::new(alloc);
-    bytes.extend_from_slice(first)?;
-    bytes.extend_from_slice(second)?;
+    bytes.extend_from_slice(first).expect(rt, "memory");
+    bytes.extend_from_slice(second).expect(rt, "memory");
     let sizes = [first.len(), second.len()];
-    Ok(check_streams(alloc, &trace, &index, STOP, &bytes, &sizes))
+    check_streams(alloc, &trace, &index, STOP, &bytes, &sizes)
 }

@@ -5,22 +5,17 @@ use page_message::{
     Body, Frame, FrameError, FrameView, append_frame, decode_frame, encode_frame, frame_of,
     view_frame,
 };
-use std::alloc::{AllocError, Global};
-use std::test::Fail;
+use std::alloc::Global;
+use std::process::Abort;
 
 /// Returns the bytes with one of them changed, and cut to a length.
-fn changed(
-    rt: &impl AllocGlobal,
-    place: usize,
-    byte: u8,
-    len: usize,
-) -> Result<Vec<u8>, AllocError> {
-    let mut bytes = Vec::from_slice(rt.alloc(), &DATA_FRAME)?;
+fn changed(rt: &(impl Abort + AllocGlobal), place: usize, byte: u8, len: usize) -> Vec<u8> {
+    let mut bytes = Vec::from_slice(rt.alloc(), &DATA_FRAME).expect(rt, "memory");
     if place < bytes.len() {
         bytes[place] = byte;
     }
     bytes.truncate(len);
-    Ok(bytes)
+    bytes
 }
 
 fn refusal(rt: &impl AllocGlobal, bytes: &[u8]) -> Option<FrameError> {
@@ -28,20 +23,19 @@ fn refusal(rt: &impl AllocGlobal, bytes: &[u8]) -> Option<FrameError> {
 }
 
 /// Returns the encodings of both frames, one after the other.
-fn both_appended(rt: &impl AllocGlobal) -> Result<Vec<u8>, FrameError> {
+fn both_appended(rt: &(impl Abort + AllocGlobal)) -> Vec<u8> {
     let shape = shape();
     let mut stream = Vec::new(rt.alloc());
-    append_frame(&mut stream, &shape, 2, 0, &[0; 16])?;
-    append_frame(&mut stream, &shape, 3, 4, &DATA_FRAME[9..])?;
-    Ok(stream)
+    append_frame(&mut stream, &shape, 2, 0, &[0; 16]).expect(rt, "a frame");
+    append_frame(&mut stream, &shape, 3, 4, &DATA_FRAME[9..]).expect(rt, "a frame");
+    stream
 }
 
 #[test]
-fn frames_are_appended(rt: HostRuntime) -> Result<(), Fail> {
-    let stream = both_appended(&rt)?;
+fn frames_are_appended(rt: HostRuntime) {
+    let stream = both_appended(&rt);
     assert!(rt; stream.len() == 34);
     assert!(rt; &stream[..9] == ZEROS_FRAME.as_slice() && &stream[9..] == DATA_FRAME.as_slice());
-    Ok(())
 }
 
 /// Returns a frame's page and stamp, and its bytes if they are not zeros.
@@ -54,44 +48,40 @@ fn parts_of(frame: &Frame) -> (u32, u32, Option<&[u8]>) {
 }
 
 #[test]
-fn zeros_are_sent_without_their_bytes(rt: HostRuntime) -> Result<(), Fail> {
+fn zeros_are_sent_without_their_bytes(rt: HostRuntime) {
     let shape = shape();
-    let bytes = vec![in rt.alloc(); 0u8; shape.page_size()]?;
+    let bytes = vec![in rt.alloc(); 0u8; shape.page_size()].expect(&rt, "memory");
     let frame = frame_of(&shape, 2, 0, bytes);
     let is_short = matches!(&frame.body, Body::Zero) && frame.fits(&shape);
-    let buffer = encode_frame(rt.alloc(), &shape, &frame)?;
+    let buffer = encode_frame(rt.alloc(), &shape, &frame).expect(&rt, "a frame");
     assert!(rt; is_short && buffer.as_slice() == ZEROS_FRAME.as_slice());
-    Ok(())
 }
 
 #[test]
-fn zeros_come_back(rt: HostRuntime) -> Result<(), Fail> {
-    let (read, size) = decode_frame(rt.alloc(), &shape(), &ZEROS_FRAME)?;
+fn zeros_come_back(rt: HostRuntime) {
+    let (read, size) = decode_frame(rt.alloc(), &shape(), &ZEROS_FRAME).expect(&rt, "a frame");
     assert!(rt; (parts_of(&read), size) == ((2, 0, None), 9));
-    Ok(())
 }
 
 #[test]
-fn bytes_of_a_page_come_back(rt: HostRuntime) -> Result<(), Fail> {
+fn bytes_of_a_page_come_back(rt: HostRuntime) {
     let shape = shape();
-    let (frame, size) = decode_frame(rt.alloc(), &shape, &DATA_FRAME)?;
+    let (frame, size) = decode_frame(rt.alloc(), &shape, &DATA_FRAME).expect(&rt, "a frame");
     let is_read = (frame.page, frame.stamp, size) == (3, 4, 25) && frame.fits(&shape);
-    let buffer = encode_frame(rt.alloc(), &shape, &frame)?;
+    let buffer = encode_frame(rt.alloc(), &shape, &frame).expect(&rt, "a frame");
     assert!(rt; is_read && buffer.as_slice() == DATA_FRAME.as_slice());
-    Ok(())
 }
 
 #[test]
-fn frames_are_viewed_where_they_stand(rt: HostRuntime) -> Result<(), Fail> {
+fn frames_are_viewed_where_they_stand(rt: HostRuntime) {
     let rows: [(&[u8], (u32, u32, Option<&[u8]>), usize); 2] = [
         (&ZEROS_FRAME, (2, 0, None), 9),
         (&DATA_FRAME, (3, 4, Some(&DATA_FRAME[9..])), 25),
     ];
     for &(bytes, wanted, wanted_size) in &rows {
-        let (view, size) = view_frame(&shape(), bytes)?;
+        let (view, size) = view_frame(&shape(), bytes).expect(&rt, "a frame");
         assert!(rt; ((view.page, view.stamp, view.body), size) == (wanted, wanted_size));
     }
-    Ok(())
 }
 
 /// Makes the frame equal to the viewed one. Returns whether it then has this page, this stamp and these bytes.
@@ -105,14 +95,14 @@ fn becomes(
 }
 
 #[test]
-fn frames_are_overwritten(rt: HostRuntime) -> Result<(), Fail> {
+fn frames_are_overwritten(rt: HostRuntime) {
     let shape = shape();
     let mut changed = DATA_FRAME;
     changed[10] = 8;
-    let (zeros, _) = view_frame(&shape, &ZEROS_FRAME)?;
-    let (data, _) = view_frame(&shape, &DATA_FRAME)?;
-    let (other, _) = view_frame(&shape, &changed)?;
-    let mut frame = zeros.to_frame(rt.alloc())?;
+    let (zeros, _) = view_frame(&shape, &ZEROS_FRAME).expect(&rt, "a frame");
+    let (data, _) = view_frame(&shape, &DATA_FRAME).expect(&rt, "a frame");
+    let (other, _) = view_frame(&shape, &changed).expect(&rt, "a frame");
+    let mut frame = zeros.to_frame(rt.alloc()).expect(&rt, "memory");
     let steps = [
         becomes(
             rt.alloc(),
@@ -124,11 +114,10 @@ fn frames_are_overwritten(rt: HostRuntime) -> Result<(), Fail> {
         becomes(rt.alloc(), &mut frame, &zeros, (2, 0, None)),
     ];
     assert!(rt; steps == [true; 3]);
-    Ok(())
 }
 
 #[test]
-fn first_cause_is_answered(rt: HostRuntime) -> Result<(), Fail> {
+fn first_cause_is_answered(rt: HostRuntime) {
     const ROWS: [(usize, u8, usize, FrameError); 6] = [
         (0, 4, 25, FrameError::Page),
         (4, 6, 25, FrameError::Stamp),
@@ -138,20 +127,19 @@ fn first_cause_is_answered(rt: HostRuntime) -> Result<(), Fail> {
         (0, 4, 10, FrameError::Page),
     ];
     for &(place, byte, len, cause) in &ROWS {
-        let bytes = changed(&rt, place, byte, len)?;
+        let bytes = changed(&rt, place, byte, len);
         assert!(rt;
             refusal(&rt, &bytes) == Some(cause),
             "{len} bytes, {byte} at {place}"
         );
     }
-    let mut zeros = changed(&rt, 8, 1, 11)?;
-    zeros.resize(25, 0)?;
+    let mut zeros = changed(&rt, 8, 1, 11);
+    zeros.resize(25, 0).expect(&rt, "memory");
     assert!(rt; refusal(&rt, &zeros) == Some(FrameError::ZeroData));
-    Ok(())
 }
 
 #[test]
-fn refusals_have_their_names(rt: HostRuntime) -> Result<(), Fail> {
+fn refusals_have_their_names(rt: HostRuntime) {
     const NAMES: [(FrameError, &str); 6] = [
         (FrameError::Short, "F1"),
         (FrameError::Page, "F2"),
@@ -161,10 +149,9 @@ fn refusals_have_their_names(rt: HostRuntime) -> Result<(), Fail> {
         (FrameError::Memory, "F6"),
     ];
     for &(error, name) in &NAMES {
-        let text = format!(in rt.alloc(); "{error}")?;
+        let text = format!(in rt.alloc(); "{error}").expect(&rt, "memory");
         assert!(rt; text.as_str() == name);
     }
-    Ok(())
 }
 
 #[test]

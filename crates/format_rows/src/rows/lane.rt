@@ -1,11 +1,11 @@
 //! Worked lanes, on one thread and on two.
 
-ghost use Rattle.std.specs.Prelude.{◌≡◌, IfOk, IfSome, Some, slice_get};
+ghost use Rattle.std.specs.Prelude.{◌≡◌, IfSome, Some, slice_get};
 ghost use Rattle.stream_lanes.specs.Ends.{IsLane, SameIn, SameOut};
 
-use std::alloc::{AllocError, Global};
+use std::alloc::Global;
+use std::process::Abort;
 use std::snapshot::Snapshot;
-use std::test::Fail;
 use std::thread;
 use std::thread::{Promise, PromisedHandle, Threads};
 use stream_lanes::{LaneIn, LaneOut, Lanes, by_stream, drain, lanes};
@@ -24,15 +24,15 @@ fn first_of<T: Drop>(items: Vec<T>) -> Option<T>
 }
 
 /// Returns a lane with room for `capacity` frames.
-fn one_lane(alloc: Global, capacity: usize) -> Result<(LaneOut, LaneIn), Fail>
-    ensures { IfOk result (λ ends. IsLane ends.0 ends.1) }
+fn one_lane(rt: &impl Abort, alloc: Global, capacity: usize) -> (LaneOut, LaneIn)
+    ensures { IsLane result.0 result.1 }
 {
-    let Lanes { outs, ins } = lanes(alloc, 1, 1, capacity)?;
-    let outs = first_of(outs).ok_or("a worker")?;
-    let ins = first_of(ins).ok_or("a stream")?;
-    let out = first_of(outs).ok_or("an end that sends")?;
-    let end = first_of(ins).ok_or("an end that takes")?;
-    Ok((out, end))
+    let Lanes { outs, ins } = lanes(alloc, 1, 1, capacity).expect(rt, "lanes");
+    let outs = first_of(outs).expect(rt, "a worker");
+    let ins = first_of(ins).expect(rt, "a stream");
+    let out = first_of(outs).expect(rt, "an end that sends");
+    let end = first_of(ins).expect(rt, "an end that takes");
+    (out, end)
 }
 
 /// Sends one byte, if there is room. Returns false if there is none, or if memory runs out.
@@ -67,8 +67,8 @@ fn first_byte(frame: Option<Vec<u8>>) -> u8 {
 }
 
 #[test]
-fn a_lane_of_two(rt: HostRuntime) -> Result<(), Fail> {
-    let (mut out, mut end) = one_lane(rt.alloc(), 2)?;
+fn a_lane_of_two(rt: HostRuntime) {
+    let (mut out, mut end) = one_lane(&rt, rt.alloc(), 2);
     let steps = [
         send_byte(rt.alloc(), &mut out, 0x61),
         send_byte(rt.alloc(), &mut out, 0x62),
@@ -78,12 +78,11 @@ fn a_lane_of_two(rt: HostRuntime) -> Result<(), Fail> {
     let mut rest = drain(out, end);
     let second = first_byte(rest.take());
     assert!(rt; (steps, first, second, rest.take().is_none()) == ([true; 3], 0x61, 0x62, true));
-    Ok(())
 }
 
 #[test]
-fn room_comes_back_as_frames_are_taken(rt: HostRuntime) -> Result<(), Fail> {
-    let (mut out, mut end) = one_lane(rt.alloc(), 2)?;
+fn room_comes_back_as_frames_are_taken(rt: HostRuntime) {
+    let (mut out, mut end) = one_lane(&rt, rt.alloc(), 2);
     for byte in 1..=10u8 {
         let other = byte + 100;
         let steps = [
@@ -94,12 +93,11 @@ fn room_comes_back_as_frames_are_taken(rt: HostRuntime) -> Result<(), Fail> {
         let taken = [first_byte(end.take()), first_byte(end.take())];
         assert!(rt; (steps, taken, end.take().is_none()) == ([true; 3], [byte, other], true));
     }
-    Ok(())
 }
 
 #[test]
-fn texts_go_back_in_order(rt: HostRuntime) -> Result<(), Fail> {
-    let (mut out, mut end) = one_lane(rt.alloc(), 2)?;
+fn texts_go_back_in_order(rt: HostRuntime) {
+    let (mut out, mut end) = one_lane(&rt, rt.alloc(), 2);
     let sent = [
         out.spare().is_none(),
         send_byte(rt.alloc(), &mut out, 0x61),
@@ -115,12 +113,11 @@ fn texts_go_back_in_order(rt: HostRuntime) -> Result<(), Fail> {
     assert!(rt;
         (sent, given, spares, out.spare().is_none()) == ([true; 3], [true; 3], [0x61, 0x63], true)
     );
-    Ok(())
 }
 
 #[test]
-fn no_more_than_1024_texts_wait(rt: HostRuntime) -> Result<(), Fail> {
-    let (mut out, mut end) = one_lane(rt.alloc(), 2_000)?;
+fn no_more_than_1024_texts_wait(rt: HostRuntime) {
+    let (mut out, mut end) = one_lane(&rt, rt.alloc(), 2_000);
     let first = send_byte(rt.alloc(), &mut out, 0x61);
     for _ in 0..1_030 {
         end.give_back(Vec::new(rt.alloc()));
@@ -133,50 +130,50 @@ fn no_more_than_1024_texts_wait(rt: HostRuntime) -> Result<(), Fail> {
     let steps = [first, second, all, out.spare().is_none()];
     let taken = [first_byte(end.take()), first_byte(end.take())];
     assert!(rt; (steps, taken, end.take().is_none()) == ([true; 4], [0x61, 0x62], true));
-    Ok(())
 }
 
 /// Sends 1, 2, 3 and so on, one to each lane, worker by worker.
-fn send_each(alloc: Global, outs: Vec<Vec<LaneOut>>) -> Result<(), Fail> {
+fn send_each(rt: &impl Abort, alloc: Global, outs: Vec<Vec<LaneOut>>) {
     let mut byte = 0u8;
     for row in outs {
         for mut out in row {
             byte = byte.wrapping_add(1);
             if !send_byte(alloc, &mut out, byte) {
-                return Err(Fail::from("no room"));
+                panic!(rt; "no room");
             }
         }
     }
-    Ok(())
 }
 
 /// Returns the first byte of each lane, stream by stream.
-fn take_each(alloc: Global, ins: Vec<Vec<LaneIn>>) -> Result<Vec<u8>, AllocError> {
+fn take_each(rt: &impl Abort, alloc: Global, ins: Vec<Vec<LaneIn>>) -> Vec<u8> {
     let mut bytes = Vec::new(alloc);
     for row in ins {
         for mut end in row {
-            bytes.push(first_byte(end.take()))?;
+            bytes.push(first_byte(end.take())).expect(rt, "memory");
         }
     }
-    Ok(bytes)
+    bytes
 }
 
 #[test]
-fn lanes_cross(rt: HostRuntime) -> Result<(), Fail> {
-    let Lanes { outs, ins } = lanes(rt.alloc(), 2, 3, 4)?;
-    send_each(rt.alloc(), outs)?;
-    let bytes = take_each(rt.alloc(), ins)?;
+fn lanes_cross(rt: HostRuntime) {
+    let Lanes { outs, ins } = lanes(rt.alloc(), 2, 3, 4).expect(&rt, "lanes");
+    send_each(&rt, rt.alloc(), outs);
+    let bytes = take_each(&rt, rt.alloc(), ins);
     assert!(rt; bytes.as_slice() == [1, 4, 2, 5, 3, 6].as_slice());
-    Ok(())
 }
 
 #[test]
-fn columns_are_of_the_same_lanes(rt: HostRuntime) -> Result<(), Fail> {
-    let Lanes { outs, ins } = lanes(rt.alloc(), 2, 3, 4)?;
-    send_each(rt.alloc(), by_stream(rt.alloc(), 3, outs)?)?;
-    let bytes = take_each(rt.alloc(), ins)?;
+fn columns_are_of_the_same_lanes(rt: HostRuntime) {
+    let Lanes { outs, ins } = lanes(rt.alloc(), 2, 3, 4).expect(&rt, "lanes");
+    send_each(
+        &rt,
+        rt.alloc(),
+        by_stream(rt.alloc(), 3, outs).expect(&rt, "lanes"),
+    );
+    let bytes = take_each(&rt, rt.alloc(), ins);
     assert!(rt; bytes.as_slice() == [1, 2, 3, 4, 5, 6].as_slice());
-    Ok(())
 }
 
 /// The thread returns the end that it was given.
@@ -212,11 +209,11 @@ fn send_numbers(alloc: Global, mut out: LaneOut) -> LaneOut
 }
 
 fn start_sending(
-    rt: &impl Threads,
+    rt: &(impl Abort + Threads),
     alloc: Global,
     out: LaneOut,
-) -> Result<PromisedHandle<LaneOut, Sends>, Fail>
-    ensures { IfOk result (λ h. h.promise.out.value ≡ out) }
+) -> PromisedHandle<LaneOut, Sends>
+    ensures { result.promise.out.value ≡ out }
 {
     let promise = Sends {
         out: Snapshot::of(&out),
@@ -225,9 +222,9 @@ fn start_sending(
         ensures { SameOut out result }
     { send_numbers(alloc, out) };
     let Ok(handle) = thread::spawn_with(rt, promise, sending) else {
-        return Err(Fail::from("no thread"));
+        panic!(rt; "no thread");
     };
-    Ok(handle)
+    handle
 }
 
 /// The end after its thread, and how many numbers came in order.
@@ -268,8 +265,8 @@ fn take_numbers(mut end: LaneIn) -> Taken
     Taken { end, count }
 }
 
-fn start_taking(rt: &impl Threads, end: LaneIn) -> Result<PromisedHandle<Taken, Takes>, Fail>
-    ensures { IfOk result (λ h. h.promise.end.value ≡ end) }
+fn start_taking(rt: &(impl Abort + Threads), end: LaneIn) -> PromisedHandle<Taken, Takes>
+    ensures { result.promise.end.value ≡ end }
 {
     let promise = Takes {
         end: Snapshot::of(&end),
@@ -278,9 +275,9 @@ fn start_taking(rt: &impl Threads, end: LaneIn) -> Result<PromisedHandle<Taken, 
         ensures { SameIn end result.end }
     { take_numbers(end) };
     let Ok(handle) = thread::spawn_with(rt, promise, taking) else {
-        return Err(Fail::from("no thread"));
+        panic!(rt; "no thread");
     };
-    Ok(handle)
+    handle
 }
 
 /// Returns whether there is a frame, and it is this number.
@@ -292,10 +289,10 @@ fn is_number(frame: Option<Vec<u8>>, number: u16) -> bool {
 }
 
 #[test]
-fn one_thread_sends_and_one_takes(rt: HostRuntime) -> Result<(), Fail> {
-    let (out, end) = one_lane(rt.alloc(), 16)?;
-    let taking = start_taking(&rt, end)?;
-    let sending = start_sending(&rt, rt.alloc(), out)?;
+fn one_thread_sends_and_one_takes(rt: HostRuntime) {
+    let (out, end) = one_lane(&rt, rt.alloc(), 16);
+    let taking = start_taking(&rt, end);
+    let sending = start_sending(&rt, rt.alloc(), out);
     let out = sending.join(&rt);
     let Taken { end, count } = taking.join(&rt);
     let mut rest = drain(out, end);
@@ -304,5 +301,4 @@ fn one_thread_sends_and_one_takes(rt: HostRuntime) -> Result<(), Fail> {
         in_order &= is_number(rest.take(), number);
     }
     assert!(rt; (count, in_order, rest.take().is_none()) == (FRAMES - 10, true, true));
-    Ok(())
 }

@@ -6,8 +6,8 @@ ghost use Rattle.page_message.specs.Shapes.{shape_of};
 use super::fixtures::{DATA_FRAME, ZEROS_FRAME, shape};
 use collector::{Fate, Part, PartError, merge};
 use page_message::{Body, FrameError, append_frame, decode_frame, frame_of};
-use std::alloc::{AllocError, Global};
-use std::test::Fail;
+use std::alloc::Global;
+use std::process::Abort;
 use trace_codec::Shape;
 
 /// Gives the part a page filled with this byte. Returns the page's fate, or None if memory ran out.
@@ -115,15 +115,15 @@ fn older_frame_goes(rt: HostRuntime) {
 }
 
 /// Returns a frame of zeros followed by these bytes.
-fn behind_zeros(alloc: Global, frame: &[u8]) -> Result<Vec<u8>, AllocError> {
-    let mut bytes = Vec::from_slice(alloc, &ZEROS_FRAME)?;
-    bytes.extend_from_slice(frame)?;
-    Ok(bytes)
+fn behind_zeros(rt: &impl Abort, alloc: Global, frame: &[u8]) -> Vec<u8> {
+    let mut bytes = Vec::from_slice(alloc, &ZEROS_FRAME).expect(rt, "memory");
+    bytes.extend_from_slice(frame).expect(rt, "memory");
+    bytes
 }
 
 #[test]
-fn frames_in_front_of_a_refused_one_are_taken(rt: HostRuntime) -> Result<(), Fail> {
-    let mut bytes = behind_zeros(rt.alloc(), &DATA_FRAME)?;
+fn frames_in_front_of_a_refused_one_are_taken(rt: HostRuntime) {
+    let mut bytes = behind_zeros(&rt, rt.alloc(), &DATA_FRAME);
     bytes.truncate(33);
     let mut part = Part::new(rt.alloc(), shape());
     let taken = part.accept_bytes(&bytes);
@@ -134,12 +134,11 @@ fn frames_in_front_of_a_refused_one_are_taken(rt: HostRuntime) -> Result<(), Fai
             [part.stamp(0), part.stamp(1), part.stamp(2), part.stamp(3)]
         ) == (Err((1, FrameError::Short)), [None, None, Some(0), None])
     );
-    Ok(())
 }
 
 #[test]
-fn frames_are_taken_to_the_end(rt: HostRuntime) -> Result<(), Fail> {
-    let bytes = behind_zeros(rt.alloc(), &ZEROS_FRAME)?;
+fn frames_are_taken_to_the_end(rt: HostRuntime) {
+    let bytes = behind_zeros(&rt, rt.alloc(), &ZEROS_FRAME);
     let mut part = Part::new(rt.alloc(), shape());
     let taken = [
         part.accept_bytes(&bytes),
@@ -151,7 +150,6 @@ fn frames_are_taken_to_the_end(rt: HostRuntime) -> Result<(), Fail> {
         (taken, [part.stamp(0), part.stamp(2), part.stamp(3)])
             == ([Ok(2), Ok(1), Ok(0)], [None, Some(0), Some(4)])
     );
-    Ok(())
 }
 
 /// What a part returns for the frame at the front of some bytes, if there is one and memory lasts.
@@ -245,14 +243,13 @@ fn merged(alloc: Global) -> Option<Part> {
 }
 
 #[test]
-fn first_part_stays_where_stamps_are_equal(rt: HostRuntime) -> Result<(), Fail> {
-    let both = merged(rt.alloc()).ok_or("a part")?;
+fn first_part_stays_where_stamps_are_equal(rt: HostRuntime) {
+    let both = merged(rt.alloc()).expect(&rt, "a part");
     let stamps = [both.stamp(0), both.stamp(1), both.stamp(2), both.stamp(3)];
     assert!(rt;
         (stamps, filling(&both), both.frame(0).is_none())
             == ([None, Some(3), Some(4), Some(1)], Some(7), true)
     );
-    Ok(())
 }
 
 /// Returns the join of two parts as a final copy leaves them: the first had pages 1, 2 and 3, and pages 0 and 1 were
@@ -275,9 +272,8 @@ fn merged_after_a_final_copy(alloc: Global) -> Option<Part> {
 }
 
 #[test]
-fn join_has_the_greatest_stamps(rt: HostRuntime) -> Result<(), Fail> {
-    let both = merged_after_a_final_copy(rt.alloc()).ok_or("a part")?;
+fn join_has_the_greatest_stamps(rt: HostRuntime) {
+    let both = merged_after_a_final_copy(rt.alloc()).expect(&rt, "a part");
     let stamps = [both.stamp(0), both.stamp(1), both.stamp(2), both.stamp(3)];
     assert!(rt; (stamps, filling(&both)) == ([Some(1), Some(3), Some(0), Some(0)], Some(9)));
-    Ok(())
 }

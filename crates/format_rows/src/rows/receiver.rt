@@ -1,13 +1,13 @@
 //! Worked examples: a stream from two workers, of a guest of 4 pages of 16 bytes, with 5 writes.
 
-ghost use Rattle.std.specs.Prelude.{◌≡◌, ◌≤◌, ◌<◌, IfOk, IfSome, Some, map, slice_get};
+ghost use Rattle.std.specs.Prelude.{◌≡◌, ◌≤◌, ◌<◌, IfSome, Some, map, slice_get};
 ghost use Rattle.stream_receivers.specs.Receivers.{AreEnds, AreNewEnds};
 
 use super::fixtures::shape;
 use collector::Part;
 use page_message::{Body, FrameError, append_frame};
 use std::alloc::Global;
-use std::test::Fail;
+use std::process::Abort;
 use stream_lanes::{LaneIn, LaneOut, Lanes, by_stream, lanes};
 use stream_receivers::{Receiver, ReceiverError};
 
@@ -19,14 +19,14 @@ fn first_of<T: Drop>(items: Vec<T>) -> Option<T>
 }
 
 /// Returns the ends of new lanes, each with room for 4 frames.
-fn new_ends(alloc: Global) -> Result<(Vec<LaneOut>, Vec<LaneIn>), Fail>
-    ensures { IfOk result (λ ends. AreNewEnds ends.0.items ends.1.items) }
+fn new_ends(rt: &impl Abort, alloc: Global) -> (Vec<LaneOut>, Vec<LaneIn>)
+    ensures { AreNewEnds result.0.items result.1.items }
 {
-    let Lanes { outs, ins } = lanes(alloc, 2, 1, 4)?;
-    let columns = by_stream(alloc, 1, outs)?;
+    let Lanes { outs, ins } = lanes(alloc, 2, 1, 4).expect(rt, "lanes");
+    let columns = by_stream(alloc, 1, outs).expect(rt, "lanes");
     match (first_of(columns), first_of(ins)) {
-        (Some(column), Some(row)) => Ok((column, row)),
-        _ => Err(Fail::from("no stream")),
+        (Some(column), Some(row)) => (column, row),
+        _ => panic!(rt; "no stream"),
     }
 }
 
@@ -38,10 +38,10 @@ struct Stream {
     ghost are_ends: { AreEnds outs.items receiver.ends },
 }
 
-fn new_stream(alloc: Global) -> Result<Stream, Fail> {
-    let (outs, ends) = new_ends(alloc)?;
+fn new_stream(rt: &impl Abort, alloc: Global) -> Stream {
+    let (outs, ends) = new_ends(rt, alloc);
     let receiver = Receiver::new(alloc, shape(), ends);
-    Ok(Stream { outs, receiver })
+    Stream { outs, receiver }
 }
 
 /// Sends some bytes on one of the lanes. Returns false if there is no such lane, or no room.
@@ -114,8 +114,8 @@ fn is_filled(part: &Part, page: u32, byte: u8) -> bool {
 }
 
 #[test]
-fn frames_of_two_workers_come_in_any_order(rt: HostRuntime) -> Result<(), Fail> {
-    let mut stream = new_stream(rt.alloc())?;
+fn frames_of_two_workers_come_in_any_order(rt: HostRuntime) {
+    let mut stream = new_stream(&rt, rt.alloc());
     let steps = [
         stream.send_page(rt.alloc(), 0, 1, 5, 7),
         stream.send_page(rt.alloc(), 1, 1, 2, 8),
@@ -125,7 +125,7 @@ fn frames_of_two_workers_come_in_any_order(rt: HostRuntime) -> Result<(), Fail> 
         !stream.take(0),
         stream.send_page(rt.alloc(), 0, 3, 4, 9),
     ];
-    let part = stream.finish()?;
+    let part = stream.finish().expect(&rt, "a part");
     let stamps = [part.stamp(0), part.stamp(1), part.stamp(2), part.stamp(3)];
     let filled = [
         is_filled(&part, 1, 7),
@@ -135,15 +135,14 @@ fn frames_of_two_workers_come_in_any_order(rt: HostRuntime) -> Result<(), Fail> 
     assert!(rt;
         (steps, stamps, filled) == ([true; 7], [None, Some(5), Some(0), Some(4)], [true; 3])
     );
-    Ok(())
 }
 
 #[test]
-fn nothing_comes_where_nothing_is_sent(rt: HostRuntime) -> Result<(), Fail> {
-    let mut stream = new_stream(rt.alloc())?;
+fn nothing_comes_where_nothing_is_sent(rt: HostRuntime) {
+    let mut stream = new_stream(&rt, rt.alloc());
     let lanes = stream.receiver.lanes();
     let taken = [stream.take(0), stream.take(1)];
-    let part = stream.finish()?;
+    let part = stream.finish().expect(&rt, "a part");
     let missing = [
         part.frame(0).is_none(),
         part.frame(1).is_none(),
@@ -151,12 +150,11 @@ fn nothing_comes_where_nothing_is_sent(rt: HostRuntime) -> Result<(), Fail> {
         part.frame(3).is_none(),
     ];
     assert!(rt; (lanes, taken, part.shape(), missing) == (2, [false; 2], shape(), [true; 4]));
-    Ok(())
 }
 
 #[test]
-fn a_refusal_is_kept_and_frames_are_taken_behind_it(rt: HostRuntime) -> Result<(), Fail> {
-    let mut stream = new_stream(rt.alloc())?;
+fn a_refusal_is_kept_and_frames_are_taken_behind_it(rt: HostRuntime) {
+    let mut stream = new_stream(&rt, rt.alloc());
     let steps = [
         stream.send_bytes(rt.alloc(), 0, &[0]),
         stream.send_page(rt.alloc(), 0, 1, 5, 7),
@@ -165,12 +163,11 @@ fn a_refusal_is_kept_and_frames_are_taken_behind_it(rt: HostRuntime) -> Result<(
     ];
     let refusal = stream.finish().err();
     assert!(rt; (steps, refusal) == ([true; 4], Some(ReceiverError::Frame)));
-    Ok(())
 }
 
 #[test]
-fn what_is_left_may_be_refused(rt: HostRuntime) -> Result<(), Fail> {
-    let mut stream = new_stream(rt.alloc())?;
+fn what_is_left_may_be_refused(rt: HostRuntime) {
+    let mut stream = new_stream(&rt, rt.alloc());
     let steps = [
         stream.send_page(rt.alloc(), 0, 1, 5, 7),
         stream.send_bytes(rt.alloc(), 1, &[0]),
@@ -178,33 +175,32 @@ fn what_is_left_may_be_refused(rt: HostRuntime) -> Result<(), Fail> {
     ];
     let refusal = stream.finish().err();
     assert!(rt; (steps, refusal) == ([true; 3], Some(ReceiverError::Frame)));
-    Ok(())
 }
 
 /// Returns the encodings of pages 1 and 2 as one run of bytes.
-fn two_pages(alloc: Global) -> Result<Vec<u8>, Fail> {
-    let mut two = encoded(alloc, 1, 5, 7)?;
-    two.extend_from_slice(&encoded(alloc, 2, 5, 7)?)?;
-    Ok(two)
+fn two_pages(rt: &impl Abort, alloc: Global) -> Vec<u8> {
+    let mut two = encoded(alloc, 1, 5, 7).expect(rt, "memory");
+    two.extend_from_slice(&encoded(alloc, 2, 5, 7).expect(rt, "memory"))
+        .expect(rt, "memory");
+    two
 }
 
 #[test]
-fn a_text_is_of_one_frame(rt: HostRuntime) -> Result<(), Fail> {
-    let two = two_pages(rt.alloc())?;
+fn a_text_is_of_one_frame(rt: HostRuntime) {
+    let two = two_pages(&rt, rt.alloc());
     for bytes in [&[][..], two.as_slice()] {
-        let mut stream = new_stream(rt.alloc())?;
+        let mut stream = new_stream(&rt, rt.alloc());
         let sent = stream.send_bytes(rt.alloc(), 0, bytes);
         let refusal = stream.finish().err();
         assert!(rt; (sent, refusal) == (true, Some(ReceiverError::Frame)));
     }
-    Ok(())
 }
 
 /// Returns an end of a lane, and a receiver that takes from the other.
-fn one_out(alloc: Global) -> Result<(LaneOut, Receiver), Fail> {
-    let (outs, ends) = new_ends(alloc)?;
-    let out = first_of(outs).ok_or("an end that sends")?;
-    Ok((out, Receiver::new(alloc, shape(), ends)))
+fn one_out(rt: &impl Abort, alloc: Global) -> (LaneOut, Receiver) {
+    let (outs, ends) = new_ends(rt, alloc);
+    let out = first_of(outs).expect(rt, "an end that sends");
+    (out, Receiver::new(alloc, shape(), ends))
 }
 
 /// Sends some bytes and takes them. Returns whether the buffer that came back has room for them, if one did.
@@ -241,8 +237,8 @@ fn pass(
 }
 
 #[test]
-fn a_page_keeps_its_first_buffer_and_others_go_back(rt: HostRuntime) -> Result<(), Fail> {
-    let (mut out, mut receiver) = one_out(rt.alloc())?;
+fn a_page_keeps_its_first_buffer_and_others_go_back(rt: HostRuntime) {
+    let (mut out, mut receiver) = one_out(&rt, rt.alloc());
     let rooms = [
         pass(rt.alloc(), &mut out, &mut receiver, 1, 0),
         pass(rt.alloc(), &mut out, &mut receiver, 2, 7),
@@ -260,16 +256,14 @@ fn a_page_keeps_its_first_buffer_and_others_go_back(rt: HostRuntime) -> Result<(
                 Ok(Some(true))
             ]
     );
-    Ok(())
 }
 
 #[test]
-fn texts_go_back_after_a_refusal(rt: HostRuntime) -> Result<(), Fail> {
-    let (mut out, mut receiver) = one_out(rt.alloc())?;
+fn texts_go_back_after_a_refusal(rt: HostRuntime) {
+    let (mut out, mut receiver) = one_out(&rt, rt.alloc());
     let first = pass(rt.alloc(), &mut out, &mut receiver, 2, 7);
     let empty = pass_buffer(&mut out, &mut receiver, Vec::new(rt.alloc()));
     let refused = receiver.is_refused();
     let last = pass(rt.alloc(), &mut out, &mut receiver, 4, 8);
     assert!(rt; ([first, empty, last], refused) == ([Ok(None), Ok(None), Ok(Some(true))], true));
-    Ok(())
 }

@@ -2,8 +2,8 @@
 
 ghost use Rattle.std.specs.Prelude.{◌≤◌};
 
-use std::alloc::{AllocError, Global};
-use std::test::Fail;
+use std::alloc::Global;
+use std::process::Abort;
 use trace_codec::{
     Shape, TestSource, Timeline, TraceError, WriteLog, checked_write, decode, read_header,
 };
@@ -12,37 +12,41 @@ use worked_guest::{Change, NO_WRITES, TRACE, refused};
 
 /// Returns the shape, and ticks, pages, offsets and bytes in order.
 fn told<L: WriteLog>(
+    rt: &impl Abort,
     alloc: Global,
     log: &L,
-) -> Result<(Shape, Vec<(u64, u32, u16, Vec<u8>)>), AllocError> {
+) -> (Shape, Vec<(u64, u32, u16, Vec<u8>)>) {
     let mut writes = Vec::new(alloc);
     for index in 0..log.shape().writes as usize {
         let write = log.write(index);
-        let bytes = Vec::from_slice(alloc, write.bytes)?;
-        writes.push((write.tick, write.page, write.offset, bytes))?;
+        let bytes = Vec::from_slice(alloc, write.bytes).expect(rt, "memory");
+        writes
+            .push((write.tick, write.page, write.offset, bytes))
+            .expect(rt, "memory");
     }
-    Ok((log.shape(), writes))
+    (log.shape(), writes)
 }
 
 /// Returns the trace of these bytes, held as they are.
-fn held(alloc: Global, bytes: &[u8]) -> Result<HeldTrace, Fail> {
-    Ok(HeldTrace::parse(alloc, Vec::from_slice(alloc, bytes)?)?)
+fn held(rt: &impl Abort, alloc: Global, bytes: &[u8]) -> HeldTrace {
+    HeldTrace::parse(alloc, Vec::from_slice(alloc, bytes).expect(rt, "memory")).expect(
+        rt, "a trace",
+    )
 }
 
 #[test]
-fn knows_its_sizes(rt: HostRuntime) -> Result<(), Fail> {
-    let text = held(rt.alloc(), &TRACE)?;
+fn knows_its_sizes(rt: HostRuntime) {
+    let text = held(&rt, rt.alloc(), &TRACE);
     let Shape {
         shift,
         pages,
         writes,
     } = text.shape();
     assert!(rt; (shift, pages, writes, text.page_count()) == (4, 4, 5, 4));
-    Ok(())
 }
 
 #[test]
-fn holds_each_write(rt: HostRuntime) -> Result<(), Fail> {
+fn holds_each_write(rt: HostRuntime) {
     const WRITES: [(u64, u32, u16, &[u8]); 5] = [
         (0, 0, 0, &[1]),
         (5, 1, 15, &[2]),
@@ -50,7 +54,7 @@ fn holds_each_write(rt: HostRuntime) -> Result<(), Fail> {
         (2500, 3, 2, &[4, 5]),
         (2500, 1, 0, &[0]),
     ];
-    let text = held(rt.alloc(), &TRACE)?;
+    let text = held(&rt, rt.alloc(), &TRACE);
     assert!(rt; text.touch_count() == 5);
     for (index, &(tick, page, offset, bytes)) in WRITES.iter().enumerate() {
         let write = text.write(index);
@@ -61,14 +65,13 @@ fn holds_each_write(rt: HostRuntime) -> Result<(), Fail> {
             "{index}"
         );
     }
-    Ok(())
 }
 
 #[test]
-fn header_and_first_record_are_tested(rt: HostRuntime) -> Result<(), Fail> {
-    let header = read_header(&TRACE)?;
+fn header_and_first_record_are_tested(rt: HostRuntime) {
+    let header = read_header(&TRACE).expect(&rt, "a header");
     let shape = header.shape;
-    let (write, behind) = checked_write(header, 0, 0, &TRACE[16..])?;
+    let (write, behind) = checked_write(header, 0, 0, &TRACE[16..]).expect(&rt, "a write");
     let late = checked_write(header, 1, 7, &TRACE[16..]).err();
     assert!(rt;
         (
@@ -81,44 +84,46 @@ fn header_and_first_record_are_tested(rt: HostRuntime) -> Result<(), Fail> {
             Some(TraceError::TickOrder(7))
         )
     );
-    Ok(())
 }
 
 #[test]
-fn counts_the_touches_before_a_tick(rt: HostRuntime) -> Result<(), Fail> {
-    let empty = held(rt.alloc(), &NO_WRITES)?;
+fn counts_the_touches_before_a_tick(rt: HostRuntime) {
+    let empty = held(&rt, rt.alloc(), &NO_WRITES);
     assert!(rt; (empty.page_count(), empty.touch_count(), empty.before(1)) == (4, 0, 0));
     drop(empty);
-    let text = held(rt.alloc(), &TRACE)?;
+    let text = held(&rt, rt.alloc(), &TRACE);
     let ticks = [0, 1, 5, 6, 1200, 1201, 2500, 2501, 1 << 40];
     let counts = ticks.map(|tick| text.before(tick));
     assert!(rt; counts == [0, 1, 1, 2, 2, 3, 3, 5, 5]);
-    Ok(())
 }
 
 /// Returns the shape and the writes of the trace, if each read gives at most `greatest` bytes.
 fn told_by_reads(
+    rt: &impl Abort,
     alloc: Global,
     greatest: usize,
-) -> Result<(Shape, Vec<(u64, u32, u16, Vec<u8>)>), Fail>
+) -> (Shape, Vec<(u64, u32, u16, Vec<u8>)>)
     requires { 1 ≤ greatest }
 {
-    let mut source = TestSource::new(Vec::from_slice(alloc, &TRACE)?, greatest, None);
-    let read = HeldTrace::read(alloc, &mut source)?;
-    Ok(told(alloc, &read)?)
+    let mut source = TestSource::new(
+        Vec::from_slice(alloc, &TRACE).expect(rt, "memory"),
+        greatest,
+        None,
+    );
+    let read = HeldTrace::read(alloc, &mut source).expect(rt, "a trace");
+    told(rt, alloc, &read)
 }
 
 #[test]
-fn is_the_same_as_a_trace_with_writes_of_its_own(rt: HostRuntime) -> Result<(), Fail> {
+fn is_the_same_as_a_trace_with_writes_of_its_own(rt: HostRuntime) {
     let alloc = rt.alloc();
-    let wanted = told(alloc, &decode(alloc, &TRACE)?)?;
+    let wanted = told(&rt, alloc, &decode(alloc, &TRACE).expect(&rt, "a trace"));
     for greatest in [1, 17, 102, 1000] {
         assert!(rt;
-            told_by_reads(alloc, greatest)? == wanted,
+            told_by_reads(&rt, alloc, greatest) == wanted,
             "{greatest} bytes a read"
         );
     }
-    Ok(())
 }
 
 /// Returns why the bytes are refused, if they are, when each read gives at most `greatest` and the read of this
@@ -135,54 +140,63 @@ fn read_refusal(
 }
 
 /// Returns why the changed trace is refused, as a whole, and when each read gives at most 20 bytes.
-fn refusals(alloc: Global, change: &Change) -> Result<[Option<TraceError>; 2], AllocError> {
-    let parsed = HeldTrace::parse(alloc, change.bytes(alloc)?).err();
-    let read = read_refusal(alloc, change.bytes(alloc)?, 20, None);
-    Ok([parsed, read])
+fn refusals(rt: &impl Abort, alloc: Global, change: &Change) -> [Option<TraceError>; 2] {
+    let parsed = HeldTrace::parse(alloc, change.bytes(alloc).expect(rt, "memory")).err();
+    let read = read_refusal(alloc, change.bytes(alloc).expect(rt, "memory"), 20, None);
+    [parsed, read]
 }
 
 #[test]
-fn refuses_the_first_cause(rt: HostRuntime) -> Result<(), Fail> {
+fn refuses_the_first_cause(rt: HostRuntime) {
     let alloc = rt.alloc();
     for (change, cause) in refused() {
-        let causes = refusals(alloc, &change)?;
+        let causes = refusals(&rt, alloc, &change);
         assert!(rt; causes == [Some(cause); 2]);
     }
-    let fault = read_refusal(alloc, Vec::from_slice(alloc, &TRACE)?, 20, Some(6));
+    let fault = read_refusal(
+        alloc,
+        Vec::from_slice(alloc, &TRACE).expect(&rt, "memory"),
+        20,
+        Some(6),
+    );
     assert!(rt; fault == Some(TraceError::ReadFault));
-    Ok(())
 }
 
 /// Returns the bytes of a trace of 2 pages of 16 bytes, which writes byte 7 to the start of page 1 at each of 70000
 /// ticks.
-fn long_text(alloc: Global) -> Result<Vec<u8>, AllocError> {
+fn long_text(rt: &impl Abort, alloc: Global) -> Vec<u8> {
     let mut bytes = Vec::from_slice(
         alloc,
         &[
             0x50, 0x43, 0x57, 0x54, 1, 4, 0, 0, 2, 0, 0, 0, 0x70, 0x11, 1, 0,
         ],
-    )?;
+    )
+    .expect(rt, "memory");
     for tick in 0..70_000u64 {
         let [a, b, c, ..] = tick.to_le_bytes();
-        bytes.extend_from_slice(&[a, b, c, 0, 0, 0, 0, 0, 1, 0, 0, 0, 0, 0, 1, 0, 7])?;
+        bytes
+            .extend_from_slice(&[a, b, c, 0, 0, 0, 0, 0, 1, 0, 0, 0, 0, 0, 1, 0, 7])
+            .expect(rt, "memory");
     }
-    Ok(bytes)
+    bytes
 }
 
 /// Returns the length of the long trace's bytes, and the trace read at most `greatest` bytes at a time.
-fn long_trace(alloc: Global, greatest: usize) -> Result<(usize, HeldTrace), Fail>
+fn long_trace(rt: &impl Abort, alloc: Global, greatest: usize) -> (usize, HeldTrace)
     requires { 1 ≤ greatest }
 {
-    let bytes = long_text(alloc)?;
+    let bytes = long_text(rt, alloc);
     let length = bytes.len();
-    let read = HeldTrace::read(alloc, &mut TestSource::new(bytes, greatest, None))?;
-    Ok((length, read))
+    let read = HeldTrace::read(alloc, &mut TestSource::new(bytes, greatest, None)).expect(
+        rt, "a trace",
+    );
+    (length, read)
 }
 
 #[test]
-fn tests_a_text_while_it_comes(rt: HostRuntime) -> Result<(), Fail> {
+fn tests_a_text_while_it_comes(rt: HostRuntime) {
     for greatest in [100_003, 1_000_000] {
-        let (length, read) = long_trace(rt.alloc(), greatest)?;
+        let (length, read) = long_trace(&rt, rt.alloc(), greatest);
         let shape = read.shape();
         assert!(rt;
             (length, (shape.shift, shape.pages, shape.writes)) == (1_190_016, (4, 2, 70_000))
@@ -196,20 +210,19 @@ fn tests_a_text_while_it_comes(rt: HostRuntime) -> Result<(), Fail> {
             );
         }
     }
-    Ok(())
 }
 
 /// Returns the long trace's bytes with one of them changed.
-fn changed_long(alloc: Global, place: usize, byte: u8) -> Result<Vec<u8>, AllocError> {
-    let mut bytes = long_text(alloc)?;
+fn changed_long(rt: &impl Abort, alloc: Global, place: usize, byte: u8) -> Vec<u8> {
+    let mut bytes = long_text(rt, alloc);
     if place < bytes.len() {
         bytes[place] = byte;
     }
-    Ok(bytes)
+    bytes
 }
 
 #[test]
-fn refuses_behind_what_was_tested(rt: HostRuntime) -> Result<(), Fail> {
+fn refuses_behind_what_was_tested(rt: HostRuntime) {
     let alloc = rt.alloc();
     // The first 1 MiB ends in front of record 61680, counted from 0, and record 69998 begins at byte 1189982.
     const REFUSED: [(usize, u8, TraceError); 7] = [
@@ -222,10 +235,9 @@ fn refuses_behind_what_was_tested(rt: HostRuntime) -> Result<(), Fail> {
         (12, 0x6f, TraceError::TrailingBytes),
     ];
     for &(place, byte, cause) in &REFUSED {
-        let read = read_refusal(alloc, changed_long(alloc, place, byte)?, 100_003, None);
+        let read = read_refusal(alloc, changed_long(&rt, alloc, place, byte), 100_003, None);
         assert!(rt; read == Some(cause), "at {place}");
     }
-    let fault = read_refusal(alloc, long_text(alloc)?, 100_003, Some(12));
+    let fault = read_refusal(alloc, long_text(&rt, alloc), 100_003, Some(12));
     assert!(rt; fault == Some(TraceError::ReadFault));
-    Ok(())
 }

@@ -3,7 +3,6 @@
 use dirty_core::{Answer, Core, CoreRefusal, Event, Opening, run, step};
 use std::alloc::Global;
 use std::process::Abort;
-use std::test::Fail;
 
 type Step = (Event, Result<Answer, CoreRefusal>);
 
@@ -39,48 +38,48 @@ const fn read(page: u32) -> Event {
 
 /// Returns an opening of pages at place 0, if there is one.
 fn opening_of(
+    rt: &impl Abort,
     alloc: Global,
     pages: usize,
     dirty: u64,
     last: Option<u64>,
     guests: usize,
     copiers: usize,
-) -> Result<Option<Opening>, Fail> {
-    let places = vec![in alloc; 0u32; pages]?;
-    let mut words = vec![in alloc; dirty]?;
+) -> Option<Opening> {
+    let places = vec![in alloc; 0u32; pages].expect(rt, "memory");
+    let mut words = vec![in alloc; dirty].expect(rt, "memory");
     if let Some(last) = last {
-        words.push(last)?;
+        words.push(last).expect(rt, "memory");
     }
-    Ok(Opening::new(places, words, guests, copiers))
+    Opening::new(places, words, guests, copiers)
 }
 
 /// Returns a core that opens with these parts.
 fn core_of(
+    rt: &impl Abort,
     alloc: Global,
     pages: usize,
     dirty: u64,
     last: Option<u64>,
     guests: usize,
     copiers: usize,
-) -> Result<Core, Fail> {
-    let opening = opening_of(alloc, pages, dirty, last, guests, copiers)?.ok_or("an opening")?;
-    Ok(Core::open(alloc, &opening)?)
+) -> Core {
+    let opening = opening_of(rt, alloc, pages, dirty, last, guests, copiers);
+    let opening = opening.expect(rt, "an opening");
+    Core::open(alloc, &opening).expect(rt, "a core")
 }
 
 /// Steps through the events, and compares each answer.
 fn follow(rt: &impl Abort, core: &mut Core, steps: &[Step]) {
     for (event, wanted) in steps {
         let answer = step(core, *event);
-        assert_eq!(rt; answer, *wanted, "at {event:?}");
+        assert!(rt; answer == *wanted, "at {event:?}");
     }
 }
 
 #[test]
-fn two_clean_pages(rt: HostRuntime) -> Result<(), Fail> {
-    let opening = opening_of(rt.alloc(), 2, 0, None, 1, 1)?.ok_or("an opening")?;
-    let mut core = Core::open(rt.alloc(), &opening)?;
-    assert_eq!(rt; core.place(0), 0);
-    let steps = [
+fn two_clean_pages(rt: HostRuntime) {
+    const STEPS: [Step; 9] = [
         (MARK, Err(CoreRefusal::NothingPending)),
         (store(0, 1), Ok(Answer::Done)),
         (store(1, 2), Err(CoreRefusal::Pending)),
@@ -91,8 +90,10 @@ fn two_clean_pages(rt: HostRuntime) -> Result<(), Fail> {
         (store(0, 1), Err(CoreRefusal::OldPlace)),
         (harvest(0, 1), Err(CoreRefusal::NotOwner)),
     ];
-    follow(&rt, &mut core, &steps);
-    Ok(())
+    let opening = opening_of(&rt, rt.alloc(), 2, 0, None, 1, 1).expect(&rt, "an opening");
+    let mut core = Core::open(rt.alloc(), &opening).expect(&rt, "a core");
+    assert!(rt; core.place(0) == 0);
+    follow(&rt, &mut core, &STEPS);
 }
 
 /// Returns whether page 0 is marked, whether copier 0 holds it, and what is pending for guest 0.
@@ -101,32 +102,31 @@ fn page_zero(core: &Core) -> (bool, bool, Option<u32>) {
 }
 
 #[test]
-fn marked_again_though_not_behind(rt: HostRuntime) -> Result<(), Fail> {
-    let opening = opening_of(rt.alloc(), 1, 1, None, 1, 1)?.ok_or("an opening")?;
-    let mut core = Core::open(rt.alloc(), &opening)?;
-    let steps = [
+fn marked_again_though_not_behind(rt: HostRuntime) {
+    const EVENTS: [Event; 4] = [store(0, 1), harvest(0, 0), read(0), MARK];
+    const REFUSED: [Event; 3] = [store(0, 1), MARK, MARK];
+    const STEPS: [Step; 4] = [
         (store(0, 1), Ok(Answer::Done)),
         (harvest(0, 0), Ok(Answer::Pages(1))),
         (read(0), Ok(Answer::Place(1))),
         (MARK, Ok(Answer::Done)),
     ];
-    follow(&rt, &mut core, &steps);
-    let events = [store(0, 1), harvest(0, 0), read(0), MARK];
-    let after = run(rt.alloc(), &opening, &events).ok();
-    let refused = run(rt.alloc(), &opening, &[store(0, 1), MARK, MARK]).err();
+    let opening = opening_of(&rt, rt.alloc(), 1, 1, None, 1, 1).expect(&rt, "an opening");
+    let mut core = Core::open(rt.alloc(), &opening).expect(&rt, "a core");
+    follow(&rt, &mut core, &STEPS);
+    let after = run(rt.alloc(), &opening, &EVENTS).ok();
+    let refused = run(rt.alloc(), &opening, &REFUSED).err();
     drop(opening);
     let wanted = (true, false, None);
-    assert_eq!(rt;
-        (page_zero(&core), after.as_ref().map(page_zero), refused),
-        (wanted, Some(wanted), Some((2, CoreRefusal::NothingPending)))
+    assert!(rt;
+        (page_zero(&core), after.as_ref().map(page_zero), refused)
+            == (wanted, Some(wanted), Some((2, CoreRefusal::NothingPending)))
     );
-    Ok(())
 }
 
 #[test]
-fn restored_while_stored_again(rt: HostRuntime) -> Result<(), Fail> {
-    let mut core = core_of(rt.alloc(), 2, 3, None, 1, 1)?;
-    let steps = [
+fn restored_while_stored_again(rt: HostRuntime) {
+    const STEPS: [Step; 7] = [
         (harvest(0, 0), Ok(Answer::Pages(3))),
         (store(1, 1), Ok(Answer::Done)),
         (MARK, Ok(Answer::Done)),
@@ -135,70 +135,65 @@ fn restored_while_stored_again(rt: HostRuntime) -> Result<(), Fail> {
         (read(1), Err(CoreRefusal::NotHeld)),
         (read(0), Ok(Answer::Place(0))),
     ];
-    follow(&rt, &mut core, &steps);
-    assert_eq!(rt;
+    let mut core = core_of(&rt, rt.alloc(), 2, 3, None, 1, 1);
+    follow(&rt, &mut core, &STEPS);
+    assert!(rt;
         [
             core.marked(0),
             core.marked(1),
             core.held(0, 0),
             core.held(0, 1)
-        ],
-        [false, true, false, false]
+        ] == [false, true, false, false]
     );
-    Ok(())
 }
 
 #[test]
-fn restored_after_a_read(rt: HostRuntime) -> Result<(), Fail> {
-    let mut core = core_of(rt.alloc(), 2, 3, None, 1, 1)?;
-    let steps = [
+fn restored_after_a_read(rt: HostRuntime) {
+    const STEPS: [Step; 4] = [
         (harvest(0, 0), Ok(Answer::Pages(3))),
         (read(1), Ok(Answer::Place(0))),
         (restore(3), Err(CoreRefusal::NotHeld)),
         (restore(0), Ok(Answer::Done)),
     ];
-    follow(&rt, &mut core, &steps);
+    let mut core = core_of(&rt, rt.alloc(), 2, 3, None, 1, 1);
+    follow(&rt, &mut core, &STEPS);
     assert!(rt; core.held(0, 0));
-    Ok(())
 }
 
 #[test]
-fn words_of_two_copiers(rt: HostRuntime) -> Result<(), Fail> {
-    let mut core = core_of(rt.alloc(), 65, 0, Some(1), 1, 2)?;
-    let steps = [
+fn words_of_two_copiers(rt: HostRuntime) {
+    const STEPS: [Step; 4] = [
         (harvest(0, 1), Err(CoreRefusal::NotOwner)),
         (harvest(1, 2), Err(CoreRefusal::NotOwner)),
         (harvest(1, 1), Ok(Answer::Pages(1))),
         (harvest(1, 1), Ok(Answer::Pages(0))),
     ];
-    follow(&rt, &mut core, &steps);
+    let mut core = core_of(&rt, rt.alloc(), 65, 0, Some(1), 1, 2);
+    follow(&rt, &mut core, &STEPS);
     assert!(rt; core.held(1, 64) && !core.held(0, 64));
-    Ok(())
 }
 
 #[test]
-fn no_such_opening(rt: HostRuntime) -> Result<(), Fail> {
+fn no_such_opening(rt: HostRuntime) {
     let refused = [
-        opening_of(rt.alloc(), 4, 16, None, 1, 1)?.is_none(),
-        opening_of(rt.alloc(), 4, 15, None, 17, 1)?.is_none(),
-        opening_of(rt.alloc(), 0, 0, None, 1, 1)?.is_none(),
+        opening_of(&rt, rt.alloc(), 4, 16, None, 1, 1).is_none(),
+        opening_of(&rt, rt.alloc(), 4, 15, None, 17, 1).is_none(),
+        opening_of(&rt, rt.alloc(), 0, 0, None, 1, 1).is_none(),
     ];
-    assert_eq!(rt; refused, [true; 3]);
-    let opening = opening_of(rt.alloc(), 4, 15, None, 16, 2)?.ok_or("an opening")?;
-    assert_eq!(rt;
+    assert!(rt; refused == [true; 3]);
+    let opening = opening_of(&rt, rt.alloc(), 4, 15, None, 16, 2).expect(&rt, "an opening");
+    assert!(rt;
         (
             opening.dirty(),
             opening.places(),
             opening.guests(),
             opening.copiers()
-        ),
-        (&[15][..], &[0, 0, 0, 0][..], 16, 2)
+        ) == (&[15][..], &[0, 0, 0, 0][..], 16, 2)
     );
-    Ok(())
 }
 
 #[test]
-fn names_of_refusals(rt: HostRuntime) -> Result<(), Fail> {
+fn names_of_refusals(rt: HostRuntime) {
     const NAMES: [(CoreRefusal, &str); 6] = [
         (CoreRefusal::NotOwner, "C1"),
         (CoreRefusal::Pending, "C2"),
@@ -208,8 +203,7 @@ fn names_of_refusals(rt: HostRuntime) -> Result<(), Fail> {
         (CoreRefusal::Memory, "C6"),
     ];
     for (refusal, name) in &NAMES {
-        let text = refusal.to_string(rt.alloc())?;
-        assert_eq!(rt; text.as_str(), *name);
+        let text = refusal.to_string(rt.alloc()).expect(&rt, "memory");
+        assert!(rt; text.as_str() == *name);
     }
-    Ok(())
 }
