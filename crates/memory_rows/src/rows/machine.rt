@@ -4,37 +4,54 @@ use dirty_core::{Answer, Core, CoreRefusal, Event, Opening, run, step};
 use std::alloc::Global;
 use std::process::Abort;
 
-type Step = (Event, Result<Answer, CoreRefusal>);
+/// What a guest or a copier does.
+#[derive(Clone, Copy)]
+enum Does {
+    /// Guest 0 stores a page, at a place.
+    Store,
+    /// Guest 0 marks the page that it stored.
+    Mark,
+    /// A copier harvests a word.
+    Harvest,
+    /// Copier 0 peeks at a word.
+    Peek,
+    /// Copier 0 restores these pages of word 0.
+    Restore,
+    /// Copier 0 reads a page.
+    Read,
+}
 
-const fn store(page: u32, place: u32) -> Event {
-    Event::Store {
-        guest: 0,
-        page,
-        place,
+/// Returns the event of these numbers.
+fn event(does: Does, first: u32, second: u32) -> Event {
+    match does {
+        Does::Store => Event::Store {
+            guest: 0,
+            page: first,
+            place: second,
+        },
+        Does::Mark => Event::Mark { guest: 0 },
+        Does::Harvest => Event::Harvest {
+            copier: first as usize,
+            word: second as usize,
+        },
+        Does::Peek => Event::Peek {
+            copier: 0,
+            word: first as usize,
+        },
+        Does::Restore => Event::Restore {
+            copier: 0,
+            word: 0,
+            bits: u64::from(first),
+        },
+        Does::Read => Event::Read {
+            copier: 0,
+            page: first,
+        },
     }
 }
 
-const MARK: Event = Event::Mark { guest: 0 };
-
-const fn harvest(copier: usize, word: usize) -> Event {
-    Event::Harvest { copier, word }
-}
-
-const fn peek(word: usize) -> Event {
-    Event::Peek { copier: 0, word }
-}
-
-const fn restore(bits: u64) -> Event {
-    Event::Restore {
-        copier: 0,
-        word: 0,
-        bits,
-    }
-}
-
-const fn read(page: u32) -> Event {
-    Event::Read { copier: 0, page }
-}
+/// An event, its numbers, and the answer to it.
+type Step = (Does, u32, u32, Result<Answer, CoreRefusal>);
 
 /// Returns an opening of pages at place 0, if there is one.
 fn opening_of(
@@ -71,24 +88,25 @@ fn core_of(
 
 /// Steps through the events, and compares each answer.
 fn follow(rt: &impl Abort, core: &mut Core, steps: &[Step]) {
-    for (event, wanted) in steps {
-        let answer = step(core, *event);
-        assert!(rt; answer == *wanted, "at {event:?}");
+    for &(does, first, second, wanted) in steps {
+        let event = event(does, first, second);
+        let answer = step(core, event);
+        assert!(rt; answer == wanted, "at {event:?}");
     }
 }
 
 #[test]
 fn two_clean_pages(rt: HostRuntime) {
     const STEPS: [Step; 9] = [
-        (MARK, Err(CoreRefusal::NothingPending)),
-        (store(0, 1), Ok(Answer::Done)),
-        (store(1, 2), Err(CoreRefusal::Pending)),
-        (MARK, Ok(Answer::Done)),
-        (harvest(0, 0), Ok(Answer::Pages(1))),
-        (read(0), Ok(Answer::Place(1))),
-        (read(0), Err(CoreRefusal::NotHeld)),
-        (store(0, 1), Err(CoreRefusal::OldPlace)),
-        (harvest(0, 1), Err(CoreRefusal::NotOwner)),
+        (Does::Mark, 0, 0, Err(CoreRefusal::NothingPending)),
+        (Does::Store, 0, 1, Ok(Answer::Done)),
+        (Does::Store, 1, 2, Err(CoreRefusal::Pending)),
+        (Does::Mark, 0, 0, Ok(Answer::Done)),
+        (Does::Harvest, 0, 0, Ok(Answer::Pages(1))),
+        (Does::Read, 0, 0, Ok(Answer::Place(1))),
+        (Does::Read, 0, 0, Err(CoreRefusal::NotHeld)),
+        (Does::Store, 0, 1, Err(CoreRefusal::OldPlace)),
+        (Does::Harvest, 0, 1, Err(CoreRefusal::NotOwner)),
     ];
     let opening = opening_of(&rt, rt.alloc(), 2, 0, None, 1, 1).expect(&rt, "an opening");
     let mut core = Core::open(rt.alloc(), &opening).expect(&rt, "a core");
@@ -103,19 +121,25 @@ fn page_zero(core: &Core) -> (bool, bool, Option<u32>) {
 
 #[test]
 fn marked_again_though_not_behind(rt: HostRuntime) {
-    const EVENTS: [Event; 4] = [store(0, 1), harvest(0, 0), read(0), MARK];
-    const REFUSED: [Event; 3] = [store(0, 1), MARK, MARK];
     const STEPS: [Step; 4] = [
-        (store(0, 1), Ok(Answer::Done)),
-        (harvest(0, 0), Ok(Answer::Pages(1))),
-        (read(0), Ok(Answer::Place(1))),
-        (MARK, Ok(Answer::Done)),
+        (Does::Store, 0, 1, Ok(Answer::Done)),
+        (Does::Harvest, 0, 0, Ok(Answer::Pages(1))),
+        (Does::Read, 0, 0, Ok(Answer::Place(1))),
+        (Does::Mark, 0, 0, Ok(Answer::Done)),
     ];
     let opening = opening_of(&rt, rt.alloc(), 1, 1, None, 1, 1).expect(&rt, "an opening");
     let mut core = Core::open(rt.alloc(), &opening).expect(&rt, "a core");
     follow(&rt, &mut core, &STEPS);
-    let after = run(rt.alloc(), &opening, &EVENTS).ok();
-    let refused = run(rt.alloc(), &opening, &REFUSED).err();
+    let stored = event(Does::Store, 0, 1);
+    let mark = event(Does::Mark, 0, 0);
+    let events = [
+        stored,
+        event(Does::Harvest, 0, 0),
+        event(Does::Read, 0, 0),
+        mark,
+    ];
+    let after = run(rt.alloc(), &opening, &events).ok();
+    let refused = run(rt.alloc(), &opening, &[stored, mark, mark]).err();
     drop(opening);
     let wanted = (true, false, None);
     assert!(rt;
@@ -127,13 +151,13 @@ fn marked_again_though_not_behind(rt: HostRuntime) {
 #[test]
 fn restored_while_stored_again(rt: HostRuntime) {
     const STEPS: [Step; 7] = [
-        (harvest(0, 0), Ok(Answer::Pages(3))),
-        (store(1, 1), Ok(Answer::Done)),
-        (MARK, Ok(Answer::Done)),
-        (peek(0), Ok(Answer::Pages(2))),
-        (restore(2), Ok(Answer::Done)),
-        (read(1), Err(CoreRefusal::NotHeld)),
-        (read(0), Ok(Answer::Place(0))),
+        (Does::Harvest, 0, 0, Ok(Answer::Pages(3))),
+        (Does::Store, 1, 1, Ok(Answer::Done)),
+        (Does::Mark, 0, 0, Ok(Answer::Done)),
+        (Does::Peek, 0, 0, Ok(Answer::Pages(2))),
+        (Does::Restore, 2, 0, Ok(Answer::Done)),
+        (Does::Read, 1, 0, Err(CoreRefusal::NotHeld)),
+        (Does::Read, 0, 0, Ok(Answer::Place(0))),
     ];
     let mut core = core_of(&rt, rt.alloc(), 2, 3, None, 1, 1);
     follow(&rt, &mut core, &STEPS);
@@ -150,10 +174,10 @@ fn restored_while_stored_again(rt: HostRuntime) {
 #[test]
 fn restored_after_a_read(rt: HostRuntime) {
     const STEPS: [Step; 4] = [
-        (harvest(0, 0), Ok(Answer::Pages(3))),
-        (read(1), Ok(Answer::Place(0))),
-        (restore(3), Err(CoreRefusal::NotHeld)),
-        (restore(0), Ok(Answer::Done)),
+        (Does::Harvest, 0, 0, Ok(Answer::Pages(3))),
+        (Does::Read, 1, 0, Ok(Answer::Place(0))),
+        (Does::Restore, 3, 0, Err(CoreRefusal::NotHeld)),
+        (Does::Restore, 0, 0, Ok(Answer::Done)),
     ];
     let mut core = core_of(&rt, rt.alloc(), 2, 3, None, 1, 1);
     follow(&rt, &mut core, &STEPS);
@@ -163,10 +187,10 @@ fn restored_after_a_read(rt: HostRuntime) {
 #[test]
 fn words_of_two_copiers(rt: HostRuntime) {
     const STEPS: [Step; 4] = [
-        (harvest(0, 1), Err(CoreRefusal::NotOwner)),
-        (harvest(1, 2), Err(CoreRefusal::NotOwner)),
-        (harvest(1, 1), Ok(Answer::Pages(1))),
-        (harvest(1, 1), Ok(Answer::Pages(0))),
+        (Does::Harvest, 0, 1, Err(CoreRefusal::NotOwner)),
+        (Does::Harvest, 1, 2, Err(CoreRefusal::NotOwner)),
+        (Does::Harvest, 1, 1, Ok(Answer::Pages(1))),
+        (Does::Harvest, 1, 1, Ok(Answer::Pages(0))),
     ];
     let mut core = core_of(&rt, rt.alloc(), 65, 0, Some(1), 1, 2);
     follow(&rt, &mut core, &STEPS);
