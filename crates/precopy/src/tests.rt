@@ -24,7 +24,7 @@ fn sink(alloc: Global) -> TestSink
 
 /// The whole trace.
 fn whole(rt: &impl Abort, alloc: Global) -> Vec<u8> {
-    Vec::from_slice(alloc, &TRACE)
+    Vec::from_slice(alloc, &TRACE).expect(rt, "memory")
 }
 
 /// Returns the first `len` bytes of the trace, or all of them with a 0 behind.
@@ -85,7 +85,7 @@ fn refuses<R: Abort + Threads + Wait + Sync>(
     line: &str,
     fault: &str,
 ) -> bool {
-    fails(rt, alloc, Vec::new(alloc), line, 2, fault)
+    fails(rt, alloc, Vec::new(alloc), line, 2, fault).expect(rt, "memory")
 }
 
 /// Returns whether a line of words is not taken, which `clap` tells.
