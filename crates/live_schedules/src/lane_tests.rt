@@ -4,7 +4,6 @@ use crate::gates::{Counts, SlowFirstReceiver, SlowReceivers, TakenBeside, TakenI
 use crate::tests::{first_sent, has_images, run, run_sixteen, times};
 use live_engine::Live;
 use rate_limit::Asked;
-use std::test::Fail;
 use worked_guest::{ASKED, MEMORY};
 
 /// Returns the settings of the worked example, with this many streams and lanes of this many frames.
@@ -46,37 +45,31 @@ fn sends_no_more(live: &Live) -> bool {
 }
 
 #[test]
-fn what_a_full_lane_does_not_hold_is_deferred(rt: HostRuntime) -> Result<(), Fail> {
+fn what_a_full_lane_does_not_hold_is_deferred(rt: HostRuntime) {
     let gate = SlowReceivers(Counts::new());
-    let live = run(&rt, rt.alloc(), asked_with(1, 1), &gate)?;
-    assert_eq!(rt; (times(&gate.0.late), live.rounds.len()), (0, 3));
+    let live = run(&rt, rt.alloc(), asked_with(1, 1), &gate);
+    assert!(rt; (times(&gate.0.late), live.rounds.len()) == (0, 3));
     assert!(rt;
         begins_with(&live, &[0], &[1, 2, 3]) && sends_no_more(&live) && has_both_images(&live)
     );
-    Ok(())
 }
 
 #[test]
-fn each_stream_has_a_lane_of_its_own(rt: HostRuntime) -> Result<(), Fail> {
+fn each_stream_has_a_lane_of_its_own(rt: HostRuntime) {
     let gate = SlowReceivers(Counts::new());
-    let live = run(&rt, rt.alloc(), asked_with(2, 1), &gate)?;
-    assert_eq!(rt; (times(&gate.0.late), live.rounds.len()), (0, 3));
+    let live = run(&rt, rt.alloc(), asked_with(2, 1), &gate);
+    assert!(rt; (times(&gate.0.late), live.rounds.len()) == (0, 3));
     assert!(rt;
         begins_with(&live, &[0, 1], &[2, 3]) && sends_no_more(&live) && has_both_images(&live)
     );
-    Ok(())
 }
 
 #[test]
-fn frames_are_taken_beside_the_rounds(rt: HostRuntime) -> Result<(), Fail> {
+fn frames_are_taken_beside_the_rounds(rt: HostRuntime) {
     let gate = TakenBeside(Counts::new());
-    let live = run(&rt, rt.alloc(), ASKED, &gate)?;
+    let live = run(&rt, rt.alloc(), ASKED, &gate);
     let is_taken = times(&gate.0.taken) >= 1;
-    assert_eq!(rt;
-        (times(&gate.0.late), is_taken, has_both_images(&live)),
-        (0, true, true)
-    );
-    Ok(())
+    assert!(rt; (times(&gate.0.late), is_taken, has_both_images(&live)) == (0, true, true));
 }
 
 /// Returns the first page that a round deferred.
@@ -85,36 +78,25 @@ fn first_deferred(live: &Live, number: usize) -> Option<u32> {
 }
 
 #[test]
-fn a_page_whose_turn_meets_a_full_lane_is_deferred(rt: HostRuntime) -> Result<(), Fail> {
+fn a_page_whose_turn_meets_a_full_lane_is_deferred(rt: HostRuntime) {
     let gate = SlowFirstReceiver(Counts::new());
-    let live = run(&rt, rt.alloc(), asked_with(2, 2), &gate)?;
-    assert_eq!(rt;
-        (times(&gate.0.late), first_deferred(&live, 1)),
-        (0, Some(0))
-    );
+    let live = run(&rt, rt.alloc(), asked_with(2, 2), &gate);
+    assert!(rt; (times(&gate.0.late), first_deferred(&live, 1)) == (0, Some(0)));
     assert!(rt; begins_with(&live, &[0, 1, 2, 3], &[]) && has_both_images(&live));
-    Ok(())
 }
 
 #[test]
-fn a_lane_has_room_again_when_its_frames_were_taken(rt: HostRuntime) -> Result<(), Fail> {
+fn a_lane_has_room_again_when_its_frames_were_taken(rt: HostRuntime) {
     let gate = TakenInTurn(Counts::new());
-    let live = run(&rt, rt.alloc(), asked_with(1, 1), &gate)?;
-    assert_eq!(rt;
-        (times(&gate.0.late), times(&gate.0.taken)),
-        (0, times(&gate.0.read))
-    );
-    assert_eq!(rt; first_sent(&live, 1), Some((0, 1)));
+    let live = run(&rt, rt.alloc(), asked_with(1, 1), &gate);
+    assert!(rt; (times(&gate.0.late), times(&gate.0.taken)) == (0, times(&gate.0.read)));
+    assert!(rt; first_sent(&live, 1) == Some((0, 1)));
     assert!(rt; has_both_images(&live));
-    Ok(())
 }
 
 #[test]
-fn sixteen_of_each_over_the_shortest_lanes_make_the_same_memory(
-    rt: HostRuntime,
-) -> Result<(), Fail> {
+fn sixteen_of_each_over_the_shortest_lanes_make_the_same_memory(rt: HostRuntime) {
     for skip in [false, true] {
-        run_sixteen(&rt, rt.alloc(), 300, 1, skip)?;
+        run_sixteen(&rt, rt.alloc(), 300, 1, skip);
     }
-    Ok(())
 }

@@ -10,8 +10,8 @@ mod writers;
 use crate::starting::start;
 use byte_sinks::TestSink;
 use std::alloc::{AllocError, Global};
+use std::process::Abort;
 use std::sync::Wait;
-use std::test::Fail;
 use std::thread::Threads;
 use trace_codec::TestSource;
 use worked_guest::{MEMORY, TRACE, changed};
@@ -23,14 +23,14 @@ fn sink(alloc: Global) -> TestSink
 }
 
 /// The whole trace.
-fn whole(alloc: Global) -> Result<Vec<u8>, AllocError> {
-    Vec::from_slice(alloc, &TRACE)
+fn whole(rt: &impl Abort, alloc: Global) -> Vec<u8> {
+    Vec::from_slice(alloc, &TRACE).expect(rt, "memory")
 }
 
 /// Returns the first `len` bytes of the trace, or all of them with a 0 behind.
-fn cut(alloc: Global, len: usize) -> Result<Vec<u8>, Fail> {
+fn cut(rt: &impl Abort, alloc: Global, len: usize) -> Vec<u8> {
     let behind: &[u8] = if len > TRACE.len() { &[0] } else { &[] };
-    Ok(changed(alloc, len.min(TRACE.len()), 0, &[], behind)?)
+    changed(alloc, len.min(TRACE.len()), 0, &[], behind).expect(rt, "memory")
 }
 
 /// What the program does with a line of words over some bytes: its status, its output and its faults.
@@ -53,15 +53,15 @@ fn told<R: Threads + Wait + Sync>(
 }
 
 /// Returns whether a line of words writes this over some bytes, and tells no fault.
-fn writes<R: Threads + Wait + Sync>(
+fn writes<R: Abort + Threads + Wait + Sync>(
     rt: &R,
     alloc: Global,
     bytes: Vec<u8>,
     line: &str,
     expected: &[u8],
-) -> Result<bool, AllocError> {
-    let (status, output, faults) = told(rt, alloc, bytes, line)?;
-    Ok(status == 0 && output.bytes() == expected && faults.bytes().is_empty())
+) -> bool {
+    let (status, output, faults) = told(rt, alloc, bytes, line).expect(rt, "memory");
+    status == 0 && output.bytes() == expected && faults.bytes().is_empty()
 }
 
 /// Returns whether a line of words over some bytes writes nothing, and has this status and fault.
@@ -79,34 +79,29 @@ fn fails<R: Threads + Wait + Sync>(
 }
 
 /// Returns whether a line of words is refused before a trace is read: over no bytes, which would be `E1`.
-fn refuses<R: Threads + Wait + Sync>(
+fn refuses<R: Abort + Threads + Wait + Sync>(
     rt: &R,
     alloc: Global,
     line: &str,
     fault: &str,
-) -> Result<bool, AllocError> {
-    fails(rt, alloc, Vec::new(alloc), line, 2, fault)
+) -> bool {
+    fails(rt, alloc, Vec::new(alloc), line, 2, fault).expect(rt, "memory")
 }
 
 /// Returns whether a line of words is not taken, which `clap` tells.
-fn is_not_taken<R: Threads + Wait + Sync>(
-    rt: &R,
-    alloc: Global,
-    line: &str,
-) -> Result<bool, AllocError> {
-    let (status, output, faults) = told(rt, alloc, Vec::new(alloc), line)?;
+fn is_not_taken<R: Abort + Threads + Wait + Sync>(rt: &R, alloc: Global, line: &str) -> bool {
+    let (status, output, faults) = told(rt, alloc, Vec::new(alloc), line).expect(rt, "memory");
     let is_told = !faults.bytes().is_empty() && !faults.bytes().starts_with(b"precopy: ");
-    Ok(status == 2 && output.bytes().is_empty() && is_told)
+    status == 2 && output.bytes().is_empty() && is_told
 }
 
 #[test]
-fn writes_an_image(rt: HostRuntime) -> Result<(), Fail> {
-    assert!(rt; writes(&rt, rt.alloc(), whole(rt.alloc())?, "image", &MEMORY)?);
-    Ok(())
+fn writes_an_image(rt: HostRuntime) {
+    assert!(rt; writes(&rt, rt.alloc(), whole(&rt, rt.alloc()), "image", &MEMORY));
 }
 
 #[test]
-fn says_why_it_ends(rt: HostRuntime) -> Result<(), Fail> {
+fn says_why_it_ends(rt: HostRuntime) {
     const CASES: [(usize, &str); 2] = [
         (103, "precopy: trace E14\n"),
         (101, "precopy: trace E8 record 4\n"),
@@ -114,22 +109,20 @@ fn says_why_it_ends(rt: HostRuntime) -> Result<(), Fail> {
     let alloc = rt.alloc();
     for &(len, fault) in &CASES {
         assert!(rt;
-            fails(&rt, alloc, cut(alloc, len)?, "image", 1, fault)?,
+            fails(&rt, alloc, cut(&rt, alloc, len), "image", 1, fault).expect(&rt, "memory"),
             "{fault}"
         );
     }
-    Ok(())
 }
 
 #[test]
-fn shows_help(rt: HostRuntime) -> Result<(), Fail> {
-    let (status, output, faults) = told(&rt, rt.alloc(), whole(rt.alloc())?, "--help")?;
+fn shows_help(rt: HostRuntime) {
+    let shown = told(&rt, rt.alloc(), whole(&rt, rt.alloc()), "--help");
+    let (status, output, faults) = shown.expect(&rt, "memory");
     assert!(rt; status == 0 && !output.bytes().is_empty() && faults.bytes().is_empty());
-    Ok(())
 }
 
 #[test]
-fn unknown_words_are_told(rt: HostRuntime) -> Result<(), Fail> {
-    assert!(rt; is_not_taken(&rt, rt.alloc(), "memory")?);
-    Ok(())
+fn unknown_words_are_told(rt: HostRuntime) {
+    assert!(rt; is_not_taken(&rt, rt.alloc(), "memory"));
 }

@@ -2,13 +2,13 @@
 
 use rate_limit::{Asked, Reason, Settings};
 use std::alloc::Global;
-use std::test::Fail;
+use std::process::Abort;
 use sweep_report::Line;
 use trace_views::{Advice, Budget, advise};
 use worked_guest::ASKED;
 
 /// A case with this downtime and this many pages sent.
-fn case(down: u64, total: u64) -> Result<Line, Fail> {
+fn case(rt: &impl Abort, down: u64, total: u64) -> Line {
     let settings = Settings::new(Asked {
         min: 1000,
         max: 5000,
@@ -16,24 +16,25 @@ fn case(down: u64, total: u64) -> Result<Line, Fail> {
         threshold: 64,
         rounds: 30,
         ..ASKED
-    })?;
-    Ok(Line {
+    })
+    .expect(rt, "settings");
+    Line {
         settings,
         rounds: 1,
         reason: Reason::Few,
         stop: 1000,
         down,
         total,
-    })
+    }
 }
 
 /// Cases with these downtimes and pages sent.
-fn cases(alloc: Global, costs: &[(u64, u64)]) -> Result<Vec<Line>, Fail> {
+fn cases(rt: &impl Abort, alloc: Global, costs: &[(u64, u64)]) -> Vec<Line> {
     let mut cases = Vec::new(alloc);
     for (down, total) in costs {
-        cases.push(case(*down, *total)?)?;
+        cases.push(case(rt, *down, *total)).expect(rt, "memory");
     }
-    Ok(cases)
+    cases
 }
 
 /// Returns the advice for a budget, if there are cases.
@@ -45,9 +46,9 @@ fn advised(cases: &[Line], down: u64, total: Option<u64>) -> Option<Advice> {
 }
 
 #[test]
-fn takes_the_cheapest_case_within_a_budget(rt: HostRuntime) -> Result<(), Fail> {
+fn takes_the_cheapest_case_within_a_budget(rt: HostRuntime) {
     let costs = [(500, 6), (0, 8), (250, 7), (250, 7), (200, 7)];
-    let cases = cases(rt.alloc(), &costs)?;
+    let cases = cases(&rt, rt.alloc(), &costs);
     let found = [
         advised(&cases, 500, None),
         advised(&cases, 300, None),
@@ -65,13 +66,11 @@ fn takes_the_cheapest_case_within_a_budget(rt: HostRuntime) -> Result<(), Fail> 
         over_total,
     ];
     assert!(rt; found == expected.map(Some));
-    Ok(())
 }
 
 #[test]
-fn takes_the_least_downtime_where_no_case_keeps_it(rt: HostRuntime) -> Result<(), Fail> {
+fn takes_the_least_downtime_where_no_case_keeps_it(rt: HostRuntime) {
     let costs = [(500, 6), (300, 8), (300, 7), (300, 7)];
-    let cases = cases(rt.alloc(), &costs)?;
+    let cases = cases(&rt, rt.alloc(), &costs);
     assert!(rt; advised(&cases, 299, Some(9)) == Some(Advice::OverDown(2)));
-    Ok(())
 }

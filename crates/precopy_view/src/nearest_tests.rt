@@ -2,10 +2,9 @@
 //! in 1,000 ticks is 64 bytes a second.
 
 use crate::tests::fails;
-use std::test::Fail;
 
 #[test]
-fn a_refusal_names_the_nearest_amount(rt: HostRuntime) -> Result<(), Fail> {
+fn a_refusal_names_the_nearest_amount(rt: HostRuntime) {
     const CASES: [(&str, &str); 7] = [
         (
             "predict --page=16 --sampled=4/16 --tick=2s --link=1KiB --downtime=1s",
@@ -37,13 +36,12 @@ fn a_refusal_names_the_nearest_amount(rt: HostRuntime) -> Result<(), Fail> {
         ),
     ];
     for &(line, fault) in &CASES {
-        assert!(rt; fails(&rt, rt.alloc(), 102, line, 2, fault)?, "{fault}");
+        assert!(rt; fails(&rt, rt.alloc(), 102, line, 2, fault), "{fault}");
     }
-    Ok(())
 }
 
 #[test]
-fn a_refused_scale_names_the_nearest(rt: HostRuntime) -> Result<(), Fail> {
+fn a_refused_scale_names_the_nearest(rt: HostRuntime) {
     const CASES: [(&str, &str); 4] = [
         (
             "show --page=15",
@@ -63,7 +61,6 @@ fn a_refused_scale_names_the_nearest(rt: HostRuntime) -> Result<(), Fail> {
         ),
     ];
     for &(line, fault) in &CASES {
-        assert!(rt; fails(&rt, rt.alloc(), 102, line, 2, fault)?, "{fault}");
+        assert!(rt; fails(&rt, rt.alloc(), 102, line, 2, fault), "{fault}");
     }
-    Ok(())
 }

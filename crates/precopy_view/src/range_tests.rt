@@ -3,7 +3,6 @@
 //! is enough from `remedies.py`, and counts of redraws from `agreements.py`. None of them shares code with the crates.
 
 use crate::tests::writes;
-use std::test::Fail;
 
 /// From 1200 to 2500 there is a start at each 65th tick. From the first the destination has all, from the last the
 /// first round ends after the trace, and from the others one page is sent.
@@ -28,11 +27,10 @@ libvirt: virsh migrate-setmaxdowntime DOMAIN 190
 ";
 
 #[test]
-fn starts_of_a_warm_start_come_after_its_copy(rt: HostRuntime) -> Result<(), Fail> {
+fn starts_of_a_warm_start_come_after_its_copy(rt: HostRuntime) {
     let line =
         "predict --link=1KiB --downtime=200ms --reserve=10ms --page=16 --sampled=4/16 --base=1200 --start=1250";
-    assert!(rt; writes(&rt, rt.alloc(), line, 0, WARM)?);
-    Ok(())
+    assert!(rt; writes(&rt, rt.alloc(), line, 0, WARM));
 }
 
 /// A first round of 4,000 ticks, in a trace of 2,500.
@@ -52,10 +50,9 @@ libvirt: virsh migrate-setmaxdowntime DOMAIN 190
 ";
 
 #[test]
-fn no_range_is_told_of_no_known_start(rt: HostRuntime) -> Result<(), Fail> {
+fn no_range_is_told_of_no_known_start(rt: HostRuntime) {
     let line = "predict --link=1Kbit --downtime=200ms --reserve=10ms --page=16 --sampled=4/16";
-    assert!(rt; writes(&rt, rt.alloc(), line, 4, NONE_KNOWN)?);
-    Ok(())
+    assert!(rt; writes(&rt, rt.alloc(), line, 4, NONE_KNOWN));
 }
 
 /// There is a start at each 125th tick. From three of those that are known, pages are left after the only round, and
@@ -84,9 +81,8 @@ libvirt: virsh migrate-setmaxdowntime DOMAIN 50
 ";
 
 #[test]
-fn starts_that_miss_the_limit_are_counted(rt: HostRuntime) -> Result<(), Fail> {
+fn starts_that_miss_the_limit_are_counted(rt: HostRuntime) {
     let line =
         "predict --link=1KiB --downtime=200ms --reserve=150ms --page=16 --sampled=4/16 --rounds=1";
-    assert!(rt; writes(&rt, rt.alloc(), line, 5, MISSED)?);
-    Ok(())
+    assert!(rt; writes(&rt, rt.alloc(), line, 5, MISSED));
 }

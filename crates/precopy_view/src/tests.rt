@@ -4,8 +4,8 @@ ghost use Rattle.std.specs.Prelude.{◌≡◌, false};
 
 use crate::starting::start;
 use byte_sinks::TestSink;
-use std::alloc::{AllocError, Global};
-use std::test::Fail;
+use std::alloc::Global;
+use std::process::Abort;
 use std::thread::Threads;
 use trace_codec::TestSource;
 use worked_guest::TRACE;
@@ -17,83 +17,83 @@ fn sink(alloc: Global) -> TestSink
 }
 
 /// What the program does with a line of words over the trace's first `len` bytes: its status, output and faults.
-fn told<R: Threads + Sync>(
+fn told<R: Abort + Threads + Sync>(
     rt: &R,
     alloc: Global,
     len: usize,
     line: &str,
-) -> Result<(u8, TestSink, TestSink), AllocError> {
+) -> (u8, TestSink, TestSink) {
     let mut words = Vec::new(alloc);
-    words.push("precopy-view".to_string(alloc)?)?;
+    words
+        .push("precopy-view".to_string(alloc).expect(rt, "memory"))
+        .expect(rt, "memory");
     for word in line.split(' ') {
         if !word.is_empty() {
-            words.push(word.to_string(alloc)?)?;
+            words
+                .push(word.to_string(alloc).expect(rt, "memory"))
+                .expect(rt, "memory");
         }
     }
     let mut bytes = Vec::new(alloc);
     for byte in TRACE.iter().take(len) {
-        bytes.push(*byte)?;
+        bytes.push(*byte).expect(rt, "memory");
     }
     let mut source = TestSource::new(bytes, 102, None);
     let mut output = sink(alloc);
     let mut faults = sink(alloc);
     let status = start(rt, alloc, words, &mut source, &mut output, &mut faults);
-    Ok((status, output, faults))
+    (status, output, faults)
 }
 
 /// Returns whether a line of words over the whole trace has this status and this output.
-pub(crate) fn writes<R: Threads + Sync>(
+pub(crate) fn writes<R: Abort + Threads + Sync>(
     rt: &R,
     alloc: Global,
     line: &str,
     expected: u8,
     text: &str,
-) -> Result<bool, AllocError> {
-    let (status, output, _) = told(rt, alloc, TRACE.len(), line)?;
-    Ok(status == expected && output.bytes() == text.as_bytes())
+) -> bool {
+    let (status, output, _) = told(rt, alloc, TRACE.len(), line);
+    status == expected && output.bytes() == text.as_bytes()
 }
 
 /// Returns whether the output has this status and this end.
-pub(crate) fn ends_with<R: Threads + Sync>(
+pub(crate) fn ends_with<R: Abort + Threads + Sync>(
     rt: &R,
     alloc: Global,
     line: &str,
     expected: u8,
     end: &str,
-) -> Result<bool, AllocError> {
-    let (status, output, _) = told(rt, alloc, TRACE.len(), line)?;
-    Ok(status == expected && output.bytes().ends_with(end.as_bytes()))
+) -> bool {
+    let (status, output, _) = told(rt, alloc, TRACE.len(), line);
+    status == expected && output.bytes().ends_with(end.as_bytes())
 }
 
 /// Returns whether a line of words over the whole trace draws a picture.
-pub(crate) fn draws<R: Threads + Sync>(
-    rt: &R,
-    alloc: Global,
-    line: &str,
-) -> Result<bool, AllocError> {
-    let (status, output, _) = told(rt, alloc, TRACE.len(), line)?;
+pub(crate) fn draws<R: Abort + Threads + Sync>(rt: &R, alloc: Global, line: &str) -> bool {
+    let (status, output, _) = told(rt, alloc, TRACE.len(), line);
     let picture = output.bytes();
-    Ok(status == 0 && picture.starts_with(b"<svg ") && picture.ends_with(b"</svg>\n"))
+    status == 0 && picture.starts_with(b"<svg ") && picture.ends_with(b"</svg>\n")
 }
 
 /// Returns whether a line of words over the trace's first `len` bytes writes nothing, and has this status and fault.
-pub(crate) fn fails<R: Threads + Sync>(
+pub(crate) fn fails<R: Abort + Threads + Sync>(
     rt: &R,
     alloc: Global,
     len: usize,
     line: &str,
     expected: u8,
     fault: &str,
-) -> Result<bool, AllocError> {
-    let (status, output, faults) = told(rt, alloc, len, line)?;
+) -> bool {
+    let (status, output, faults) = told(rt, alloc, len, line);
     let is_told = faults.bytes() == fault.as_bytes();
-    Ok(status == expected && output.bytes().is_empty() && is_told)
+    status == expected && output.bytes().is_empty() && is_told
 }
 
 /// Returns whether a line of words is not taken, which `clap` tells.
-fn is_not_taken<R: Threads + Sync>(rt: &R, alloc: Global, line: &str) -> Result<bool, AllocError> {
-    let (status, output, faults) = told(rt, alloc, TRACE.len(), line)?;
-    Ok(status == 2 && output.bytes().is_empty() && !faults.bytes().is_empty())
+fn is_not_taken<R: Abort + Threads + Sync>(rt: &R, alloc: Global, line: &str) -> bool {
+    let (status, output, faults) = told(rt, alloc, TRACE.len(), line);
+    status == 2 && output.bytes().is_empty() && !faults.bytes().is_empty()
 }
 
 /// The rounds of the worked report as a document.
@@ -108,10 +108,9 @@ static REPORT: &str = "{\"trace\":{\"pages\":4,\"size\":16,\"writes\":5},\"windo
 \"stop\":{\"why\":\"few\",\"at\":3667,\"pages\":0,\"down\":0,\"total\":8}}\n";
 
 #[test]
-fn writes_a_report_document(rt: HostRuntime) -> Result<(), Fail> {
+fn writes_a_report_document(rt: HostRuntime) {
     let line = "json report --min=2 --max=4 --inc=1 --threshold=1 --rounds=8";
-    assert!(rt; writes(&rt, rt.alloc(), line, 0, REPORT)?);
-    Ok(())
+    assert!(rt; writes(&rt, rt.alloc(), line, 0, REPORT));
 }
 
 /// The worked sweep as a document.
@@ -124,10 +123,9 @@ static SWEEP: &str = "{\"cases\":[\
 \"rounds\":1,\"stop\":\"few\",\"at\":2000,\"down\":500,\"total\":6}],\"best\":0}\n";
 
 #[test]
-fn writes_a_sweep_document(rt: HostRuntime) -> Result<(), Fail> {
+fn writes_a_sweep_document(rt: HostRuntime) {
     let line = "json sweep 2,4,1,1,8,0 2,2,1,1,8,0 2,4,1,3,8,0";
-    assert!(rt; writes(&rt, rt.alloc(), line, 0, SWEEP)?);
-    Ok(())
+    assert!(rt; writes(&rt, rt.alloc(), line, 0, SWEEP));
 }
 
 /// Advice for a downtime of 0 ticks at 4 pages per 1,000 ticks. Only if a round skips page 1 are 6 pages enough.
@@ -145,10 +143,9 @@ precopy live --min 4 --max 4 --inc 0 --threshold 1 --rounds 8 --start 0 --skip
 ";
 
 #[test]
-fn advises_a_case(rt: HostRuntime) -> Result<(), Fail> {
+fn advises_a_case(rt: HostRuntime) {
     let line = "advise --down=0 --max=4";
-    assert!(rt; writes(&rt, rt.alloc(), line, 0, ADVICE)?);
-    Ok(())
+    assert!(rt; writes(&rt, rt.alloc(), line, 0, ADVICE));
 }
 
 /// The worked report as tables, no line wider than 72 characters.
@@ -177,20 +174,18 @@ sent in all: 8 pages
 ";
 
 #[test]
-fn shows_tables(rt: HostRuntime) -> Result<(), Fail> {
+fn shows_tables(rt: HostRuntime) {
     let line = "show --min=2 --max=4 --inc=1 --threshold=1 --rounds=8 --width=72";
-    assert!(rt; writes(&rt, rt.alloc(), line, 0, SCREEN)?);
-    Ok(())
+    assert!(rt; writes(&rt, rt.alloc(), line, 0, SCREEN));
 }
 
 #[test]
-fn draws_a_picture(rt: HostRuntime) -> Result<(), Fail> {
-    assert!(rt; draws(&rt, rt.alloc(), "chart")?);
-    Ok(())
+fn draws_a_picture(rt: HostRuntime) {
+    assert!(rt; draws(&rt, rt.alloc(), "chart"));
 }
 
 #[test]
-fn says_why_it_ends(rt: HostRuntime) -> Result<(), Fail> {
+fn says_why_it_ends(rt: HostRuntime) {
     const CASES: [(usize, &str, u8, &str); 5] = [
         (
             101,
@@ -214,21 +209,16 @@ fn says_why_it_ends(rt: HostRuntime) -> Result<(), Fail> {
         ),
     ];
     for &(len, line, status, fault) in &CASES {
-        assert!(rt;
-            fails(&rt, rt.alloc(), len, line, status, fault)?,
-            "{fault}"
-        );
+        assert!(rt; fails(&rt, rt.alloc(), len, line, status, fault), "{fault}");
     }
-    Ok(())
 }
 
 #[test]
-fn unknown_words_are_told(rt: HostRuntime) -> Result<(), Fail> {
+fn unknown_words_are_told(rt: HostRuntime) {
     const LINES: [&str; 5] = ["", "json", "advise", "report", "show --width=71"];
     for line in LINES {
-        assert!(rt; is_not_taken(&rt, rt.alloc(), line)?, "{line}");
+        assert!(rt; is_not_taken(&rt, rt.alloc(), line), "{line}");
     }
-    Ok(())
 }
 
 /// A prediction for a guest of which one page in four was recorded, over a link of 64 pages of the guest in 1,000
@@ -255,10 +245,9 @@ libvirt: virsh migrate-setmaxdowntime DOMAIN 190
 ";
 
 #[test]
-fn predicts_a_migration(rt: HostRuntime) -> Result<(), Fail> {
+fn predicts_a_migration(rt: HostRuntime) {
     let line = "predict --link=1KiB --downtime=200ms --reserve=10ms --page=16 --sampled=4/16";
-    assert!(rt; writes(&rt, rt.alloc(), line, 5, PREDICTION)?);
-    Ok(())
+    assert!(rt; writes(&rt, rt.alloc(), line, 5, PREDICTION));
 }
 
 /// From tick 2400 on the trace has 100 ticks, and the first round takes 250.
@@ -280,15 +269,14 @@ libvirt: virsh migrate-setmaxdowntime DOMAIN 190
 ";
 
 #[test]
-fn a_trace_that_ends_first_has_a_status(rt: HostRuntime) -> Result<(), Fail> {
+fn a_trace_that_ends_first_has_a_status(rt: HostRuntime) {
     let line =
         "predict --link=1.0249KB --downtime=0.2s --reserve=0.01s --page=16 --sampled=4/16 --start=2400";
-    assert!(rt; writes(&rt, rt.alloc(), line, 4, UNKNOWN)?);
-    Ok(())
+    assert!(rt; writes(&rt, rt.alloc(), line, 4, UNKNOWN));
 }
 
 #[test]
-fn refuses_limits(rt: HostRuntime) -> Result<(), Fail> {
+fn refuses_limits(rt: HostRuntime) {
     const CASES: [(&str, &str); 6] = [
         (
             "predict --link=10 --downtime=1s",
@@ -318,13 +306,12 @@ fn refuses_limits(rt: HostRuntime) -> Result<(), Fail> {
         ),
     ];
     for &(line, fault) in &CASES {
-        assert!(rt; fails(&rt, rt.alloc(), 102, line, 2, fault)?, "{fault}");
+        assert!(rt; fails(&rt, rt.alloc(), 102, line, 2, fault), "{fault}");
     }
-    Ok(())
 }
 
 #[test]
-fn refuses_a_trace_of_another_scale(rt: HostRuntime) -> Result<(), Fail> {
+fn refuses_a_trace_of_another_scale(rt: HostRuntime) {
     const CASES: [(&str, &str); 2] = [
         (
             "show --tick=1ms",
@@ -336,7 +323,6 @@ fn refuses_a_trace_of_another_scale(rt: HostRuntime) -> Result<(), Fail> {
         ),
     ];
     for &(line, fault) in &CASES {
-        assert!(rt; fails(&rt, rt.alloc(), 102, line, 1, fault)?, "{fault}");
+        assert!(rt; fails(&rt, rt.alloc(), 102, line, 1, fault), "{fault}");
     }
-    Ok(())
 }

@@ -1,7 +1,6 @@
 //! Worked examples of times and bytes: of reports, and of starts.
 
 use crate::tests::{draws, ends_with, fails, writes};
-use std::test::Fail;
 
 // The limits below: a link of 64 pages of the guest in 1,000 ticks, and a guest of which one page in four was recorded.
 
@@ -28,11 +27,10 @@ sent in all: 384 bytes
 ";
 
 #[test]
-fn shows_times_and_bytes(rt: HostRuntime) -> Result<(), Fail> {
+fn shows_times_and_bytes(rt: HostRuntime) {
     let line =
         "show --width=82 --link=1KiB --downtime=200ms --reserve=10ms --page=16 --sampled=4/16";
-    assert!(rt; writes(&rt, rt.alloc(), line, 0, SCREEN)?);
-    Ok(())
+    assert!(rt; writes(&rt, rt.alloc(), line, 0, SCREEN));
 }
 
 /// Advice for a downtime of 200 ticks: the rate is 16 pages in 1,000 ticks, at which 3 pages take less than that. Case
@@ -52,10 +50,9 @@ precopy live --min 16 --max 16 --inc 0 --threshold 2 --rounds 2 --start 0
 ";
 
 #[test]
-fn advises_for_a_downtime_in_time(rt: HostRuntime) -> Result<(), Fail> {
+fn advises_for_a_downtime_in_time(rt: HostRuntime) {
     let line = "advise --link=1KiB --downtime=200ms --page=16 --sampled=4/16";
-    assert!(rt; writes(&rt, rt.alloc(), line, 0, ADVICE)?);
-    Ok(())
+    assert!(rt; writes(&rt, rt.alloc(), line, 0, ADVICE));
 }
 
 /// The worked sweep of one case as a document: a page of the trace stands for 64 bytes of the guest.
@@ -65,14 +62,13 @@ static SWEEP: &str = "{\"units\":{\"tick_seconds\":0.001000,\"page_bytes\":16,\"
 \"down_seconds\":0.000000,\"total_bytes\":512}],\"best\":0}\n";
 
 #[test]
-fn writes_a_sweep_in_times_and_bytes(rt: HostRuntime) -> Result<(), Fail> {
+fn writes_a_sweep_in_times_and_bytes(rt: HostRuntime) {
     let line = "json sweep --page=16 --sampled=4/16 2,4,1,1,8,0";
-    assert!(rt; writes(&rt, rt.alloc(), line, 0, SWEEP)?);
-    Ok(())
+    assert!(rt; writes(&rt, rt.alloc(), line, 0, SWEEP));
 }
 
 #[test]
-fn refuses_two_budgets_and_none(rt: HostRuntime) -> Result<(), Fail> {
+fn refuses_two_budgets_and_none(rt: HostRuntime) {
     const CASES: [(&str, &str); 3] = [
         (
             "advise --max=4",
@@ -88,9 +84,8 @@ fn refuses_two_budgets_and_none(rt: HostRuntime) -> Result<(), Fail> {
         ),
     ];
     for &(line, fault) in &CASES {
-        assert!(rt; fails(&rt, rt.alloc(), 102, line, 2, fault)?, "{fault}");
+        assert!(rt; fails(&rt, rt.alloc(), 102, line, 2, fault), "{fault}");
     }
-    Ok(())
 }
 
 /// The same as a document.
@@ -107,10 +102,9 @@ static REPORT: &str = "{\"trace\":{\"pages\":4,\"size\":16,\"writes\":5},\
 \"down_seconds\":0.125000,\"total_bytes\":384}}\n";
 
 #[test]
-fn writes_times_and_bytes(rt: HostRuntime) -> Result<(), Fail> {
+fn writes_times_and_bytes(rt: HostRuntime) {
     let line = "json report --link=1KiB --downtime=200ms --reserve=10ms --page=16 --sampled=4/16";
-    assert!(rt; writes(&rt, rt.alloc(), line, 0, REPORT)?);
-    Ok(())
+    assert!(rt; writes(&rt, rt.alloc(), line, 0, REPORT));
 }
 
 /// The prediction of `tests` as a document.
@@ -147,14 +141,13 @@ static UNKNOWN: &str =
 \"hosts\":{\"bandwidth_bytes\":1024,\"down_milliseconds\":190}}\n";
 
 #[test]
-fn predicts_as_a_document(rt: HostRuntime) -> Result<(), Fail> {
+fn predicts_as_a_document(rt: HostRuntime) {
     let line =
         "json predict --link=1KiB --downtime=200ms --reserve=10ms --page=16 --sampled=4/16 --start=0";
-    assert!(rt; writes(&rt, rt.alloc(), line, 5, PREDICTED)?);
+    assert!(rt; writes(&rt, rt.alloc(), line, 5, PREDICTED));
     let line =
         "json predict --link=1KiB --downtime=200ms --reserve=10ms --page=16 --sampled=4/16 --start=2400";
-    assert!(rt; writes(&rt, rt.alloc(), line, 4, UNKNOWN)?);
-    Ok(())
+    assert!(rt; writes(&rt, rt.alloc(), line, 4, UNKNOWN));
 }
 
 /// Starts at every 800th tick up to 2400. Only from 0 and from 2400 on are pages written in the 250 ticks of the
@@ -170,11 +163,10 @@ worst: 0.000 s, --start 0: time 385 ms, sent 384 bytes, downtime 135 ms, kept
 ";
 
 #[test]
-fn tells_when_to_migrate(rt: HostRuntime) -> Result<(), Fail> {
+fn tells_when_to_migrate(rt: HostRuntime) {
     let line =
         "when --link=1KiB --downtime=200ms --reserve=10ms --page=16 --sampled=4/16 --every=800 --to=2400";
-    assert!(rt; writes(&rt, rt.alloc(), line, 0, STARTS)?);
-    Ok(())
+    assert!(rt; writes(&rt, rt.alloc(), line, 0, STARTS));
 }
 
 /// Two starts as a document.
@@ -190,31 +182,28 @@ static DOCUMENT: &str = "{\"limit_seconds\":0.100000,\"starts\":[\
 \"down_seconds\":0.135000,\"kept\":\"no\"}}\n";
 
 #[test]
-fn a_limit_that_no_start_keeps_has_a_status(rt: HostRuntime) -> Result<(), Fail> {
+fn a_limit_that_no_start_keeps_has_a_status(rt: HostRuntime) {
     let line =
         "json when --link=1KiB --downtime=100ms --reserve=10ms --page=16 --sampled=4/16 --rounds=1 --every=2400";
-    assert!(rt; writes(&rt, rt.alloc(), line, 3, DOCUMENT)?);
-    Ok(())
+    assert!(rt; writes(&rt, rt.alloc(), line, 3, DOCUMENT));
 }
 
 #[test]
-fn no_known_start_has_a_status(rt: HostRuntime) -> Result<(), Fail> {
+fn no_known_start_has_a_status(rt: HostRuntime) {
     let line =
         "when --link=1KiB --downtime=200ms --reserve=10ms --page=16 --sampled=4/16 --from=2400";
     let end = "worst: none, since no migration ends within the trace; record longer\n";
-    assert!(rt; ends_with(&rt, rt.alloc(), line, 4, end)?);
-    Ok(())
+    assert!(rt; ends_with(&rt, rt.alloc(), line, 4, end));
 }
 
 #[test]
-fn draws_starts(rt: HostRuntime) -> Result<(), Fail> {
+fn draws_starts(rt: HostRuntime) {
     let line = "when --chart --link=1KiB --downtime=200ms --reserve=10ms --page=16 --sampled=4/16";
-    assert!(rt; draws(&rt, rt.alloc(), line)?);
-    Ok(())
+    assert!(rt; draws(&rt, rt.alloc(), line));
 }
 
 #[test]
-fn refuses_starts(rt: HostRuntime) -> Result<(), Fail> {
+fn refuses_starts(rt: HostRuntime) {
     const CASES: [(&str, u8, &str); 3] = [
         (
             "when --link=1KiB --downtime=200ms --reserve=10ms --page=16 --sampled=4/16 --every=0 --to=4",
@@ -233,7 +222,6 @@ fn refuses_starts(rt: HostRuntime) -> Result<(), Fail> {
         ),
     ];
     for &(line, status, fault) in &CASES {
-        assert!(rt; fails(&rt, rt.alloc(), 102, line, status, fault)?, "{line}");
+        assert!(rt; fails(&rt, rt.alloc(), 102, line, status, fault), "{line}");
     }
-    Ok(())
 }

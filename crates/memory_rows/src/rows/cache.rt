@@ -1,12 +1,12 @@
 //! Worked examples, with results worked out by hand.
 
-ghost use Rattle.std.specs.Prelude.{◌≡◌, IfOk};
+ghost use Rattle.std.specs.Prelude.{◌≡◌};
 
 use super::fixtures::{FIRST, FOURTH, Page, SECOND, THIRD, ZEROS, guest, page_of};
 use page_cache::PageCache;
 use page_versions::{PageIndex, PageSource};
 use std::alloc::Global;
-use std::test::Fail;
+use std::process::Abort;
 use std::thread::Threads;
 use trace_codec::Trace;
 
@@ -28,17 +28,18 @@ pub(crate) fn page_at(
 }
 
 pub(crate) fn new_cache<'a>(
+    rt: &impl Abort,
     alloc: Global,
     trace: &'a Trace,
     index: &'a PageIndex,
     capacity: usize,
-) -> Result<PageCache<'a, Trace>, Fail>
-    ensures { IfOk result (λ cache. cache.trace ≡ trace.now) }
+) -> PageCache<'a, Trace>
+    ensures { result.trace ≡ trace.now }
 {
     if !index.is_of(trace) || capacity == 0 || capacity > 4_096 {
-        return Err(Fail::from("the index of the trace, and a capacity"));
+        panic!(rt; "the index of the trace, and a capacity");
     }
-    Ok(PageCache::new(alloc, trace, index, capacity)?)
+    PageCache::new(alloc, trace, index, capacity).expect(rt, "a cache")
 }
 
 /// Returns what the cache keeps of a page.
@@ -56,154 +57,138 @@ fn kept_in(cache: &PageCache<'_, Trace>) -> [Option<Page>; 4] {
     ]
 }
 
-/// The page that the cache returns, and what it then keeps of the four pages.
-type Step = (Option<Page>, [Option<Page>; 4]);
+/// The pages that rows name, each by its place here.
+const PAGES: [Page; 5] = [ZEROS, FIRST, SECOND, THIRD, FOURTH];
 
-/// Asks the cache for these pages at these versions, in order.
-fn ask(
-    alloc: Global,
-    cache: &mut PageCache<'_, Trace>,
-    trace: &Trace,
-    asked: &[(u32, u32)],
-) -> Result<Vec<Step>, Fail>
+/// Returns the digit that names a page, `-` if there is none, and `?` for a page without a name.
+fn digit_of(page: Option<Page>) -> u8 {
+    let Some(page) = page else {
+        return b'-';
+    };
+    for (named, digit) in PAGES.iter().zip(b"01234".iter()) {
+        if *named == page {
+            return *digit;
+        }
+    }
+    b'?'
+}
+
+/// The page and the version that a cache is asked for; the page that it returns, and what it then keeps of the four.
+type Row = (u32, u32, &'static str);
+
+/// Asks the cache for these pages at these versions, in order. Returns whether it takes these steps.
+fn ask(cache: &mut PageCache<'_, Trace>, trace: &Trace, rows: &[Row]) -> bool
     requires { cache.old.trace ≡ trace.now }
     ensures { cache.new.trace ≡ trace.now }
 {
-    let mut steps = Vec::new(alloc);
-    for (page, version) in asked {
-        let answer = page_at(cache, trace, *page, *version);
-        steps.push((answer, kept_in(cache)))?;
+    let mut right = true;
+    for &(page, version, expected) in rows {
+        let answer = digit_of(page_at(cache, trace, page, version));
+        let [first, second, third, fourth] = kept_in(cache).map(digit_of);
+        let found = [answer, b' ', first, second, third, fourth];
+        right &= found.as_slice() == expected.as_bytes();
     }
-    Ok(steps)
+    right
 }
 
-/// Returns whether a new cache of `capacity` pages takes these steps if it is asked for these pages at these versions.
-fn takes<R: Threads + Sync>(
-    rt: &R,
-    alloc: Global,
-    capacity: usize,
-    asked: &[(u32, u32)],
-    expected: &[Step],
-) -> Result<bool, Fail> {
-    let trace = guest(alloc, 0)?;
-    let index = PageIndex::build(rt, alloc, &trace)?;
-    let mut cache = new_cache(alloc, &trace, &index, capacity)?;
-    let steps = ask(alloc, &mut cache, &trace, asked)?;
-    Ok(steps.as_slice() == expected)
+/// Returns whether a new cache of `capacity` pages takes these steps.
+fn takes<R: Abort + Threads + Sync>(rt: &R, alloc: Global, capacity: usize, rows: &[Row]) -> bool {
+    let trace = guest(rt, alloc, 0);
+    let index = PageIndex::build(rt, alloc, &trace).expect(rt, "an index");
+    let mut cache = new_cache(rt, alloc, &trace, &index, capacity);
+    ask(&mut cache, &trace, rows)
 }
 
 #[test]
-fn neighbours_of_a_page_stay(rt: HostRuntime) -> Result<(), Fail> {
-    const ASKED: [(u32, u32); 7] = [(0, 0), (1, 3), (2, 0), (3, 3), (0, 5), (2, 5), (1, 0)];
-    const STEPS: [Step; 7] = [
-        (Some(ZEROS), [Some(ZEROS), None, None, None]),
-        (Some(THIRD), [Some(ZEROS), Some(THIRD), None, None]),
-        (Some(ZEROS), [Some(ZEROS), Some(THIRD), Some(ZEROS), None]),
-        (
-            Some(ZEROS),
-            [Some(ZEROS), Some(THIRD), Some(ZEROS), Some(ZEROS)],
-        ),
-        (
-            Some(FIRST),
-            [Some(FIRST), Some(THIRD), Some(ZEROS), Some(ZEROS)],
-        ),
-        (
-            Some(ZEROS),
-            [Some(FIRST), Some(THIRD), Some(ZEROS), Some(ZEROS)],
-        ),
-        (
-            Some(ZEROS),
-            [Some(FIRST), Some(ZEROS), Some(ZEROS), Some(ZEROS)],
-        ),
+fn neighbours_of_a_page_stay(rt: HostRuntime) {
+    const ROWS: [Row; 7] = [
+        (0, 0, "0 0---"),
+        (1, 3, "3 03--"),
+        (2, 0, "0 030-"),
+        (3, 3, "0 0300"),
+        (0, 5, "1 1300"),
+        (2, 5, "0 1300"),
+        (1, 0, "0 1000"),
     ];
-    assert!(rt; takes(&rt, rt.alloc(), 4, &ASKED, &STEPS)?);
-    Ok(())
+    assert!(rt; takes(&rt, rt.alloc(), 4, &ROWS));
 }
 
 #[test]
-fn one_page_is_kept(rt: HostRuntime) -> Result<(), Fail> {
-    const ASKED: [(u32, u32); 5] = [(1, 2), (1, 3), (1, 2), (3, 4), (1, 5)];
-    const STEPS: [Step; 5] = [
-        (Some(SECOND), [None, Some(SECOND), None, None]),
-        (Some(THIRD), [None, Some(THIRD), None, None]),
-        (Some(SECOND), [None, Some(SECOND), None, None]),
-        (Some(FOURTH), [None, None, None, Some(FOURTH)]),
-        (Some(SECOND), [None, Some(SECOND), None, None]),
+fn one_page_is_kept(rt: HostRuntime) {
+    const ROWS: [Row; 5] = [
+        (1, 2, "2 -2--"),
+        (1, 3, "3 -3--"),
+        (1, 2, "2 -2--"),
+        (3, 4, "4 ---4"),
+        (1, 5, "2 -2--"),
     ];
-    assert!(rt; takes(&rt, rt.alloc(), 1, &ASKED, &STEPS)?);
-    Ok(())
+    assert!(rt; takes(&rt, rt.alloc(), 1, &ROWS));
 }
 
 #[test]
-fn two_pages_are_kept(rt: HostRuntime) -> Result<(), Fail> {
-    const ASKED: [(u32, u32); 7] = [(1, 0), (0, 5), (1, 4), (1, 4), (2, 5), (1, 5), (0, 0)];
-    const STEPS: [Step; 7] = [
-        (Some(ZEROS), [None, Some(ZEROS), None, None]),
-        (Some(FIRST), [Some(FIRST), Some(ZEROS), None, None]),
-        (Some(THIRD), [Some(FIRST), Some(THIRD), None, None]),
-        (Some(THIRD), [Some(FIRST), Some(THIRD), None, None]),
-        (Some(ZEROS), [None, Some(THIRD), Some(ZEROS), None]),
-        (Some(SECOND), [None, Some(SECOND), Some(ZEROS), None]),
-        (Some(ZEROS), [Some(ZEROS), Some(SECOND), None, None]),
+fn two_pages_are_kept(rt: HostRuntime) {
+    const ROWS: [Row; 7] = [
+        (1, 0, "0 -0--"),
+        (0, 5, "1 10--"),
+        (1, 4, "3 13--"),
+        (1, 4, "3 13--"),
+        (2, 5, "0 -30-"),
+        (1, 5, "2 -20-"),
+        (0, 0, "0 02--"),
     ];
-    assert!(rt; takes(&rt, rt.alloc(), 2, &ASKED, &STEPS)?);
-    Ok(())
+    assert!(rt; takes(&rt, rt.alloc(), 2, &ROWS));
 }
 
 #[test]
-fn full_cache_makes_pages_again_that_went(rt: HostRuntime) -> Result<(), Fail> {
-    const ASKED: [(u32, u32); 6] = [(1, 3), (3, 5), (0, 5), (1, 2), (3, 4), (2, 5)];
-    const STEPS: [Step; 6] = [
-        (Some(THIRD), [None, Some(THIRD), None, None]),
-        (Some(FOURTH), [None, Some(THIRD), None, Some(FOURTH)]),
-        (Some(FIRST), [Some(FIRST), None, None, Some(FOURTH)]),
-        (Some(SECOND), [Some(FIRST), Some(SECOND), None, None]),
-        (Some(FOURTH), [None, Some(SECOND), None, Some(FOURTH)]),
-        (Some(ZEROS), [None, None, Some(ZEROS), Some(FOURTH)]),
+fn full_cache_makes_pages_again_that_went(rt: HostRuntime) {
+    const ROWS: [Row; 6] = [
+        (1, 3, "3 -3--"),
+        (3, 5, "4 -3-4"),
+        (0, 5, "1 1--4"),
+        (1, 2, "2 12--"),
+        (3, 4, "4 -2-4"),
+        (2, 5, "0 --04"),
     ];
-    assert!(rt; takes(&rt, rt.alloc(), 2, &ASKED, &STEPS)?);
-    Ok(())
+    assert!(rt; takes(&rt, rt.alloc(), 2, &ROWS));
 }
 
 #[test]
-fn page_brought_on_was_used_last(rt: HostRuntime) -> Result<(), Fail> {
-    const ASKED: [(u32, u32); 4] = [(1, 2), (0, 2), (1, 3), (3, 4)];
-    const STEPS: [Step; 4] = [
-        (Some(SECOND), [None, Some(SECOND), None, None]),
-        (Some(FIRST), [Some(FIRST), Some(SECOND), None, None]),
-        (Some(THIRD), [Some(FIRST), Some(THIRD), None, None]),
-        (Some(FOURTH), [None, Some(THIRD), None, Some(FOURTH)]),
+fn page_brought_on_was_used_last(rt: HostRuntime) {
+    const ROWS: [Row; 4] = [
+        (1, 2, "2 -2--"),
+        (0, 2, "1 12--"),
+        (1, 3, "3 13--"),
+        (3, 4, "4 -3-4"),
     ];
-    assert!(rt; takes(&rt, rt.alloc(), 2, &ASKED, &STEPS)?);
-    Ok(())
+    assert!(rt; takes(&rt, rt.alloc(), 2, &ROWS));
 }
 
 /// Returns what a cache keeps at first, after it was asked for the second page, and in a second cache that gets its
 /// pages.
 fn kept_and_handed_on<'a>(
+    rt: &impl Abort,
     alloc: Global,
     trace: &'a Trace,
     index: &'a PageIndex,
-) -> Result<[[Option<Page>; 4]; 3], Fail> {
-    let mut first = new_cache(alloc, trace, index, 1)?;
+) -> [[Option<Page>; 4]; 3] {
+    let mut first = new_cache(rt, alloc, trace, index, 1);
     let none = kept_in(&first);
     let _ = page_at(&mut first, trace, 1, 3);
     let asked = kept_in(&first);
     let pages = first.into_pages();
     if !index.is_of(trace) {
-        return Err(Fail::from("the index of the trace"));
+        panic!(rt; "the index of the trace");
     }
     let second = PageCache::with_pages(PageSource::new(trace, index, None), pages);
-    Ok([none, asked, kept_in(&second)])
+    [none, asked, kept_in(&second)]
 }
 
 #[test]
-fn kept_pages_go_to_another_cache(rt: HostRuntime) -> Result<(), Fail> {
+fn kept_pages_go_to_another_cache(rt: HostRuntime) {
     let alloc = rt.alloc();
-    let trace = guest(alloc, 0)?;
-    let index = PageIndex::build(&rt, alloc, &trace)?;
-    let kept = kept_and_handed_on(alloc, &trace, &index)?;
+    let trace = guest(&rt, alloc, 0);
+    let index = PageIndex::build(&rt, alloc, &trace).expect(&rt, "an index");
+    let kept = kept_and_handed_on(&rt, alloc, &trace, &index);
     let third = [None, Some(THIRD), None, None];
     assert!(rt; kept == [[None; 4], third, third]);
-    Ok(())
 }

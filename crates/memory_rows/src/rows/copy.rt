@@ -17,10 +17,11 @@ use image_build::{Image, ImageError, of_parts, replay, resume};
 use migration_model::{current_copies_make_memory, final_copy_makes_current};
 use page_versions::PageIndex;
 use std::alloc::Global;
+use std::process::Abort;
 use std::sync::Wait;
 use std::test::Fail;
 use std::thread::Threads;
-use stop_copy::{CopyError, final_copy};
+use stop_copy::final_copy;
 use trace_codec::{Trace, Write};
 
 /// The memory of a guest when it stopped, and after all writes of its trace.
@@ -65,32 +66,33 @@ fn images_of<R: Threads + Wait + Sync>(
 /// Returns two parts after the final copy: the first had page 1 after write 2 and pages 2 and 3 before any write, the
 /// second had nothing. Pages 0 and 1 are now at versions 1 and 3, and these are marked.
 fn copied(
-    rt: &(impl Threads + Wait + Sync),
+    rt: &(impl Abort + Threads + Wait + Sync),
     alloc: Global,
     trace: &Trace,
     index: &PageIndex,
     dirty: u64,
     workers: usize,
-) -> Result<Vec<Part>, Fail>
+) -> Vec<Part>
     requires some { 1 ≤ workers }
     requires few { workers ≤ 16 }
-    ensures { IfOk result (λ parts. All (λ part. part.shape ≡ shape_of_trace trace.now) parts.items) }
+    ensures { All (λ part. part.shape ≡ shape_of_trace trace.now) result.items }
 {
     let shape = trace.shape();
     let closed = Closed {
-        versions: vec![in alloc; 1, 3, 0, 0]?,
-        dirty: vec![in alloc; dirty]?,
+        versions: vec![in alloc; 1, 3, 0, 0].expect(rt, "memory"),
+        dirty: vec![in alloc; dirty].expect(rt, "memory"),
     };
     if !index.is_of(trace) || !closed.fits(shape.pages, shape.writes) {
-        return Err(Fail::from("what was closed of this trace"));
+        panic!(rt; "what was closed of this trace");
     }
     let first = part_of(
+        rt,
         alloc,
         &shape,
         &[(1, 2, SECOND), (2, 0, ZEROS), (3, 0, ZEROS)],
-    )?;
-    let parts = vec![in alloc; first, Part::new(alloc, shape)]?;
-    Ok(final_copy(rt, alloc, trace, index, &closed, workers, 2, parts)?)
+    );
+    let parts = vec![in alloc; first, Part::new(alloc, shape)].expect(rt, "memory");
+    final_copy(rt, alloc, trace, index, &closed, workers, 2, parts).expect(rt, "a final copy")
 }
 
 /// Returns the stamps that the parts together have of the four pages.
@@ -125,41 +127,41 @@ pub(crate) fn resumed(
 
 /// Returns what the parts have after the final copy with `workers` workers, and the memory at the stop and at the end.
 fn copied_and_resumed(
-    rt: &(impl Threads + Wait + Sync),
+    rt: &(impl Abort + Threads + Wait + Sync),
     alloc: Global,
     trace: &Trace,
     index: &PageIndex,
     workers: usize,
-) -> Result<([Option<u32>; 4], Image, Image), Fail>
+) -> ([Option<u32>; 4], Image, Image)
     requires some { 1 ≤ workers }
     requires few { workers ≤ 16 }
 {
-    let parts = copied(rt, alloc, trace, index, 3, workers)?;
+    let parts = copied(rt, alloc, trace, index, 3, workers);
     let found = stamps(&parts);
-    let at_stop = of_parts(alloc, &trace.shape(), parts)?;
-    let copy = at_stop.copy(alloc)?;
-    let at_end = resumed(copy, trace, index, &[1, 3, 0, 0]).ok_or("an image of the trace")?;
-    Ok((found, at_stop, at_end))
+    let at_stop = of_parts(alloc, &trace.shape(), parts).expect(rt, "an image");
+    let copy = at_stop.copy(alloc).expect(rt, "memory");
+    let at_end = resumed(copy, trace, index, &[1, 3, 0, 0]).expect(rt, "an image of the trace");
+    (found, at_stop, at_end)
 }
 
 /// Returns the join of two parts.
-fn joined(parts: Vec<Part>) -> Result<Part, Fail> {
+fn joined(rt: &impl Abort, parts: Vec<Part>) -> Part {
     let mut parts = parts.into_iter();
     let (Some(first), Some(second)) = (parts.next(), parts.next()) else {
-        return Err(Fail::from("two parts"));
+        panic!(rt; "two parts");
     };
     if first.shape() != second.shape() {
-        return Err(Fail::from("parts of one shape"));
+        panic!(rt; "parts of one shape");
     }
-    Ok(merge(first, second)?)
+    merge(first, second).expect(rt, "a part")
 }
 
 #[test]
-fn parts_after_the_final_copy_are_joined(rt: HostRuntime) -> Result<(), Fail> {
+fn parts_after_the_final_copy_are_joined(rt: HostRuntime) {
     let alloc = rt.alloc();
-    let trace = guest(alloc, 0)?;
-    let index = PageIndex::build(&rt, alloc, &trace)?;
-    let whole = joined(copied(&rt, alloc, &trace, &index, 3, 2)?)?;
+    let trace = guest(&rt, alloc, 0);
+    let index = PageIndex::build(&rt, alloc, &trace).expect(&rt, "an index");
+    let whole = joined(&rt, copied(&rt, alloc, &trace, &index, 3, 2));
     let stamps = [
         whole.stamp(0),
         whole.stamp(1),
@@ -167,16 +169,15 @@ fn parts_after_the_final_copy_are_joined(rt: HostRuntime) -> Result<(), Fail> {
         whole.stamp(3),
     ];
     assert!(rt; stamps == [Some(1), Some(3), Some(0), Some(0)]);
-    Ok(())
 }
 
 #[test]
-fn marked_pages_come_once_more(rt: HostRuntime) -> Result<(), Fail> {
+fn marked_pages_come_once_more(rt: HostRuntime) {
     let alloc = rt.alloc();
-    let trace = guest(alloc, 0)?;
-    let index = PageIndex::build(&rt, alloc, &trace)?;
+    let trace = guest(&rt, alloc, 0);
+    let index = PageIndex::build(&rt, alloc, &trace).expect(&rt, "an index");
     for workers in [1usize, 2, 16] {
-        let (found, at_stop, at_end) = copied_and_resumed(&rt, alloc, &trace, &index, workers)?;
+        let (found, at_stop, at_end) = copied_and_resumed(&rt, alloc, &trace, &index, workers);
         let expected = (
             [Some(1), Some(3), Some(0), Some(0)],
             AT_STOP.as_slice(),
@@ -187,102 +188,104 @@ fn marked_pages_come_once_more(rt: HostRuntime) -> Result<(), Fail> {
             "{workers}"
         );
     }
-    Ok(())
 }
 
 /// Returns what the parts have after the final copy with these pages marked.
 fn stamps_of(
-    rt: &(impl Threads + Wait + Sync),
+    rt: &(impl Abort + Threads + Wait + Sync),
     alloc: Global,
     dirty: u64,
-) -> Result<[Option<u32>; 4], Fail> {
-    let trace = guest(alloc, 0)?;
-    let index = PageIndex::build(rt, alloc, &trace)?;
-    let parts = copied(rt, alloc, &trace, &index, dirty, 1)?;
-    Ok(stamps(&parts))
+) -> [Option<u32>; 4] {
+    let trace = guest(rt, alloc, 0);
+    let index = PageIndex::build(rt, alloc, &trace).expect(rt, "an index");
+    let parts = copied(rt, alloc, &trace, &index, dirty, 1);
+    stamps(&parts)
 }
 
 #[test]
-fn page_that_no_part_has_is_missing(rt: HostRuntime) -> Result<(), Fail> {
+fn page_that_no_part_has_is_missing(rt: HostRuntime) {
     let alloc = rt.alloc();
-    let trace = guest(alloc, 0)?;
-    let index = PageIndex::build(&rt, alloc, &trace)?;
-    let parts = copied(&rt, alloc, &trace, &index, 2, 1)?;
+    let trace = guest(&rt, alloc, 0);
+    let index = PageIndex::build(&rt, alloc, &trace).expect(&rt, "an index");
+    let parts = copied(&rt, alloc, &trace, &index, 2, 1);
     let found = stamps(&parts);
     let refused = of_parts(alloc, &trace.shape(), parts).err();
     assert!(rt; found == [None, Some(3), Some(0), Some(0)]);
     assert!(rt; refused == Some(ImageError::Missing(0)));
-    Ok(())
 }
 
 #[test]
-fn page_that_is_not_marked_stays(rt: HostRuntime) -> Result<(), Fail> {
-    assert!(rt; stamps_of(&rt, rt.alloc(), 1)? == [Some(1), Some(2), Some(0), Some(0)]);
-    Ok(())
+fn page_that_is_not_marked_stays(rt: HostRuntime) {
+    assert!(rt; stamps_of(&rt, rt.alloc(), 1) == [Some(1), Some(2), Some(0), Some(0)]);
 }
 
 /// Returns a trace of 1,500 pages of 16 bytes, which writes every seventh of them.
-fn wide_guest(alloc: Global) -> Result<Trace, Fail> {
+fn wide_guest(rt: &impl Abort, alloc: Global) -> Trace {
     let mut writes = Vec::new(alloc);
     for page in 0..1500u32 {
         if page % 7 == 0 {
-            writes.push(Write {
-                tick: page as u64,
-                page,
-                offset: (page % 16) as u16,
-                bytes: Vec::from_slice(alloc, &[1 + (page % 100) as u8])?,
-            })?;
+            writes
+                .push(Write {
+                    tick: page as u64,
+                    page,
+                    offset: (page % 16) as u16,
+                    bytes: Vec::from_slice(alloc, &[1 + (page % 100) as u8]).expect(rt, "memory"),
+                })
+                .expect(rt, "memory");
         }
     }
-    Ok(Trace::new(1, 4, 1500, writes)?)
+    Trace::new(1, 4, 1500, writes).expect(rt, "a trace")
 }
 
 /// Returns the versions of all pages after all writes, each of them marked.
-fn all_marked(alloc: Global, trace: &Trace, index: &PageIndex) -> Result<Closed, Fail> {
+fn all_marked(rt: &impl Abort, alloc: Global, trace: &Trace, index: &PageIndex) -> Closed {
     let pages = trace.pages;
     if !index.is_of(trace) {
-        return Err(Fail::from("the index of the trace"));
+        panic!(rt; "the index of the trace");
     }
     let mut versions = Vec::new(alloc);
     for page in 0..pages {
-        versions.push(index.version_before(page, u64::MAX))?;
+        versions
+            .push(index.version_before(page, u64::MAX))
+            .expect(rt, "memory");
     }
-    let mut dirty = vec![in alloc; u64::MAX; 23]?;
-    dirty.push((1 << 28) - 1)?;
-    Ok(Closed { versions, dirty })
+    let mut dirty = vec![in alloc; u64::MAX; 23].expect(rt, "memory");
+    dirty.push((1 << 28) - 1).expect(rt, "memory");
+    Closed { versions, dirty }
 }
 
 /// Returns the memory that a final copy makes of two empty parts.
 fn copied_by(
-    rt: &(impl Threads + Wait + Sync),
+    rt: &(impl Abort + Threads + Wait + Sync),
     alloc: Global,
     trace: &Trace,
     index: &PageIndex,
     closed: &Closed,
     workers: usize,
-) -> Result<Image, Fail>
+) -> Image
     requires some { 1 ≤ workers }
     requires few { workers ≤ 16 }
 {
     let shape = trace.shape();
     if !index.is_of(trace) || !closed.fits(shape.pages, shape.writes) {
-        return Err(Fail::from("what was closed of this trace"));
+        panic!(rt; "what was closed of this trace");
     }
-    let parts = vec![in alloc; Part::new(alloc, shape), Part::new(alloc, shape)]?;
-    let parts = final_copy(rt, alloc, trace, index, closed, workers, 2, parts)?;
-    Ok(of_parts(alloc, &shape, parts)?)
+    let parts = [Part::new(alloc, shape), Part::new(alloc, shape)];
+    let parts = Vec::from_array(alloc, parts).expect(rt, "memory");
+    let copied = final_copy(rt, alloc, trace, index, closed, workers, 2, parts);
+    let parts = copied.expect(rt, "a copy");
+    of_parts(alloc, &shape, parts).expect(rt, "an image")
 }
 
 #[test]
-fn any_number_of_workers_copies_the_same(rt: HostRuntime) -> Result<(), Fail> {
+fn any_number_of_workers_copies_the_same(rt: HostRuntime) {
     let alloc = rt.alloc();
-    let trace = wide_guest(alloc)?;
-    let index = PageIndex::build(&rt, alloc, &trace)?;
-    let closed = all_marked(alloc, &trace, &index)?;
-    let expected = replay(alloc, &trace)?;
+    let trace = wide_guest(&rt, alloc);
+    let index = PageIndex::build(&rt, alloc, &trace).expect(&rt, "an index");
+    let closed = all_marked(&rt, alloc, &trace, &index);
+    let expected = replay(alloc, &trace).expect(&rt, "an image");
     for workers in [1usize, 2, 3, 16] {
-        let image = copied_by(&rt, alloc, &trace, &index, &closed, workers)?;
+        let image = copied_by(&rt, alloc, &trace, &index, &closed, workers);
         assert!(rt; image.bytes() == expected.bytes(), "{workers}");
     }
-    Ok(())
 }

@@ -1,12 +1,12 @@
 //! The guest of the worked examples, its pages, and parts that have some of them.
 
-ghost use Rattle.std.specs.Prelude.{◌≡◌, IfOk};
+ghost use Rattle.std.specs.Prelude.{◌≡◌};
 ghost use Rattle.page_message.specs.Shapes.{shape_of};
 
 use collector::Part;
 use page_message::frame_of;
 use std::alloc::Global;
-use std::test::Fail;
+use std::process::Abort;
 use trace_codec::{Shape, Trace, Write};
 
 pub(crate) type Page = [u8; 16];
@@ -56,17 +56,17 @@ pub(crate) static AT_END: [u8; 64] = [
 
 /// Returns a trace of 4 pages of 16 bytes, which writes pages 0 and 1 at ticks 0 and 5, page 1 at tick 1200, and pages
 /// 3 and 1 at tick 2500. Or all of this `later` ticks later.
-pub(crate) fn guest(alloc: Global, later: u64) -> Result<Trace, Fail> {
-    guest_with_last(alloc, 1, later, &[0])
+pub(crate) fn guest(rt: &impl Abort, alloc: Global, later: u64) -> Trace {
+    guest_with_last(rt, alloc, 1, later, &[0])
 }
 
 /// Returns this trace in version 2, except that its last write releases page 1.
-pub(crate) fn releasing_guest(alloc: Global) -> Result<Trace, Fail> {
-    guest_with_last(alloc, 2, 0, &[])
+pub(crate) fn releasing_guest(rt: &impl Abort, alloc: Global) -> Trace {
+    guest_with_last(rt, alloc, 2, 0, &[])
 }
 
 /// Returns this trace in a version, `later` ticks later, with these bytes for its last write.
-fn guest_with_last(alloc: Global, version: u8, later: u64, last: &[u8]) -> Result<Trace, Fail> {
+fn guest_with_last(rt: &impl Abort, alloc: Global, version: u8, later: u64, last: &[u8]) -> Trace {
     let cases: [(u64, u32, u16, &[u8]); 5] = [
         (0, 0, 0, &[1]),
         (5, 1, 15, &[2]),
@@ -76,14 +76,16 @@ fn guest_with_last(alloc: Global, version: u8, later: u64, last: &[u8]) -> Resul
     ];
     let mut writes = Vec::new(alloc);
     for (tick, page, offset, bytes) in cases {
-        writes.push(Write {
-            tick: later.saturating_add(tick),
-            page,
-            offset,
-            bytes: Vec::from_slice(alloc, bytes)?,
-        })?;
+        writes
+            .push(Write {
+                tick: later.saturating_add(tick),
+                page,
+                offset,
+                bytes: Vec::from_slice(alloc, bytes).expect(rt, "memory"),
+            })
+            .expect(rt, "memory");
     }
-    Ok(Trace::new(version, 4, 4, writes)?)
+    Trace::new(version, 4, 4, writes).expect(rt, "a trace")
 }
 
 /// Returns these bytes, if they are a page.
@@ -98,35 +100,37 @@ pub(crate) fn page_of(bytes: &[u8]) -> Option<Page> {
 
 /// Gives the part a page of the guest.
 fn give(
+    rt: &impl Abort,
     alloc: Global,
     part: &mut Part,
     shape: &Shape,
     page: u32,
     stamp: u32,
     bytes: &Page,
-) -> Result<(), Fail>
+)
     requires { part.old.shape ≡ shape_of shape.now }
     ensures { part.new.shape ≡ part.old.shape }
 {
-    let bytes = Vec::from_slice(alloc, bytes)?;
+    let bytes = Vec::from_slice(alloc, bytes).expect(rt, "memory");
     if page >= shape.pages || stamp > shape.writes || bytes.len() != shape.page_size() {
-        return Err(Fail::from("a page of the guest"));
+        panic!(rt; "a page of the guest");
     }
-    part.accept(frame_of(shape, page, stamp, bytes))?;
-    Ok(())
+    part.accept(frame_of(shape, page, stamp, bytes))
+        .expect(rt, "room");
 }
 
 /// Returns a part that has these pages: the number of each, its stamp and its bytes.
 pub(crate) fn part_of(
+    rt: &impl Abort,
     alloc: Global,
     shape: &Shape,
     pages: &[(u32, u32, Page)],
-) -> Result<Part, Fail>
-    ensures { IfOk result (λ part. part.shape ≡ shape_of shape.now) }
+) -> Part
+    ensures { result.shape ≡ shape_of shape.now }
 {
     let mut part = Part::new(alloc, *shape);
     for (page, stamp, bytes) in pages {
-        give(alloc, &mut part, shape, *page, *stamp, bytes)?;
+        give(rt, alloc, &mut part, shape, *page, *stamp, bytes);
     }
-    Ok(part)
+    part
 }

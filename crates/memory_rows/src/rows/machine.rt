@@ -3,96 +3,115 @@
 use dirty_core::{Answer, Core, CoreRefusal, Event, Opening, run, step};
 use std::alloc::Global;
 use std::process::Abort;
-use std::test::Fail;
 
-type Step = (Event, Result<Answer, CoreRefusal>);
+/// What a guest or a copier does.
+#[derive(Clone, Copy)]
+enum Does {
+    /// Guest 0 stores a page, at a place.
+    Store,
+    /// Guest 0 marks the page that it stored.
+    Mark,
+    /// A copier harvests a word.
+    Harvest,
+    /// Copier 0 peeks at a word.
+    Peek,
+    /// Copier 0 restores these pages of word 0.
+    Restore,
+    /// Copier 0 reads a page.
+    Read,
+}
 
-const fn store(page: u32, place: u32) -> Event {
-    Event::Store {
-        guest: 0,
-        page,
-        place,
+/// Returns the event of these numbers.
+fn event(does: Does, first: u32, second: u32) -> Event {
+    match does {
+        Does::Store => Event::Store {
+            guest: 0,
+            page: first,
+            place: second,
+        },
+        Does::Mark => Event::Mark { guest: 0 },
+        Does::Harvest => Event::Harvest {
+            copier: first as usize,
+            word: second as usize,
+        },
+        Does::Peek => Event::Peek {
+            copier: 0,
+            word: first as usize,
+        },
+        Does::Restore => Event::Restore {
+            copier: 0,
+            word: 0,
+            bits: u64::from(first),
+        },
+        Does::Read => Event::Read {
+            copier: 0,
+            page: first,
+        },
     }
 }
 
-const MARK: Event = Event::Mark { guest: 0 };
-
-const fn harvest(copier: usize, word: usize) -> Event {
-    Event::Harvest { copier, word }
-}
-
-const fn peek(word: usize) -> Event {
-    Event::Peek { copier: 0, word }
-}
-
-const fn restore(bits: u64) -> Event {
-    Event::Restore {
-        copier: 0,
-        word: 0,
-        bits,
-    }
-}
-
-const fn read(page: u32) -> Event {
-    Event::Read { copier: 0, page }
-}
+/// An event, its numbers, and the answer to it.
+type Step = (Does, u32, u32, Result<Answer, CoreRefusal>);
 
 /// Returns an opening of pages at place 0, if there is one.
 fn opening_of(
+    rt: &impl Abort,
     alloc: Global,
     pages: usize,
     dirty: u64,
     last: Option<u64>,
     guests: usize,
     copiers: usize,
-) -> Result<Option<Opening>, Fail> {
-    let places = vec![in alloc; 0u32; pages]?;
-    let mut words = vec![in alloc; dirty]?;
+) -> Option<Opening> {
+    let places = vec![in alloc; 0u32; pages].expect(rt, "memory");
+    let mut words = vec![in alloc; dirty].expect(rt, "memory");
     if let Some(last) = last {
-        words.push(last)?;
+        words.push(last).expect(rt, "memory");
     }
-    Ok(Opening::new(places, words, guests, copiers))
+    Opening::new(places, words, guests, copiers)
 }
 
 /// Returns a core that opens with these parts.
 fn core_of(
+    rt: &impl Abort,
     alloc: Global,
     pages: usize,
     dirty: u64,
     last: Option<u64>,
     guests: usize,
     copiers: usize,
-) -> Result<Core, Fail> {
-    let opening = opening_of(alloc, pages, dirty, last, guests, copiers)?.ok_or("an opening")?;
-    Ok(Core::open(alloc, &opening)?)
+) -> Core {
+    let opening = opening_of(rt, alloc, pages, dirty, last, guests, copiers);
+    let opening = opening.expect(rt, "an opening");
+    Core::open(alloc, &opening).expect(rt, "a core")
 }
 
 /// Steps through the events, and compares each answer.
 fn follow(rt: &impl Abort, core: &mut Core, steps: &[Step]) {
-    for (event, wanted) in steps {
-        let answer = step(core, *event);
-        assert_eq!(rt; answer, *wanted, "at {event:?}");
+    for &(does, first, second, wanted) in steps {
+        let event = event(does, first, second);
+        let answer = step(core, event);
+        assert!(rt; answer == wanted, "at {event:?}");
     }
 }
 
 #[test]
-fn two_clean_pages(rt: HostRuntime) -> Result<(), Fail> {
-    let opening = opening_of(rt.alloc(), 2, 0, None, 1, 1)?.ok_or("an opening")?;
-    let mut core = Core::open(rt.alloc(), &opening)?;
-    assert_eq!(rt; core.place(0), 0);
-    let steps = [
-        (MARK, Err(CoreRefusal::NothingPending)),
-        (store(0, 1), Ok(Answer::Done)),
-        (store(1, 2), Err(CoreRefusal::Pending)),
-        (MARK, Ok(Answer::Done)),
-        (harvest(0, 0), Ok(Answer::Pages(1))),
-        (read(0), Ok(Answer::Place(1))),
-        (read(0), Err(CoreRefusal::NotHeld)),
-        (store(0, 1), Err(CoreRefusal::OldPlace)),
-        (harvest(0, 1), Err(CoreRefusal::NotOwner)),
+fn two_clean_pages(rt: HostRuntime) {
+    const STEPS: [Step; 9] = [
+        (Does::Mark, 0, 0, Err(CoreRefusal::NothingPending)),
+        (Does::Store, 0, 1, Ok(Answer::Done)),
+        (Does::Store, 1, 2, Err(CoreRefusal::Pending)),
+        (Does::Mark, 0, 0, Ok(Answer::Done)),
+        (Does::Harvest, 0, 0, Ok(Answer::Pages(1))),
+        (Does::Read, 0, 0, Ok(Answer::Place(1))),
+        (Does::Read, 0, 0, Err(CoreRefusal::NotHeld)),
+        (Does::Store, 0, 1, Err(CoreRefusal::OldPlace)),
+        (Does::Harvest, 0, 1, Err(CoreRefusal::NotOwner)),
     ];
-    follow(&rt, &mut core, &steps);
-    Ok(())
+    let opening = opening_of(&rt, rt.alloc(), 2, 0, None, 1, 1).expect(&rt, "an opening");
+    let mut core = Core::open(rt.alloc(), &opening).expect(&rt, "a core");
+    assert!(rt; core.place(0) == 0);
+    follow(&rt, &mut core, &STEPS);
 }
 
 /// Returns whether page 0 is marked, whether copier 0 holds it, and what is pending for guest 0.
@@ -101,104 +120,104 @@ fn page_zero(core: &Core) -> (bool, bool, Option<u32>) {
 }
 
 #[test]
-fn marked_again_though_not_behind(rt: HostRuntime) -> Result<(), Fail> {
-    let opening = opening_of(rt.alloc(), 1, 1, None, 1, 1)?.ok_or("an opening")?;
-    let mut core = Core::open(rt.alloc(), &opening)?;
-    let steps = [
-        (store(0, 1), Ok(Answer::Done)),
-        (harvest(0, 0), Ok(Answer::Pages(1))),
-        (read(0), Ok(Answer::Place(1))),
-        (MARK, Ok(Answer::Done)),
+fn marked_again_though_not_behind(rt: HostRuntime) {
+    const STEPS: [Step; 4] = [
+        (Does::Store, 0, 1, Ok(Answer::Done)),
+        (Does::Harvest, 0, 0, Ok(Answer::Pages(1))),
+        (Does::Read, 0, 0, Ok(Answer::Place(1))),
+        (Does::Mark, 0, 0, Ok(Answer::Done)),
     ];
-    follow(&rt, &mut core, &steps);
-    let events = [store(0, 1), harvest(0, 0), read(0), MARK];
+    let opening = opening_of(&rt, rt.alloc(), 1, 1, None, 1, 1).expect(&rt, "an opening");
+    let mut core = Core::open(rt.alloc(), &opening).expect(&rt, "a core");
+    follow(&rt, &mut core, &STEPS);
+    let stored = event(Does::Store, 0, 1);
+    let mark = event(Does::Mark, 0, 0);
+    let events = [
+        stored,
+        event(Does::Harvest, 0, 0),
+        event(Does::Read, 0, 0),
+        mark,
+    ];
     let after = run(rt.alloc(), &opening, &events).ok();
-    let refused = run(rt.alloc(), &opening, &[store(0, 1), MARK, MARK]).err();
+    let refused = run(rt.alloc(), &opening, &[stored, mark, mark]).err();
     drop(opening);
     let wanted = (true, false, None);
-    assert_eq!(rt;
-        (page_zero(&core), after.as_ref().map(page_zero), refused),
-        (wanted, Some(wanted), Some((2, CoreRefusal::NothingPending)))
+    assert!(rt;
+        (page_zero(&core), after.as_ref().map(page_zero), refused)
+            == (wanted, Some(wanted), Some((2, CoreRefusal::NothingPending)))
     );
-    Ok(())
 }
 
 #[test]
-fn restored_while_stored_again(rt: HostRuntime) -> Result<(), Fail> {
-    let mut core = core_of(rt.alloc(), 2, 3, None, 1, 1)?;
-    let steps = [
-        (harvest(0, 0), Ok(Answer::Pages(3))),
-        (store(1, 1), Ok(Answer::Done)),
-        (MARK, Ok(Answer::Done)),
-        (peek(0), Ok(Answer::Pages(2))),
-        (restore(2), Ok(Answer::Done)),
-        (read(1), Err(CoreRefusal::NotHeld)),
-        (read(0), Ok(Answer::Place(0))),
+fn restored_while_stored_again(rt: HostRuntime) {
+    const STEPS: [Step; 7] = [
+        (Does::Harvest, 0, 0, Ok(Answer::Pages(3))),
+        (Does::Store, 1, 1, Ok(Answer::Done)),
+        (Does::Mark, 0, 0, Ok(Answer::Done)),
+        (Does::Peek, 0, 0, Ok(Answer::Pages(2))),
+        (Does::Restore, 2, 0, Ok(Answer::Done)),
+        (Does::Read, 1, 0, Err(CoreRefusal::NotHeld)),
+        (Does::Read, 0, 0, Ok(Answer::Place(0))),
     ];
-    follow(&rt, &mut core, &steps);
-    assert_eq!(rt;
+    let mut core = core_of(&rt, rt.alloc(), 2, 3, None, 1, 1);
+    follow(&rt, &mut core, &STEPS);
+    assert!(rt;
         [
             core.marked(0),
             core.marked(1),
             core.held(0, 0),
             core.held(0, 1)
-        ],
-        [false, true, false, false]
+        ] == [false, true, false, false]
     );
-    Ok(())
 }
 
 #[test]
-fn restored_after_a_read(rt: HostRuntime) -> Result<(), Fail> {
-    let mut core = core_of(rt.alloc(), 2, 3, None, 1, 1)?;
-    let steps = [
-        (harvest(0, 0), Ok(Answer::Pages(3))),
-        (read(1), Ok(Answer::Place(0))),
-        (restore(3), Err(CoreRefusal::NotHeld)),
-        (restore(0), Ok(Answer::Done)),
+fn restored_after_a_read(rt: HostRuntime) {
+    const STEPS: [Step; 4] = [
+        (Does::Harvest, 0, 0, Ok(Answer::Pages(3))),
+        (Does::Read, 1, 0, Ok(Answer::Place(0))),
+        (Does::Restore, 3, 0, Err(CoreRefusal::NotHeld)),
+        (Does::Restore, 0, 0, Ok(Answer::Done)),
     ];
-    follow(&rt, &mut core, &steps);
+    let mut core = core_of(&rt, rt.alloc(), 2, 3, None, 1, 1);
+    follow(&rt, &mut core, &STEPS);
     assert!(rt; core.held(0, 0));
-    Ok(())
 }
 
 #[test]
-fn words_of_two_copiers(rt: HostRuntime) -> Result<(), Fail> {
-    let mut core = core_of(rt.alloc(), 65, 0, Some(1), 1, 2)?;
-    let steps = [
-        (harvest(0, 1), Err(CoreRefusal::NotOwner)),
-        (harvest(1, 2), Err(CoreRefusal::NotOwner)),
-        (harvest(1, 1), Ok(Answer::Pages(1))),
-        (harvest(1, 1), Ok(Answer::Pages(0))),
+fn words_of_two_copiers(rt: HostRuntime) {
+    const STEPS: [Step; 4] = [
+        (Does::Harvest, 0, 1, Err(CoreRefusal::NotOwner)),
+        (Does::Harvest, 1, 2, Err(CoreRefusal::NotOwner)),
+        (Does::Harvest, 1, 1, Ok(Answer::Pages(1))),
+        (Does::Harvest, 1, 1, Ok(Answer::Pages(0))),
     ];
-    follow(&rt, &mut core, &steps);
+    let mut core = core_of(&rt, rt.alloc(), 65, 0, Some(1), 1, 2);
+    follow(&rt, &mut core, &STEPS);
     assert!(rt; core.held(1, 64) && !core.held(0, 64));
-    Ok(())
 }
 
 #[test]
-fn no_such_opening(rt: HostRuntime) -> Result<(), Fail> {
+fn no_such_opening(rt: HostRuntime) {
     let refused = [
-        opening_of(rt.alloc(), 4, 16, None, 1, 1)?.is_none(),
-        opening_of(rt.alloc(), 4, 15, None, 17, 1)?.is_none(),
-        opening_of(rt.alloc(), 0, 0, None, 1, 1)?.is_none(),
+        opening_of(&rt, rt.alloc(), 4, 16, None, 1, 1).is_none(),
+        opening_of(&rt, rt.alloc(), 4, 15, None, 17, 1).is_none(),
+        opening_of(&rt, rt.alloc(), 0, 0, None, 1, 1).is_none(),
     ];
-    assert_eq!(rt; refused, [true; 3]);
-    let opening = opening_of(rt.alloc(), 4, 15, None, 16, 2)?.ok_or("an opening")?;
-    assert_eq!(rt;
+    assert!(rt; refused == [true; 3]);
+    let opening = opening_of(&rt, rt.alloc(), 4, 15, None, 16, 2).expect(&rt, "an opening");
+    assert!(rt;
         (
             opening.dirty(),
             opening.places(),
             opening.guests(),
             opening.copiers()
-        ),
-        (&[15][..], &[0, 0, 0, 0][..], 16, 2)
+        ) == (&[15][..], &[0, 0, 0, 0][..], 16, 2)
     );
-    Ok(())
 }
 
 #[test]
-fn names_of_refusals(rt: HostRuntime) -> Result<(), Fail> {
+fn names_of_refusals(rt: HostRuntime) {
     const NAMES: [(CoreRefusal, &str); 6] = [
         (CoreRefusal::NotOwner, "C1"),
         (CoreRefusal::Pending, "C2"),
@@ -208,8 +227,7 @@ fn names_of_refusals(rt: HostRuntime) -> Result<(), Fail> {
         (CoreRefusal::Memory, "C6"),
     ];
     for (refusal, name) in &NAMES {
-        let text = refusal.to_string(rt.alloc())?;
-        assert_eq!(rt; text.as_str(), *name);
+        let text = refusal.to_string(rt.alloc()).expect(&rt, "memory");
+        assert!(rt; text.as_str() == *name);
     }
-    Ok(())
 }

@@ -9,7 +9,7 @@ use super::fixtures::{
 use page_cache::{KeptPages, PageCache};
 use page_versions::{PackedWrites, PageIndex, PageProgress, PageSource, are_short};
 use std::alloc::Global;
-use std::test::Fail;
+use std::process::Abort;
 use std::thread::Threads;
 use trace_codec::{Trace, Write};
 
@@ -52,17 +52,17 @@ fn brought_on(
 type Wish = (u32, Option<u32>, u32, Page);
 
 /// Returns whether a source of packed writes makes these pages of a trace, or brings them on.
-fn are_packed<R: Threads + Sync>(
+fn are_packed<R: Abort + Threads + Sync>(
     rt: &R,
     alloc: Global,
     trace: &Trace,
     wishes: &[Wish],
-) -> Result<bool, Fail> {
-    let index = PageIndex::build(rt, alloc, trace)?;
+) -> bool {
+    let index = PageIndex::build(rt, alloc, trace).expect(rt, "an index");
     if !index.is_of(trace) {
-        return Err(Fail::from("the index of the trace"));
+        panic!(rt; "the index of the trace");
     }
-    let packed = PackedWrites::of(rt, alloc, trace, &index)?;
+    let packed = PackedWrites::of(rt, alloc, trace, &index).expect(rt, "packed writes");
     let source = PageSource::new(trace, &index, Some(&packed));
     let mut right = true;
     for &(page, from, to, expected) in wishes {
@@ -72,24 +72,23 @@ fn are_packed<R: Threads + Sync>(
         };
         right &= found == Some(expected);
     }
-    Ok(right)
+    right
 }
 
 #[test]
-fn packed_pages(rt: HostRuntime) -> Result<(), Fail> {
+fn packed_pages(rt: HostRuntime) {
     let alloc = rt.alloc();
-    let trace = guest(alloc, 0)?;
+    let trace = guest(&rt, alloc, 0);
     for &(page, first, last, bytes) in &VERSIONS {
         for to in first..last + 1 {
             let wishes = [(page, None, to, bytes), (page, Some(first), to, bytes)];
-            assert!(rt; are_packed(&rt, alloc, &trace, &wishes)?, "{page} at {to}");
+            assert!(rt; are_packed(&rt, alloc, &trace, &wishes), "{page} at {to}");
         }
     }
-    Ok(())
 }
 
 #[test]
-fn packed_pages_at_later_versions(rt: HostRuntime) -> Result<(), Fail> {
+fn packed_pages_at_later_versions(rt: HostRuntime) {
     const WISHES: [Wish; 5] = [
         (1, Some(0), 2, SECOND),
         (1, Some(2), 3, THIRD),
@@ -97,13 +96,12 @@ fn packed_pages_at_later_versions(rt: HostRuntime) -> Result<(), Fail> {
         (3, Some(3), 4, FOURTH),
         (2, Some(0), 5, ZEROS),
     ];
-    let trace = guest(rt.alloc(), 0)?;
-    assert!(rt; are_packed(&rt, rt.alloc(), &trace, &WISHES)?);
-    Ok(())
+    let trace = guest(&rt, rt.alloc(), 0);
+    assert!(rt; are_packed(&rt, rt.alloc(), &trace, &WISHES));
 }
 
 #[test]
-fn packed_pages_are_released(rt: HostRuntime) -> Result<(), Fail> {
+fn packed_pages_are_released(rt: HostRuntime) {
     const WISHES: [Wish; 8] = [
         (0, None, 5, FIRST),
         (1, None, 1, ZEROS),
@@ -114,62 +112,59 @@ fn packed_pages_are_released(rt: HostRuntime) -> Result<(), Fail> {
         (3, None, 5, FOURTH),
         (1, Some(3), 5, ZEROS),
     ];
-    let trace = releasing_guest(rt.alloc())?;
-    assert!(rt; are_packed(&rt, rt.alloc(), &trace, &WISHES)?);
-    Ok(())
+    let trace = releasing_guest(&rt, rt.alloc());
+    assert!(rt; are_packed(&rt, rt.alloc(), &trace, &WISHES));
 }
 
 /// Returns the pages that a cache makes of packed writes.
-fn cached<R: Threads + Sync>(
-    rt: &R,
-    alloc: Global,
-    trace: &Trace,
-) -> Result<[Option<Page>; 4], Fail> {
-    let index = PageIndex::build(rt, alloc, trace)?;
+fn cached<R: Abort + Threads + Sync>(rt: &R, alloc: Global, trace: &Trace) -> [Option<Page>; 4] {
+    let index = PageIndex::build(rt, alloc, trace).expect(rt, "an index");
     if !index.is_of(trace) {
-        return Err(Fail::from("the index of the trace"));
+        panic!(rt; "the index of the trace");
     }
-    let packed = PackedWrites::of(rt, alloc, trace, &index)?;
+    let packed = PackedWrites::of(rt, alloc, trace, &index).expect(rt, "packed writes");
     let source = PageSource::new(trace, &index, Some(&packed));
-    let mut cache = PageCache::with_pages(source, KeptPages::new(alloc, 1)?);
-    Ok([
+    let mut cache = PageCache::with_pages(source, KeptPages::new(alloc, 1).expect(rt, "memory"));
+    [
         page_at(&mut cache, trace, 1, 3),
         page_at(&mut cache, trace, 1, 5),
         page_at(&mut cache, trace, 1, 2),
         page_at(&mut cache, trace, 3, 4),
-    ])
+    ]
 }
 
 #[test]
-fn a_cache_makes_packed_pages(rt: HostRuntime) -> Result<(), Fail> {
-    let trace = guest(rt.alloc(), 0)?;
-    let found = cached(&rt, rt.alloc(), &trace)?;
+fn a_cache_makes_packed_pages(rt: HostRuntime) {
+    let trace = guest(&rt, rt.alloc(), 0);
+    let found = cached(&rt, rt.alloc(), &trace);
     assert!(rt; found == [THIRD, SECOND, SECOND, FOURTH].map(Some));
-    Ok(())
 }
 
 /// Returns a trace of 3,000 pages of 16 bytes with a write of two bytes to each, of the page's number, the last page
 /// first.
-fn guest_of_many_pages(alloc: Global) -> Result<Trace, Fail> {
+fn guest_of_many_pages(rt: &impl Abort, alloc: Global) -> Trace {
     let mut writes = Vec::new(alloc);
     for number in 0..3_000u32 {
         let page = 2_999 - number;
-        writes.push(Write {
-            tick: 0,
-            page,
-            offset: 1,
-            bytes: Vec::from_slice(alloc, &[(page / 256) as u8, (page % 256) as u8])?,
-        })?;
+        let bytes = [(page / 256) as u8, (page % 256) as u8];
+        writes
+            .push(Write {
+                tick: 0,
+                page,
+                offset: 1,
+                bytes: Vec::from_slice(alloc, &bytes).expect(rt, "memory"),
+            })
+            .expect(rt, "memory");
     }
-    Ok(Trace::new(1, 4, 3_000, writes)?)
+    Trace::new(1, 4, 3_000, writes).expect(rt, "a trace")
 }
 
 /// Several threads copy the writes.
 #[test]
-fn packed_pages_of_a_large_guest(rt: HostRuntime) -> Result<(), Fail> {
+fn packed_pages_of_a_large_guest(rt: HostRuntime) {
     const PAGES: [u32; 11] = [0, 1, 255, 256, 749, 750, 1_499, 1_500, 2_047, 2_048, 2_999];
     let alloc = rt.alloc();
-    let trace = guest_of_many_pages(alloc)?;
+    let trace = guest_of_many_pages(&rt, alloc);
     for &page in &PAGES {
         let mut bytes = ZEROS;
         bytes[1] = (page / 256) as u8;
@@ -178,27 +173,28 @@ fn packed_pages_of_a_large_guest(rt: HostRuntime) -> Result<(), Fail> {
             (page, None, 2_999 - page, ZEROS),
             (page, None, 3_000 - page, bytes),
         ];
-        assert!(rt; are_packed(&rt, alloc, &trace, &wishes)?, "{page}");
+        assert!(rt; are_packed(&rt, alloc, &trace, &wishes), "{page}");
     }
-    Ok(())
 }
 
 /// Returns a trace of 1 page of 16 bytes with 2,050 writes of a byte: write n is at n modulo 16, of n modulo 251.
-fn guest_of_many_writes(alloc: Global) -> Result<Trace, Fail> {
+fn guest_of_many_writes(rt: &impl Abort, alloc: Global) -> Trace {
     let mut writes = Vec::new(alloc);
     for number in 0..2_050u32 {
-        writes.push(Write {
-            tick: 0,
-            page: 0,
-            offset: (number % 16) as u16,
-            bytes: Vec::from_slice(alloc, &[(number % 251) as u8])?,
-        })?;
+        writes
+            .push(Write {
+                tick: 0,
+                page: 0,
+                offset: (number % 16) as u16,
+                bytes: Vec::from_slice(alloc, &[(number % 251) as u8]).expect(rt, "memory"),
+            })
+            .expect(rt, "memory");
     }
-    Ok(Trace::new(1, 4, 1, writes)?)
+    Trace::new(1, 4, 1, writes).expect(rt, "a trace")
 }
 
 #[test]
-fn pages_from_checkpoints(rt: HostRuntime) -> Result<(), Fail> {
+fn pages_from_checkpoints(rt: HostRuntime) {
     const WISHES: [Wish; 5] = [
         (
             0,
@@ -235,29 +231,30 @@ fn pages_from_checkpoints(rt: HostRuntime) -> Result<(), Fail> {
             ],
         ),
     ];
-    let trace = guest_of_many_writes(rt.alloc())?;
-    assert!(rt; are_packed(&rt, rt.alloc(), &trace, &WISHES)?);
-    Ok(())
+    let trace = guest_of_many_writes(&rt, rt.alloc());
+    assert!(rt; are_packed(&rt, rt.alloc(), &trace, &WISHES));
 }
 
 /// Returns a trace of 1 page of 256 bytes with two writes of these lengths.
-fn guest_of_two_writes(alloc: Global, lengths: [usize; 2]) -> Result<Trace, Fail> {
+fn guest_of_two_writes(rt: &impl Abort, alloc: Global, lengths: [usize; 2]) -> Trace {
     let mut writes = Vec::new(alloc);
     for length in lengths {
         let mut bytes = Vec::new(alloc);
-        bytes.resize(length, 1)?;
-        writes.push(Write {
-            tick: 0,
-            page: 0,
-            offset: 0,
-            bytes,
-        })?;
+        bytes.resize(length, 1).expect(rt, "memory");
+        writes
+            .push(Write {
+                tick: 0,
+                page: 0,
+                offset: 0,
+                bytes,
+            })
+            .expect(rt, "memory");
     }
-    Ok(Trace::new(1, 8, 1, writes)?)
+    Trace::new(1, 8, 1, writes).expect(rt, "a trace")
 }
 
 #[test]
-fn writes_of_32_bytes_on_average_are_short(rt: HostRuntime) -> Result<(), Fail> {
+fn writes_of_32_bytes_on_average_are_short(rt: HostRuntime) {
     let alloc = rt.alloc();
     const CASES: [([usize; 2], bool); 6] = [
         ([1, 1], true),
@@ -268,8 +265,7 @@ fn writes_of_32_bytes_on_average_are_short(rt: HostRuntime) -> Result<(), Fail> 
         ([256, 256], false),
     ];
     for &(lengths, short) in &CASES {
-        let trace = guest_of_two_writes(alloc, lengths)?;
+        let trace = guest_of_two_writes(&rt, alloc, lengths);
         assert!(rt; are_short(&trace) == short);
     }
-    Ok(())
 }

@@ -8,12 +8,12 @@ use image_build::replay_before;
 use page_message::{encode_frame, frame_of};
 use page_versions::PageIndex;
 use std::alloc::Global;
-use std::test::Fail;
+use std::process::Abort;
 use std::thread::Threads;
 use trace_codec::Trace;
 
 #[test]
-fn bytes_of_released_pages(rt: HostRuntime) -> Result<(), Fail> {
+fn bytes_of_released_pages(rt: HostRuntime) {
     const ROWS: [(u32, u32, Page); 7] = [
         (0, 5, FIRST),
         (1, 1, ZEROS),
@@ -23,81 +23,77 @@ fn bytes_of_released_pages(rt: HostRuntime) -> Result<(), Fail> {
         (1, 5, ZEROS),
         (3, 5, FOURTH),
     ];
-    let trace = releasing_guest(rt.alloc())?;
-    assert!(rt; are_pages(&rt, rt.alloc(), &trace, &ROWS)?);
-    Ok(())
+    let trace = releasing_guest(&rt, rt.alloc());
+    assert!(rt; are_pages(&rt, rt.alloc(), &trace, &ROWS));
 }
 
 #[test]
-fn released_pages_at_later_versions(rt: HostRuntime) -> Result<(), Fail> {
+fn released_pages_at_later_versions(rt: HostRuntime) {
     const ROWS: [Later; 4] = [
         (1, 2, 3, 2, THIRD),
         (1, 3, 5, 3, ZEROS),
         (1, 0, 5, 3, ZEROS),
         (1, 5, 5, 3, ZEROS),
     ];
-    let trace = releasing_guest(rt.alloc())?;
-    assert!(rt; are_later(&rt, rt.alloc(), &trace, &ROWS, 1)?);
-    Ok(())
+    let trace = releasing_guest(&rt, rt.alloc());
+    assert!(rt; are_later(&rt, rt.alloc(), &trace, &ROWS, 1));
 }
 
 /// Returns the pages that a cache of one page returns of page 1, asked for these versions in order.
 fn cached(
+    rt: &impl Abort,
     alloc: Global,
     trace: &Trace,
     index: &PageIndex,
     versions: [u32; 4],
-) -> Result<[Option<Page>; 4], Fail> {
-    let mut cache = new_cache(alloc, trace, index, 1)?;
+) -> [Option<Page>; 4] {
+    let mut cache = new_cache(rt, alloc, trace, index, 1);
     let [first, second, third, fourth] = versions;
-    Ok([
+    [
         cached_at(&mut cache, trace, 1, first),
         cached_at(&mut cache, trace, 1, second),
         cached_at(&mut cache, trace, 1, third),
         cached_at(&mut cache, trace, 1, fourth),
-    ])
+    ]
 }
 
 #[test]
-fn a_cached_page_is_released(rt: HostRuntime) -> Result<(), Fail> {
+fn a_cached_page_is_released(rt: HostRuntime) {
     let alloc = rt.alloc();
-    let trace = releasing_guest(alloc)?;
-    let index = PageIndex::build(&rt, alloc, &trace)?;
-    let found = cached(alloc, &trace, &index, [3, 5, 2, 5])?;
+    let trace = releasing_guest(&rt, alloc);
+    let index = PageIndex::build(&rt, alloc, &trace).expect(&rt, "an index");
+    let found = cached(&rt, alloc, &trace, &index, [3, 5, 2, 5]);
     let expected = [THIRD, ZEROS, SECOND, ZEROS];
     assert!(rt; found == expected.map(Some));
-    Ok(())
 }
 
 /// Returns the frame of page 1 after its release.
-fn short_frame<R: Threads + Sync>(rt: &R, alloc: Global) -> Result<Vec<u8>, Fail> {
-    let trace = releasing_guest(alloc)?;
+fn short_frame<R: Abort + Threads + Sync>(rt: &R, alloc: Global) -> Vec<u8> {
+    let trace = releasing_guest(rt, alloc);
     let shape = trace.shape();
-    let index = PageIndex::build(rt, alloc, &trace)?;
-    let page = page_at(alloc, &index, &trace, 1, 5).ok_or("page 1 after its release")?;
-    let bytes = Vec::from_slice(alloc, &page)?;
+    let index = PageIndex::build(rt, alloc, &trace).expect(rt, "an index");
+    let page = page_at(alloc, &index, &trace, 1, 5).expect(rt, "page 1 after its release");
+    let bytes = Vec::from_slice(alloc, &page).expect(rt, "memory");
     if shape.pages <= 1 || shape.writes < 5 || bytes.len() != shape.page_size() {
-        return Err(Fail::from("a page of the guest"));
+        panic!(rt; "a page of the guest");
     }
-    Ok(encode_frame(alloc, &shape, &frame_of(&shape, 1, 5, bytes))?)
+    encode_frame(alloc, &shape, &frame_of(&shape, 1, 5, bytes)).expect(rt, "a frame")
 }
 
 #[test]
-fn a_released_page_is_a_short_frame(rt: HostRuntime) -> Result<(), Fail> {
-    let frame = short_frame(&rt, rt.alloc())?;
+fn a_released_page_is_a_short_frame(rt: HostRuntime) {
+    let frame = short_frame(&rt, rt.alloc());
     assert!(rt; frame.as_slice() == [1, 0, 0, 0, 5, 0, 0, 0, 0].as_slice());
-    Ok(())
 }
 
 #[test]
-fn a_resumed_page_is_released(rt: HostRuntime) -> Result<(), Fail> {
+fn a_resumed_page_is_released(rt: HostRuntime) {
     let alloc = rt.alloc();
-    let trace = releasing_guest(alloc)?;
-    let index = PageIndex::build(&rt, alloc, &trace)?;
-    let at_stop = replay_before(alloc, &trace, 2000)?;
-    let at_end = resumed(at_stop, &trace, &index, &[1, 3, 0, 0]).ok_or("an image")?;
+    let trace = releasing_guest(&rt, alloc);
+    let index = PageIndex::build(&rt, alloc, &trace).expect(&rt, "an index");
+    let at_stop = replay_before(alloc, &trace, 2000).expect(&rt, "an image");
+    let at_end = resumed(at_stop, &trace, &index, &[1, 3, 0, 0]).expect(&rt, "an image");
     let mut expected = AT_END;
     expected[31] = 0;
     assert!(rt; at_end.bytes() == expected.as_slice());
-    Ok(())
 }

@@ -4,15 +4,15 @@ use collector::{Fate, Part};
 use dirty_core::{Answer, Core, Event, Opening, step};
 use page_message::{Body, Frame};
 use std::alloc::Global;
-use std::test::Fail;
+use std::process::Abort;
 use trace_codec::Shape;
 
 /// A core of one marked page at place 0, a guest and a copier.
-fn core_of_one_page(alloc: Global) -> Result<Core, Fail> {
-    let places = vec![in alloc; 0]?;
-    let dirty = vec![in alloc; 1]?;
-    let opening = Opening::new(places, dirty, 1, 1).ok_or("an opening")?;
-    Ok(Core::open(alloc, &opening)?)
+fn core_of_one_page(rt: &impl Abort, alloc: Global) -> Core {
+    let places = vec![in alloc; 0].expect(rt, "memory");
+    let dirty = vec![in alloc; 1].expect(rt, "memory");
+    let opening = Opening::new(places, dirty, 1, 1).expect(rt, "an opening");
+    Core::open(alloc, &opening).expect(rt, "a core")
 }
 
 /// The copier takes the page and reads its place, and the part gets a frame of it with that stamp.
@@ -34,8 +34,8 @@ fn send(core: &mut Core, part: &mut Part) -> Option<Fate> {
 }
 
 #[test]
-fn page_that_is_sent_once_more_is_old(rt: HostRuntime) -> Result<(), Fail> {
-    let mut core = core_of_one_page(rt.alloc())?;
+fn page_that_is_sent_once_more_is_old(rt: HostRuntime) {
+    let mut core = core_of_one_page(&rt, rt.alloc());
     let shape = Shape {
         shift: 4,
         pages: 1,
@@ -53,5 +53,4 @@ fn page_that_is_sent_once_more_is_old(rt: HostRuntime) -> Result<(), Fail> {
     let second = send(&mut core, &mut part);
     assert!(rt; (stored, marked) == (Ok(Answer::Done), Ok(Answer::Done)));
     assert!(rt; (first, second, part.stamp(0)) == (Some(Fate::New), Some(Fate::Old), Some(1)));
-    Ok(())
 }

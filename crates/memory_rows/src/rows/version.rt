@@ -3,7 +3,7 @@
 use super::fixtures::{FIRST, FOURTH, Page, SECOND, THIRD, VERSIONS, ZEROS, guest, page_of};
 use page_versions::{PageIndex, PageProgress};
 use std::alloc::Global;
-use std::test::Fail;
+use std::process::Abort;
 use std::thread::Threads;
 use trace_codec::{Trace, Write};
 
@@ -49,11 +49,11 @@ pub(crate) fn page_at(
 }
 
 #[test]
-fn places_and_versions(rt: HostRuntime) -> Result<(), Fail> {
+fn places_and_versions(rt: HostRuntime) {
     const PLACES: [&[u32]; 5] = [&[1], &[2, 3, 5], &[], &[4], &[3, 5]];
     let alloc = rt.alloc();
-    let trace = guest(alloc, 0)?;
-    let index = PageIndex::build(&rt, alloc, &trace)?;
+    let trace = guest(&rt, alloc, 0);
+    let index = PageIndex::build(&rt, alloc, &trace).expect(&rt, "an index");
     let places = [
         places_of(&index, &trace, 0),
         places_of(&index, &trace, 1),
@@ -63,52 +63,49 @@ fn places_and_versions(rt: HostRuntime) -> Result<(), Fail> {
     ];
     let versions = [5, 6, 2500, 2501].map(|tick| version_of(&index, &trace, 1, tick));
     assert!(rt; places == PLACES.map(Some) && versions == [0, 2, 3, 5].map(Some));
-    Ok(())
 }
 
 /// Returns whether a new index makes these pages of a trace: the number of each, its version, and its bytes.
-pub(crate) fn are_pages<R: Threads + Sync>(
+pub(crate) fn are_pages<R: Abort + Threads + Sync>(
     rt: &R,
     alloc: Global,
     trace: &Trace,
     rows: &[(u32, u32, Page)],
-) -> Result<bool, Fail> {
-    let index = PageIndex::build(rt, alloc, trace)?;
+) -> bool {
+    let index = PageIndex::build(rt, alloc, trace).expect(rt, "an index");
     let mut right = true;
     for &(page, version, expected) in rows {
         right &= page_at(alloc, &index, trace, page, version) == Some(expected);
     }
-    Ok(right)
+    right
 }
 
 #[test]
-fn bytes_of_pages(rt: HostRuntime) -> Result<(), Fail> {
+fn bytes_of_pages(rt: HostRuntime) {
     let alloc = rt.alloc();
-    let trace = guest(alloc, 0)?;
+    let trace = guest(&rt, alloc, 0);
     for &(page, first, last, bytes) in &VERSIONS {
         for version in first..last + 1 {
             let rows = [(page, version, bytes)];
-            assert!(rt;
-                are_pages(&rt, alloc, &trace, &rows)?,
-                "{page} at {version}"
-            );
+            assert!(rt; are_pages(&rt, alloc, &trace, &rows), "{page} at {version}");
         }
     }
-    Ok(())
 }
 
 /// Returns a trace of 1 page of 16 bytes with 11 writes of 2 bytes, each 1 byte after the previous one.
-fn guest_of_one_page(alloc: Global) -> Result<Trace, Fail> {
+fn guest_of_one_page(rt: &impl Abort, alloc: Global) -> Trace {
     let mut writes = Vec::new(alloc);
     for offset in 0..11u16 {
-        writes.push(Write {
-            tick: 7,
-            page: 0,
-            offset,
-            bytes: Vec::from_slice(alloc, &[offset as u8 + 1, 255])?,
-        })?;
+        writes
+            .push(Write {
+                tick: 7,
+                page: 0,
+                offset,
+                bytes: Vec::from_slice(alloc, &[offset as u8 + 1, 255]).expect(rt, "memory"),
+            })
+            .expect(rt, "memory");
     }
-    Ok(Trace::new(1, 4, 1, writes)?)
+    Trace::new(1, 4, 1, writes).expect(rt, "a trace")
 }
 
 /// Returns this guest's page after `version` writes: 1, 2, 3 and so on, and then 255.
@@ -127,14 +124,13 @@ fn rising_page(version: u32) -> Page {
 }
 
 #[test]
-fn page_with_many_writes(rt: HostRuntime) -> Result<(), Fail> {
+fn page_with_many_writes(rt: HostRuntime) {
     let alloc = rt.alloc();
-    let trace = guest_of_one_page(alloc)?;
+    let trace = guest_of_one_page(&rt, alloc);
     for version in 0..12u32 {
         let rows = [(0, version, rising_page(version))];
-        assert!(rt; are_pages(&rt, alloc, &trace, &rows)?, "{version}");
+        assert!(rt; are_pages(&rt, alloc, &trace, &rows), "{version}");
     }
-    Ok(())
 }
 
 /// Returns the page at a version, made in a buffer that held another page.
@@ -153,10 +149,10 @@ fn put_into(
 }
 
 #[test]
-fn pages_in_one_room(rt: HostRuntime) -> Result<(), Fail> {
+fn pages_in_one_room(rt: HostRuntime) {
     let alloc = rt.alloc();
-    let trace = guest(alloc, 0)?;
-    let index = PageIndex::build(&rt, alloc, &trace)?;
+    let trace = guest(&rt, alloc, 0);
+    let index = PageIndex::build(&rt, alloc, &trace).expect(&rt, "an index");
     let mut room = Vec::new(alloc);
     let pages = [
         put_into(&index, &trace, 1, 2, &mut room),
@@ -164,7 +160,6 @@ fn pages_in_one_room(rt: HostRuntime) -> Result<(), Fail> {
         put_into(&index, &trace, 1, 5, &mut room),
     ];
     assert!(rt; pages == [Some(SECOND), Some(FIRST), Some(SECOND)]);
-    Ok(())
 }
 
 /// Brings a page to a later version. Returns its bytes, and how many of its writes it then has.
@@ -194,24 +189,24 @@ fn brought_on(
 pub(crate) type Later = (u32, u32, u32, u32, Page);
 
 /// Returns whether pages are brought on as in these rows, if `writes` writes of each are known at first.
-pub(crate) fn are_later<R: Threads + Sync>(
+pub(crate) fn are_later<R: Abort + Threads + Sync>(
     rt: &R,
     alloc: Global,
     trace: &Trace,
     rows: &[Later],
     writes: u32,
-) -> Result<bool, Fail> {
-    let index = PageIndex::build(rt, alloc, trace)?;
+) -> bool {
+    let index = PageIndex::build(rt, alloc, trace).expect(rt, "an index");
     let mut right = true;
     for &(page, version, to, count, expected) in rows {
         let from = PageProgress { version, writes };
         right &= brought_on(alloc, &index, trace, page, from, to) == Some((expected, count));
     }
-    Ok(right)
+    right
 }
 
 #[test]
-fn pages_at_later_versions(rt: HostRuntime) -> Result<(), Fail> {
+fn pages_at_later_versions(rt: HostRuntime) {
     const ROWS: [Later; 6] = [
         (1, 0, 2, 1, SECOND),
         (1, 2, 3, 2, THIRD),
@@ -221,20 +216,18 @@ fn pages_at_later_versions(rt: HostRuntime) -> Result<(), Fail> {
         (2, 0, 5, 0, ZEROS),
     ];
     let alloc = rt.alloc();
-    let trace = guest(alloc, 0)?;
+    let trace = guest(&rt, alloc, 0);
     for writes in [0, 1, 2, 3, 4, u32::MAX] {
-        assert!(rt; are_later(&rt, alloc, &trace, &ROWS, writes)?, "{writes}");
+        assert!(rt; are_later(&rt, alloc, &trace, &ROWS, writes), "{writes}");
     }
-    Ok(())
 }
 
 #[test]
-fn another_trace(rt: HostRuntime) -> Result<(), Fail> {
+fn another_trace(rt: HostRuntime) {
     let alloc = rt.alloc();
-    let trace = guest(alloc, 0)?;
-    let index = PageIndex::build(&rt, alloc, &trace)?;
-    let later = guest(alloc, 1)?;
-    let empty = Trace::new(1, 4, 4, Vec::new(alloc))?;
+    let trace = guest(&rt, alloc, 0);
+    let index = PageIndex::build(&rt, alloc, &trace).expect(&rt, "an index");
+    let later = guest(&rt, alloc, 1);
+    let empty = Trace::new(1, 4, 4, Vec::new(alloc)).expect(&rt, "a trace");
     assert!(rt; !index.is_of(&later) && !index.is_of(&empty));
-    Ok(())
 }

@@ -10,7 +10,6 @@ use dirty_words::{Closed, CopySeat, GuestSeat, Opened, RoundTable, TableError};
 use std::alloc::Global;
 use std::process::Abort;
 use std::sync::atomic::{AtomicBool, Ordering};
-use std::test::Fail;
 use std::thread;
 use std::thread::Threads;
 
@@ -163,12 +162,12 @@ fn peek_word(table: &RoundTable, copier: &mut CopySeat, word: usize) -> Option<u
 }
 
 #[test]
-fn one_table_on_one_thread(rt: HostRuntime) -> Result<(), Fail> {
+fn one_table_on_one_thread(rt: HostRuntime) {
     let Pair {
         table,
         mut guest,
         mut copier,
-    } = open_four(rt.alloc(), 8).ok_or("a table")?;
+    } = open_four(rt.alloc(), 8).expect(&rt, "a table");
     let first = [
         harvest_word(&table, &mut copier, 0),
         harvest_word(&table, &mut copier, 0),
@@ -184,15 +183,15 @@ fn one_table_on_one_thread(rt: HostRuntime) -> Result<(), Fail> {
     let place = read_page(&table, &mut copier, 1);
     let restored = restore_pages(&table, &mut copier, 0, 8);
     let left = peek_word(&table, &mut copier, 0);
-    let closed = close_pair(rt.alloc(), table, guest, copier).ok_or("closed")?;
-    assert_eq!(rt;
-        (first, stored, second, (place, restored, left)),
-        (
-            [Some(8), Some(0)],
-            [true; 2],
-            [Some(2); 2],
-            (Some(1), true, Some(8))
-        )
+    let closed = close_pair(rt.alloc(), table, guest, copier).expect(&rt, "closed");
+    assert!(rt;
+        (first, stored, second, (place, restored, left))
+            == (
+                [Some(8), Some(0)],
+                [true; 2],
+                [Some(2); 2],
+                (Some(1), true, Some(8))
+            )
     );
     let fits = [
         closed.fits(4, 1),
@@ -200,11 +199,10 @@ fn one_table_on_one_thread(rt: HostRuntime) -> Result<(), Fail> {
         closed.fits(5, 1),
         closed.fits(3, 1),
     ];
-    assert_eq!(rt;
-        (closed.versions.as_slice(), closed.dirty.as_slice(), fits),
-        (&[0, 1, 0, 0][..], &[8][..], [true, false, false, false])
+    assert!(rt;
+        (closed.versions.as_slice(), closed.dirty.as_slice(), fits)
+            == (&[0, 1, 0, 0][..], &[8][..], [true, false, false, false])
     );
-    Ok(())
 }
 
 /// What a round of two threads went through: each sets its flag when its first step is done.
@@ -297,12 +295,12 @@ struct Round {
 }
 
 /// Four marked pages: one thread stores page 0 at place 1 and marks it, the other harvests and reads.
-fn on_two_threads(rt: &(impl Threads + Abort), alloc: Global, tied: bool) -> Result<Round, Fail> {
+fn on_two_threads(rt: &(impl Abort + Threads + Abort), alloc: Global, tied: bool) -> Round {
     let Pair {
         table,
         guest,
         copier,
-    } = open_four(alloc, 15).ok_or("a table")?;
+    } = open_four(alloc, 15).expect(rt, "a table");
     let shared = &table;
     let flags = lowered(tied);
     let watched = &flags;
@@ -318,47 +316,40 @@ fn on_two_threads(rt: &(impl Threads + Abort), alloc: Global, tied: bool) -> Res
         done,
     } = copied;
     let done = stored.done && done;
-    let closed = close_pair(alloc, table, stored.guest, copier).ok_or("closed")?;
-    Ok(Round {
+    let closed = close_pair(alloc, table, stored.guest, copier).expect(rt, "closed");
+    Round {
         done,
         harvested,
         place,
         closed,
-    })
+    }
 }
 
 #[test]
-fn two_free_threads(rt: HostRuntime) -> Result<(), Fail> {
-    let round = on_two_threads(&rt, rt.alloc(), false)?;
-    assert_eq!(rt;
+fn two_free_threads(rt: HostRuntime) {
+    let round = on_two_threads(&rt, rt.alloc(), false);
+    assert!(rt;
         (
             round.done,
             round.harvested,
             round.closed.versions.as_slice()
-        ),
-        (true, Some(15), &[1, 0, 0, 0][..])
+        ) == (true, Some(15), &[1, 0, 0, 0][..])
     );
     let marked = round.closed.dirty.as_slice() == [1].as_slice();
     let clean = round.closed.dirty.as_slice() == [0].as_slice();
     assert!(rt; marked || (clean && round.place == Some(1)));
-    Ok(())
 }
 
 #[test]
-fn two_tied_threads(rt: HostRuntime) -> Result<(), Fail> {
-    let round = on_two_threads(&rt, rt.alloc(), true)?;
-    assert_eq!(rt;
-        (round.done, round.harvested, round.place),
-        (true, Some(15), Some(1))
-    );
-    assert_eq!(rt;
+fn two_tied_threads(rt: HostRuntime) {
+    let round = on_two_threads(&rt, rt.alloc(), true);
+    assert!(rt; (round.done, round.harvested, round.place) == (true, Some(15), Some(1)));
+    assert!(rt;
         (
             round.closed.versions.as_slice(),
             round.closed.dirty.as_slice()
-        ),
-        (&[1, 0, 0, 0][..], &[1][..])
+        ) == (&[1, 0, 0, 0][..], &[1][..])
     );
-    Ok(())
 }
 
 /// Runs a round: the guest stores and marks a page while the copier harvests its word, reads that page and restores
@@ -397,21 +388,21 @@ fn two_pages(alloc: Global) -> Option<Opening> {
 }
 
 #[test]
-fn one_page_of_a_round(rt: HostRuntime) -> Result<(), Fail> {
-    let opening = two_pages(rt.alloc()).ok_or("an opening")?;
-    let (read, closed) = round_of_one_page(rt.alloc(), opening, 0, 9).ok_or("a round")?;
-    assert_eq!(rt;
-        (read, closed.versions.as_slice(), closed.dirty.as_slice()),
-        (Some(9), &[9, 0][..], &[3][..])
+fn one_page_of_a_round(rt: HostRuntime) {
+    let opening = two_pages(rt.alloc()).expect(&rt, "an opening");
+    let (read, closed) = round_of_one_page(rt.alloc(), opening, 0, 9).expect(&rt, "a round");
+    assert!(rt;
+        (read, closed.versions.as_slice(), closed.dirty.as_slice())
+            == (Some(9), &[9, 0][..], &[3][..])
     );
-    Ok(())
 }
 
 #[test]
-fn name_of_the_refusal(rt: HostRuntime) -> Result<(), Fail> {
-    let text = TableError::Memory.to_string(rt.alloc())?;
-    assert_eq!(rt; text.as_str(), "memory");
-    Ok(())
+fn name_of_the_refusal(rt: HostRuntime) {
+    let text = TableError::Memory
+        .to_string(rt.alloc())
+        .expect(&rt, "memory");
+    assert!(rt; text.as_str() == "memory");
 }
 
 /// Opens a table and closes it again with all its seats.
@@ -457,36 +448,33 @@ fn told_of_copier(copier: &CopySeat) -> (bool, [bool; 4]) {
 }
 
 #[test]
-fn many_seats(rt: HostRuntime) -> Result<(), Fail> {
-    let opening = many_pages(rt.alloc()).ok_or("an opening")?;
-    let opened = RoundTable::open(rt.alloc(), opening)?;
-    assert_eq!(rt;
+fn many_seats(rt: HostRuntime) {
+    let opening = many_pages(rt.alloc()).expect(&rt, "an opening");
+    let opened = RoundTable::open(rt.alloc(), opening).expect(&rt, "a table");
+    assert!(rt;
         (
             (opened.guests.len(), opened.copiers.len()),
             opened.guests.get(1).map(told_of_guest),
             opened.copiers.get(1).map(told_of_copier)
-        ),
-        (
+        ) == (
             (3, 2),
             Some((true, [true, true, false, false])),
             Some((true, [false, true, false, false]))
         )
     );
     drop(opened);
-    let opening = many_pages(rt.alloc()).ok_or("an opening")?;
-    let closed = opened_and_closed(rt.alloc(), opening).ok_or("closed")?;
+    let opening = many_pages(rt.alloc()).expect(&rt, "an opening");
+    let closed = opened_and_closed(rt.alloc(), opening).expect(&rt, "closed");
     let fits = [
         closed.fits(130, 5),
         closed.fits(130, 4),
         closed.fits(129, 5),
     ];
-    assert_eq!(rt;
+    assert!(rt;
         (
             fits,
             closed.dirty.as_slice(),
             closed.versions.iter().all(|version| *version == 5)
-        ),
-        ([true, false, false], &[1, 0, 2][..], true)
+        ) == ([true, false, false], &[1, 0, 2][..], true)
     );
-    Ok(())
 }

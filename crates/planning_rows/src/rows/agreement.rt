@@ -15,7 +15,7 @@ use predictions::{Prediction, Verdict};
 use rate_limit::{Reason, Settings};
 use round_planner::Outcome;
 use std::alloc::Global;
-use std::test::Fail;
+use std::process::Abort;
 use trace_codec::Trace;
 
 /// How many there are, of how many the answer is known, and how many converge and keep the limit.
@@ -42,27 +42,28 @@ fn limits((downtime, reserve): (u64, u64)) -> Limits {
 
 /// Returns the counts in memory that is lent and not empty.
 fn lent(
+    rt: &impl Abort,
     alloc: Global,
     trace: &Trace,
     settings: &Settings,
     scale: &Scale,
     limits: &Limits,
-) -> Result<Agreement, Fail> {
+) -> Agreement {
     let pages = trace.page_count() as usize;
-    let mut marks = Vec::from_elem(alloc, u64::MAX, word_count(pages))?;
-    let mut listed = Vec::from_elem(alloc, u64::MAX, word_count(pages))?;
-    let mut list = Vec::from_elem(alloc, u32::MAX, pages)?;
-    let mut rows = Vec::from_elem(alloc, OLD_ROW, 64)?;
+    let mut marks = Vec::from_elem(alloc, u64::MAX, word_count(pages)).expect(rt, "memory");
+    let mut listed = Vec::from_elem(alloc, u64::MAX, word_count(pages)).expect(rt, "memory");
+    let mut list = Vec::from_elem(alloc, u32::MAX, pages).expect(rt, "memory");
+    let mut rows = Vec::from_elem(alloc, OLD_ROW, 64).expect(rt, "memory");
     let starts = start_counts(
         trace, settings, scale, limits, &mut marks, &mut list, &mut rows,
     );
     if !has_errors(scale) {
-        return Ok(Agreement {
+        return Agreement {
             draws: None,
             starts,
-        });
+        };
     }
-    let mut room = Vec::from_elem(alloc, u32::MAX, scale.sampled() as usize)?;
+    let mut room = Vec::from_elem(alloc, u32::MAX, scale.sampled() as usize).expect(rt, "memory");
     let draws = draw_counts(
         trace,
         settings,
@@ -72,29 +73,30 @@ fn lent(
         &mut listed,
         &mut marks,
     );
-    Ok(Agreement {
+    Agreement {
         draws: Some(draws),
         starts,
-    })
+    }
 }
 
 /// Returns the counts by both calls.
 fn both_counts(
+    rt: &impl Abort,
     alloc: Global,
     trace: &Trace,
     case: Case,
     (tick, page, sampled, pages): Units,
     times: (u64, u64),
-) -> Result<[Agreement; 2], Fail> {
-    let settings = Settings::new(case.asked())?;
-    let scale = Scale::new(tick, page, sampled, pages)?;
+) -> [Agreement; 2] {
+    let settings = Settings::new(case.asked()).expect(rt, "settings");
+    let scale = Scale::new(tick, page, sampled, pages).expect(rt, "a scale");
     let limits = limits(times);
-    let owned = Agreement::of_trace(alloc, trace, &settings, &scale, &limits)?;
-    Ok([owned, lent(alloc, trace, &settings, &scale, &limits)?])
+    let owned = Agreement::of_trace(alloc, trace, &settings, &scale, &limits).expect(rt, "memory");
+    [owned, lent(rt, alloc, trace, &settings, &scale, &limits)]
 }
 
 #[test]
-fn counts_of_draws_and_starts(rt: HostRuntime) -> Result<(), Fail> {
+fn counts_of_draws_and_starts(rt: HostRuntime) {
     const SOME: Units = (1000, 4096, 6, 1000);
     const MOST: Units = (1, 16, 9, 10);
     const ALL: Units = (1000, 4096, 6, 6);
@@ -134,28 +136,28 @@ fn counts_of_draws_and_starts(rt: HostRuntime) -> Result<(), Fail> {
         (Case::Warm, ALL, (0, 0), None, (2, 2, 2, 2)),
     ];
     let alloc = rt.alloc();
-    let trace = guest(alloc, 6, &WRITES)?;
+    let trace = guest(&rt, alloc, 6, &WRITES);
     for &(case, units, times, draws, starts) in &ROWS {
         let expected = Agreement {
             draws: draws.map(counted),
             starts: counted(starts),
         };
-        let found = both_counts(alloc, &trace, case, units, times)?;
+        let found = both_counts(&rt, alloc, &trace, case, units, times);
         assert!(rt; found == [expected; 2], "{found:?}");
     }
-    Ok(())
 }
 
 /// Returns whether a migration surely converges and keeps a limit of 100 us, by a plan that ends for a reason and has
 /// this downtime, with these counts and this standard error.
 fn verdicts(
+    rt: &impl Abort,
     reason: Reason,
     down: u64,
     draws: Counts,
     starts: Counts,
     error: u128,
-) -> Result<(Verdict, Verdict), Fail> {
-    let scale = Scale::new(1, 16, 9, 10)?;
+) -> (Verdict, Verdict) {
+    let scale = Scale::new(1, 16, 9, 10).expect(rt, "a scale");
     let outcome = Outcome {
         rounds: 1,
         reason,
@@ -177,9 +179,9 @@ fn verdicts(
     let kept = agreement.kept(100, &prediction.cost, &Some(errors));
     let converges = agreement.verdict(&prediction);
     if (numbers.converges, numbers.kept) != (number(converges), number(kept)) {
-        return Ok((Verdict::Unknown, Verdict::Unknown));
+        return (Verdict::Unknown, Verdict::Unknown);
     }
-    Ok((converges, kept))
+    (converges, kept)
 }
 
 /// Returns the number of a verdict.
@@ -194,7 +196,7 @@ fn number(verdict: Verdict) -> u32 {
 
 /// 19 of 20 are nearly all, and 18 are not. With two standard errors a downtime of 90 us is within 100 us, or not.
 #[test]
-fn nearly_all_agree(rt: HostRuntime) -> Result<(), Fail> {
+fn nearly_all_agree(rt: HostRuntime) {
     const ALL: Counts = (20, 20, 20, 20);
     const MOST: Counts = (20, 20, 19, 19);
     const FEWER: Counts = (20, 20, 18, 18);
@@ -229,8 +231,7 @@ fn nearly_all_agree(rt: HostRuntime) -> Result<(), Fail> {
         ),
     ];
     for &((reason, down), (draws, starts), error, expected) in &rows {
-        let found = verdicts(reason, down, draws, starts, error)?;
+        let found = verdicts(&rt, reason, down, draws, starts, error);
         assert!(rt; found == expected, "{found:?}");
     }
-    Ok(())
 }

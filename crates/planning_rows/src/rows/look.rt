@@ -5,7 +5,7 @@ use super::plan::guest;
 use look_planner::{LookAsked, LookPlan, LookSettings, LookSettingsError, PlanEnd, look_plan};
 use std::alloc::Global;
 use std::fmt::{self, Write as _};
-use std::test::Fail;
+use std::process::Abort;
 use trace_codec::Trace;
 
 /// The writes of the worked guest.
@@ -23,12 +23,14 @@ const SLOW: LookAsked = LookAsked {
 };
 
 /// Returns the trace of a guest of 130 pages that writes one each third tick, 400 times.
-fn busy_guest(alloc: Global) -> Result<Trace, Fail> {
+fn busy_guest(rt: &impl Abort, alloc: Global) -> Trace {
     let mut touches = Vec::new(alloc);
     for write in 0..400u32 {
-        touches.push((u64::from(write) * 3, (write * 37 + 5) % 130))?;
+        touches
+            .push((u64::from(write) * 3, (write * 37 + 5) % 130))
+            .expect(rt, "memory");
     }
-    guest(alloc, 130, &touches)
+    guest(rt, alloc, 130, &touches)
 }
 
 /// Pages of a plan: their list, or how many they are if these are more than eight.
@@ -48,14 +50,15 @@ impl fmt::Display for Pages<'_> {
 
 /// Returns a plan's lists (from, to, how many pages it has, how many are sent, how many are left), and then why and
 /// when it ends, the pages that are left, the downtime, how many pages were sent before, the total, and the looks.
-fn text_of(alloc: Global, plan: &LookPlan) -> Result<String, Fail> {
+fn text_of(rt: &impl Abort, alloc: Global, plan: &LookPlan) -> String {
     let mut text = String::new(alloc);
     for row in &plan.rows {
         write!(
             text,
             "{} {} {} {} {}; ",
             row.from, row.to, row.pages, row.sent, row.left
-        )?;
+        )
+        .expect(rt, "memory");
     }
     write!(
         text,
@@ -67,24 +70,26 @@ fn text_of(alloc: Global, plan: &LookPlan) -> Result<String, Fail> {
         plan.sent,
         plan.total(),
         plan.looks()
-    )?;
-    Ok(text)
+    )
+    .expect(rt, "memory");
+    text
 }
 
 /// Returns whether a guest has this plan.
 fn is_planned(
+    rt: &impl Abort,
     alloc: Global,
     trace: &Trace,
     asked: LookAsked,
     expected: &str,
-) -> Result<bool, Fail> {
-    let settings = LookSettings::new(asked)?;
-    let plan = look_plan(alloc, trace, &settings)?;
-    Ok(text_of(alloc, &plan)?.as_str() == expected)
+) -> bool {
+    let settings = LookSettings::new(asked).expect(rt, "settings");
+    let plan = look_plan(alloc, trace, &settings).expect(rt, "a plan");
+    text_of(rt, alloc, &plan).as_str() == expected
 }
 
 #[test]
-fn worked_looks(rt: HostRuntime) -> Result<(), Fail> {
+fn worked_looks(rt: HostRuntime) {
     /// The window, the threshold, the most looks, the end of the record, and the plan.
     const CASES: [(u64, u64, Option<u64>, u64, &str); 9] = [
         (
@@ -151,7 +156,7 @@ fn worked_looks(rt: HostRuntime) -> Result<(), Fail> {
             "0 2000 4 4 2; 2000 3000 2 2 2; looks 3000 [1, 3] 1000 6 8 2",
         ),
     ];
-    let trace = guest(rt.alloc(), 4, &TOUCHES)?;
+    let trace = guest(&rt, rt.alloc(), 4, &TOUCHES);
     for &(window, threshold, looks, end, expected) in &CASES {
         let asked = LookAsked {
             window,
@@ -161,15 +166,14 @@ fn worked_looks(rt: HostRuntime) -> Result<(), Fail> {
             ..SLOW
         };
         assert!(rt;
-            is_planned(rt.alloc(), &trace, asked, expected)?,
+            is_planned(&rt, rt.alloc(), &trace, asked, expected),
             "{expected}"
         );
     }
-    Ok(())
 }
 
 #[test]
-fn worked_looks_of_warm_and_late_starts(rt: HostRuntime) -> Result<(), Fail> {
+fn worked_looks_of_warm_and_late_starts(rt: HostRuntime) {
     /// The base, the start, and the plan.
     const CASES: [(Option<u64>, u64, &str); 3] = [
         (
@@ -184,7 +188,7 @@ fn worked_looks_of_warm_and_late_starts(rt: HostRuntime) -> Result<(), Fail> {
             "10000 10000 4 0 4; record 10000 [0, 1, 2, 3] 2000 0 4 0",
         ),
     ];
-    let trace = guest(rt.alloc(), 4, &TOUCHES)?;
+    let trace = guest(&rt, rt.alloc(), 4, &TOUCHES);
     for &(base, start, expected) in &CASES {
         let asked = LookAsked {
             base,
@@ -192,15 +196,14 @@ fn worked_looks_of_warm_and_late_starts(rt: HostRuntime) -> Result<(), Fail> {
             ..SLOW
         };
         assert!(rt;
-            is_planned(rt.alloc(), &trace, asked, expected)?,
+            is_planned(&rt, rt.alloc(), &trace, asked, expected),
             "{expected}"
         );
     }
-    Ok(())
 }
 
 #[test]
-fn looks_of_a_busy_guest(rt: HostRuntime) -> Result<(), Fail> {
+fn looks_of_a_busy_guest(rt: HostRuntime) {
     /// The rate, the window, the threshold, and the plan.
     const CASES: [(u64, u64, u64, &str); 4] = [
         (
@@ -230,7 +233,7 @@ fn looks_of_a_busy_guest(rt: HostRuntime) -> Result<(), Fail> {
             "0 70 130 69 75; 70 84 75 13 64; 84 91 64 6 60; few 91 60 pages 61 88 148 3",
         ),
     ];
-    let trace = busy_guest(rt.alloc())?;
+    let trace = busy_guest(&rt, rt.alloc());
     for &(rate, window, threshold, expected) in &CASES {
         let asked = LookAsked {
             rate,
@@ -240,15 +243,14 @@ fn looks_of_a_busy_guest(rt: HostRuntime) -> Result<(), Fail> {
             ..SLOW
         };
         assert!(rt;
-            is_planned(rt.alloc(), &trace, asked, expected)?,
+            is_planned(&rt, rt.alloc(), &trace, asked, expected),
             "{expected}"
         );
     }
-    Ok(())
 }
 
 #[test]
-fn refused_look_settings(rt: HostRuntime) -> Result<(), Fail> {
+fn refused_look_settings(rt: HostRuntime) {
     const MOST: LookAsked = LookAsked {
         start: 1 << 40,
         base: Some(1 << 40),
@@ -330,7 +332,6 @@ fn refused_look_settings(rt: HostRuntime) -> Result<(), Fail> {
         assert!(rt; LookSettings::new(asked).err() == Some(error), "{error}");
     }
     assert!(rt; LookSettings::new(MOST).is_ok());
-    Ok(())
 }
 
 #[test]

@@ -9,23 +9,25 @@ use round_planner::{
 };
 use std::alloc::Global;
 use std::fmt::{self, Write as _};
-use std::test::Fail;
+use std::process::Abort;
 use std::thread::Threads;
 use trace_codec::{Trace, Write};
 use worked_guest::ASKED;
 
 /// Returns a trace whose writes are of one byte, at these ticks and to these pages.
-pub(crate) fn guest(alloc: Global, pages: u32, touches: &[(u64, u32)]) -> Result<Trace, Fail> {
+pub(crate) fn guest(rt: &impl Abort, alloc: Global, pages: u32, touches: &[(u64, u32)]) -> Trace {
     let mut writes = Vec::new(alloc);
     for (tick, page) in touches {
-        writes.push(Write {
-            tick: *tick,
-            page: *page,
-            offset: 0,
-            bytes: Vec::from_slice(alloc, &[1])?,
-        })?;
+        writes
+            .push(Write {
+                tick: *tick,
+                page: *page,
+                offset: 0,
+                bytes: Vec::from_slice(alloc, &[1]).expect(rt, "memory"),
+            })
+            .expect(rt, "memory");
     }
-    Ok(Trace::new(1, 4, pages, writes)?)
+    Trace::new(1, 4, pages, writes).expect(rt, "a trace")
 }
 
 /// The writes of the worked guest.
@@ -61,13 +63,13 @@ enum GuestKind {
 
 impl GuestKind {
     /// Returns the trace of the guest.
-    fn trace(self, alloc: Global) -> Result<Trace, Fail> {
+    fn trace(self, rt: &impl Abort, alloc: Global) -> Trace {
         match self {
-            GuestKind::Worked => guest(alloc, 4, &TOUCHES),
-            GuestKind::Earlier => guest(alloc, 4, &EARLIER),
-            GuestKind::Idle => guest(alloc, 4, &[]),
-            GuestKind::LastWord => guest(alloc, 65, &[(10, 64)]),
-            GuestKind::Edges => guest(alloc, 130, &EDGES),
+            GuestKind::Worked => guest(rt, alloc, 4, &TOUCHES),
+            GuestKind::Earlier => guest(rt, alloc, 4, &EARLIER),
+            GuestKind::Idle => guest(rt, alloc, 4, &[]),
+            GuestKind::LastWord => guest(rt, alloc, 65, &[(10, 64)]),
+            GuestKind::Edges => guest(rt, alloc, 130, &EDGES),
         }
     }
 }
@@ -108,7 +110,7 @@ impl fmt::Display for Pages<'_> {
 
 /// Returns a plan's rounds (from, to, rate, pages, those sent, how many were dirtied), and then why and when it stops,
 /// the pages that are left, the downtime and the total.
-fn text_of(alloc: Global, plan: &Plan) -> Result<String, Fail> {
+fn text_of(rt: &impl Abort, alloc: Global, plan: &Plan) -> String {
     let mut text = String::new(alloc);
     for round in &plan.rounds {
         let Round { from, to, rate, .. } = round;
@@ -117,7 +119,8 @@ fn text_of(alloc: Global, plan: &Plan) -> Result<String, Fail> {
             text,
             "{from} {to} {rate} {pages} {sent} {}; ",
             round.dirtied
-        )?;
+        )
+        .expect(rt, "memory");
     }
     let last = Pages(&plan.last);
     write!(
@@ -127,8 +130,9 @@ fn text_of(alloc: Global, plan: &Plan) -> Result<String, Fail> {
         plan.stop,
         plan.down,
         plan.total()
-    )?;
-    Ok(text)
+    )
+    .expect(rt, "memory");
+    text
 }
 
 /// Rounds, reason, stop, downtime and total.
@@ -150,62 +154,69 @@ pub(crate) fn told(outcome: &Outcome) -> Told {
 }
 
 /// Returns whether this is the text of a plan.
-fn is_as(alloc: Global, plan: &Plan, expected: &str) -> Result<bool, Fail> {
-    Ok(text_of(alloc, plan)?.as_str() == expected)
+fn is_as(rt: &impl Abort, alloc: Global, plan: &Plan, expected: &str) -> bool {
+    text_of(rt, alloc, plan).as_str() == expected
 }
 
 /// Returns whether a planner that plans a second time finds the sums of a plan.
-fn has_sums(alloc: Global, trace: &Trace, settings: &Settings, plan: &Plan) -> Result<bool, Fail> {
-    let index = RoundIndex::build(alloc, trace)?;
-    let mut planner = Planner::new(alloc, trace)?;
+fn has_sums(
+    rt: &impl Abort,
+    alloc: Global,
+    trace: &Trace,
+    settings: &Settings,
+    plan: &Plan,
+) -> bool {
+    let index = RoundIndex::build(alloc, trace).expect(rt, "an index");
+    let mut planner = Planner::new(alloc, trace).expect(rt, "a planner");
     planner.outcome(trace, &index, settings);
     let second = told(&planner.outcome(trace, &index, settings));
-    Ok([second, told(&plan.outcome())] == [told_of_plan(plan); 2])
+    [second, told(&plan.outcome())] == [told_of_plan(plan); 2]
 }
 
 /// Returns whether this plan is made on one thread, with its sums.
 fn is_planned_alone(
+    rt: &impl Abort,
     alloc: Global,
     trace: &Trace,
     settings: &Settings,
     expected: &str,
-) -> Result<bool, Fail> {
-    let plan = plan(alloc, trace, settings)?;
-    Ok(is_as(alloc, &plan, expected)? && has_sums(alloc, trace, settings, &plan)?)
+) -> bool {
+    let plan = plan(alloc, trace, settings).expect(rt, "a plan");
+    is_as(rt, alloc, &plan, expected) && has_sums(rt, alloc, trace, settings, &plan)
 }
 
 /// Returns whether any number of workers makes this plan.
-fn is_planned_by_workers<R: Threads + Sync>(
+fn is_planned_by_workers<R: Abort + Threads + Sync>(
     rt: &R,
     alloc: Global,
     trace: &Trace,
     settings: &Settings,
     expected: &str,
-) -> Result<bool, Fail> {
+) -> bool {
     let mut right = true;
     for workers in [1, 3, 16] {
-        let plan = par_plan(rt, alloc, trace, settings, workers)?;
-        right &= is_as(alloc, &plan, expected)?;
+        let plan = par_plan(rt, alloc, trace, settings, workers).expect(rt, "a plan");
+        right &= is_as(rt, alloc, &plan, expected);
     }
-    Ok(right)
+    right
 }
 
 /// Returns whether each way to plan makes this plan.
-fn is_planned<R: Threads + Sync>(
+fn is_planned<R: Abort + Threads + Sync>(
     rt: &R,
     alloc: Global,
     guest: GuestKind,
     asked: Asked,
     expected: &str,
-) -> Result<bool, Fail> {
-    let trace = guest.trace(alloc)?;
-    let settings = Settings::new(asked)?;
-    let is_right = is_planned_alone(alloc, &trace, &settings, expected)?;
-    Ok(is_right && is_planned_by_workers(rt, alloc, &trace, &settings, expected)?)
+) -> bool {
+    let trace = guest.trace(rt, alloc);
+    let settings = Settings::new(asked).expect(rt, "settings");
+    let is_right = is_planned_alone(rt, alloc, &trace, &settings, expected);
+    is_right && is_planned_by_workers(rt, alloc, &trace, &settings, expected)
 }
 
 #[test]
-fn worked_plans(rt: HostRuntime) -> Result<(), Fail> {
+fn worked_plans(rt: HostRuntime) {
     /// A guest, the greatest rate, the threshold, the start, whether pages are skipped, and the plan.
     const CASES: [(GuestKind, u64, u64, u64, bool, &str); 8] = [
         (
@@ -279,15 +290,14 @@ fn worked_plans(rt: HostRuntime) -> Result<(), Fail> {
     for &(guest, max, threshold, start, skip, expected) in &CASES {
         let asked = asked_with(max, threshold, start, skip);
         assert!(rt;
-            is_planned(&rt, rt.alloc(), guest, asked, expected)?,
+            is_planned(&rt, rt.alloc(), guest, asked, expected),
             "{expected}"
         );
     }
-    Ok(())
 }
 
 #[test]
-fn worked_plans_of_warm_starts(rt: HostRuntime) -> Result<(), Fail> {
+fn worked_plans_of_warm_starts(rt: HostRuntime) {
     /// The base, the start, whether pages are skipped, and the plan.
     const CASES: [(u64, u64, bool, &str); 7] = [
         (
@@ -311,15 +321,14 @@ fn worked_plans_of_warm_starts(rt: HostRuntime) -> Result<(), Fail> {
     for &(base, start, skip, expected) in &CASES {
         let asked = warm(base, start, skip);
         assert!(rt;
-            is_planned(&rt, rt.alloc(), GuestKind::Worked, asked, expected)?,
+            is_planned(&rt, rt.alloc(), GuestKind::Worked, asked, expected),
             "{expected}"
         );
     }
-    Ok(())
 }
 
 #[test]
-fn a_page_of_the_last_word(rt: HostRuntime) -> Result<(), Fail> {
+fn a_page_of_the_last_word(rt: HostRuntime) {
     const ONE_ROUND: Asked = Asked {
         min: 10,
         max: 10,
@@ -327,20 +336,18 @@ fn a_page_of_the_last_word(rt: HostRuntime) -> Result<(), Fail> {
         ..ASKED
     };
     let expected = "0 6500 10 65 pages 65 pages 1; rounds 6500 [64] 100 66";
-    assert!(rt; is_planned(&rt, rt.alloc(), GuestKind::LastWord, ONE_ROUND, expected)?);
-    Ok(())
+    assert!(rt; is_planned(&rt, rt.alloc(), GuestKind::LastWord, ONE_ROUND, expected));
 }
 
 #[test]
-fn pages_of_three_words(rt: HostRuntime) -> Result<(), Fail> {
+fn pages_of_three_words(rt: HostRuntime) {
     let asked = Asked {
         min: 130,
         ..asked_with(200, 1, 0, true)
     };
     let expected = "0 1000 130 130 pages 130 pages 4; 1000 1016 130 [0, 63, 64, 129] [0, 64] 3; \
                     1016 1032 189 [63, 64, 129] [63, 64, 129] 0; few 1032 [] 0 135";
-    assert!(rt; is_planned(&rt, rt.alloc(), GuestKind::Edges, asked, expected)?);
-    Ok(())
+    assert!(rt; is_planned(&rt, rt.alloc(), GuestKind::Edges, asked, expected));
 }
 
 /// What two rounds found: those of the second worked plan.
@@ -380,9 +387,9 @@ fn second_and_stop(settings: &Settings) -> Option<(RoundNumbers, Outcome)> {
 }
 
 #[test]
-fn rounds_by_their_numbers(rt: HostRuntime) -> Result<(), Fail> {
-    let settings = Settings::new(Asked { max: 2, ..ASKED })?;
-    let (second, outcome) = second_and_stop(&settings).ok_or("a second round and a stop")?;
+fn rounds_by_their_numbers(rt: HostRuntime) {
+    let settings = Settings::new(Asked { max: 2, ..ASKED }).expect(&rt, "settings");
+    let (second, outcome) = second_and_stop(&settings).expect(&rt, "a second round and a stop");
     let RoundNumbers {
         step,
         listed,
@@ -392,16 +399,15 @@ fn rounds_by_their_numbers(rt: HostRuntime) -> Result<(), Fail> {
     } = second;
     assert!(rt; (step.from, step.rate, listed, next, total) == (2000, 2, 2, 3, 4));
     assert!(rt; told(&outcome) == (2, Reason::Fast, 3000, 1000, 8));
-    Ok(())
 }
 
 /// The first round of the second worked plan marks these pages.
 #[test]
-fn pages_that_a_round_marks(rt: HostRuntime) -> Result<(), Fail> {
+fn pages_that_a_round_marks(rt: HostRuntime) {
     let alloc = rt.alloc();
-    let trace = guest(alloc, 4, &TOUCHES)?;
-    let mut marks = Vec::from_elem(alloc, 0, word_count(trace.page_count() as usize))?;
+    let trace = guest(&rt, alloc, 4, &TOUCHES);
+    let words = word_count(trace.page_count() as usize);
+    let mut marks = Vec::from_elem(alloc, 0, words).expect(&rt, "memory");
     let next = mark_until(&trace, &mut marks, 0, 2000);
     assert!(rt; next == 3 && marks.as_slice() == [0b11].as_slice());
-    Ok(())
 }

@@ -1,10 +1,9 @@
 //! Times and sizes as texts, on both sides of the amounts at which their form changes.
 
 use predictions::{push_bytes, push_error, push_moment, push_time};
-use std::test::Fail;
 
 #[test]
-fn times_in_us_ms_and_s(rt: HostRuntime) -> Result<(), Fail> {
+fn times_in_us_ms_and_s(rt: HostRuntime) {
     const CASES: [(u64, &str); 15] = [
         (0, "0 s"),
         (1, "1 us"),
@@ -24,14 +23,13 @@ fn times_in_us_ms_and_s(rt: HostRuntime) -> Result<(), Fail> {
     ];
     for &(micros, expected) in &CASES {
         let mut text = Vec::new(rt.alloc());
-        push_time(&mut text, micros as u128)?;
+        push_time(&mut text, micros as u128).expect(&rt, "memory");
         assert!(rt; text.as_slice() == expected.as_bytes(), "{expected}");
     }
-    Ok(())
 }
 
 #[test]
-fn errors_of_times_with_few_digits(rt: HostRuntime) -> Result<(), Fail> {
+fn errors_of_times_with_few_digits(rt: HostRuntime) {
     const CASES: [(u64, &str); 10] = [
         (0, "0 s"),
         (999, "999 us"),
@@ -46,14 +44,13 @@ fn errors_of_times_with_few_digits(rt: HostRuntime) -> Result<(), Fail> {
     ];
     for &(micros, expected) in &CASES {
         let mut text = Vec::new(rt.alloc());
-        push_error(&mut text, micros as u128)?;
+        push_error(&mut text, micros as u128).expect(&rt, "memory");
         assert!(rt; text.as_slice() == expected.as_bytes(), "{expected}");
     }
-    Ok(())
 }
 
 #[test]
-fn moments_with_three_digits_or_six(rt: HostRuntime) -> Result<(), Fail> {
+fn moments_with_three_digits_or_six(rt: HostRuntime) {
     const CASES: [(u64, &str); 8] = [
         (0, "0.000 s"),
         (1, "0.000001 s"),
@@ -66,14 +63,13 @@ fn moments_with_three_digits_or_six(rt: HostRuntime) -> Result<(), Fail> {
     ];
     for &(micros, expected) in &CASES {
         let mut text = Vec::new(rt.alloc());
-        push_moment(&mut text, micros as u128)?;
+        push_moment(&mut text, micros as u128).expect(&rt, "memory");
         assert!(rt; text.as_slice() == expected.as_bytes(), "{expected}");
     }
-    Ok(())
 }
 
 #[test]
-fn sizes_in_bytes_and_their_units(rt: HostRuntime) -> Result<(), Fail> {
+fn sizes_in_bytes_and_their_units(rt: HostRuntime) {
     const CASES: [(u64, &str); 12] = [
         (0, "0 bytes"),
         (1, "1 byte"),
@@ -90,8 +86,7 @@ fn sizes_in_bytes_and_their_units(rt: HostRuntime) -> Result<(), Fail> {
     ];
     for &(bytes, expected) in &CASES {
         let mut text = Vec::new(rt.alloc());
-        push_bytes(&mut text, bytes as u128)?;
+        push_bytes(&mut text, bytes as u128).expect(&rt, "memory");
         assert!(rt; text.as_slice() == expected.as_bytes(), "{expected}");
     }
-    Ok(())
 }

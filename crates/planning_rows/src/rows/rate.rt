@@ -1,7 +1,6 @@
 //! Worked examples: refusals in their order, rates and stop tests, and printed names.
 
 use rate_limit::{Asked, Next, Reason, Settings, SettingsError, dirty_rate, duration, next};
-use std::test::Fail;
 use worked_guest::ASKED;
 
 /// Settings of a warm start, with `workers` workers.
@@ -49,7 +48,7 @@ fn first_setting_out_of_range_is_named(rt: HostRuntime) {
 }
 
 #[test]
-fn refusals_have_their_names(rt: HostRuntime) -> Result<(), Fail> {
+fn refusals_have_their_names(rt: HostRuntime) {
     const NAMES: [(SettingsError, &str); 10] = [
         (SettingsError::MinRate, "S1"),
         (SettingsError::MaxRate, "S2"),
@@ -63,10 +62,9 @@ fn refusals_have_their_names(rt: HostRuntime) -> Result<(), Fail> {
         (SettingsError::BaseTick, "S10"),
     ];
     for &(error, name) in &NAMES {
-        let text = format!(in rt.alloc(); "{error}")?;
+        let text = format!(in rt.alloc(); "{error}").expect(&rt, "memory");
         assert!(rt; text.as_str() == name);
     }
-    Ok(())
 }
 
 #[test]
@@ -78,15 +76,16 @@ fn durations_and_rates_are_rounded_up(rt: HostRuntime) {
 }
 
 #[test]
-fn stop_tests_come_in_order(rt: HostRuntime) -> Result<(), Fail> {
-    let settings = Settings::new(ASKED)?;
+fn stop_tests_come_in_order(rt: HostRuntime) {
+    let settings = Settings::new(ASKED).expect(&rt, "settings");
     assert!(rt; *settings.asked() == ASKED);
     let steady = Settings::new(Asked {
         min: 10,
         max: 10,
         increment: 0,
         ..ASKED
-    })?;
+    })
+    .expect(&rt, "settings");
     let answers = [
         next(&settings, 0, 1000, 8),
         next(&settings, 4, 1000, 8),
@@ -106,5 +105,4 @@ fn stop_tests_come_in_order(rt: HostRuntime) -> Result<(), Fail> {
                 Next::Stop(Reason::Few)
             ]
     );
-    Ok(())
 }

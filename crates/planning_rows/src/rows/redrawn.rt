@@ -8,7 +8,7 @@ use predictions::redrawn::{Errors, are_drawn, has_errors, redrawn_outcome, sampl
 use predictions::units::Scale;
 use rate_limit::{Asked, Reason, Settings};
 use std::alloc::Global;
-use std::test::Fail;
+use std::process::Abort;
 use trace_codec::Trace;
 use worked_guest::ASKED;
 
@@ -77,24 +77,33 @@ impl Case {
 }
 
 /// Returns the sums of the plan of some pages of a trace, if it has these. Each digit is a page.
-fn redrawn(alloc: Global, trace: &Trace, case: Case, digits: &str) -> Result<Option<Told>, Fail> {
+fn redrawn(
+    rt: &impl Abort,
+    alloc: Global,
+    trace: &Trace,
+    case: Case,
+    digits: &str,
+) -> Option<Told> {
     let pages = trace.page_count();
     let mut drawn = Vec::new(alloc);
     for digit in digits.bytes() {
-        drawn.push(digit.saturating_sub(b'0') as u32)?;
+        drawn
+            .push(digit.saturating_sub(b'0') as u32)
+            .expect(rt, "memory");
     }
     if !are_drawn(&drawn, pages) {
-        return Ok(None);
+        return None;
     }
-    let settings = Settings::new(case.asked())?;
-    let mut listed = Vec::from_elem(alloc, u64::MAX, word_count(pages as usize))?;
-    let mut marks = Vec::from_elem(alloc, u64::MAX, word_count(pages as usize))?;
+    let settings = Settings::new(case.asked()).expect(rt, "settings");
+    let words = word_count(pages as usize);
+    let mut listed = Vec::from_elem(alloc, u64::MAX, words).expect(rt, "memory");
+    let mut marks = Vec::from_elem(alloc, u64::MAX, words).expect(rt, "memory");
     let outcome = redrawn_outcome(trace, &settings, &drawn, &mut listed, &mut marks);
-    Ok(Some(told(&outcome)))
+    Some(told(&outcome))
 }
 
 #[test]
-fn plans_of_redrawn_pages(rt: HostRuntime) -> Result<(), Fail> {
+fn plans_of_redrawn_pages(rt: HostRuntime) {
     const CASES: [(Case, &str, Told); 11] = [
         (Case::Slow, "012345", (3, Reason::Few, 5667, 0, 14)),
         (Case::Slow, "202124", (3, Reason::Few, 6334, 0, 16)),
@@ -109,15 +118,14 @@ fn plans_of_redrawn_pages(rt: HostRuntime) -> Result<(), Fail> {
         (Case::Warm, "555555", (1, Reason::Few, 900, 0, 0)),
     ];
     let alloc = rt.alloc();
-    let trace = guest(alloc, 6, &WRITES)?;
+    let trace = guest(&rt, alloc, 6, &WRITES);
     for &(case, drawn, expected) in &CASES {
         assert!(rt;
-            redrawn(alloc, &trace, case, drawn)? == Some(expected),
+            redrawn(&rt, alloc, &trace, case, drawn) == Some(expected),
             "{drawn}"
         );
     }
-    assert!(rt; redrawn(alloc, &trace, Case::Slow, "16")?.is_none());
-    Ok(())
+    assert!(rt; redrawn(&rt, alloc, &trace, Case::Slow, "16").is_none());
 }
 
 /// Standard errors of bytes, and in microseconds of time and downtime.
@@ -129,32 +137,36 @@ fn numbers(errors: Errors) -> Numbers {
 
 /// Returns the standard errors of the plan of a trace.
 fn errors(
+    rt: &impl Abort,
     alloc: Global,
     trace: &Trace,
     asked: Asked,
     scale: &Scale,
-) -> Result<Option<Numbers>, Fail> {
-    let settings = Settings::new(asked)?;
-    Ok(Errors::of_trace(alloc, trace, &settings, scale)?.map(numbers))
+) -> Option<Numbers> {
+    let settings = Settings::new(asked).expect(rt, "settings");
+    Errors::of_trace(alloc, trace, &settings, scale)
+        .expect(rt, "memory")
+        .map(numbers)
 }
 
 /// Returns the same, in memory that is lent and not empty.
 fn lent_errors(
+    rt: &impl Abort,
     alloc: Global,
     trace: &Trace,
     asked: Asked,
     scale: &Scale,
-) -> Result<Option<Numbers>, Fail> {
+) -> Option<Numbers> {
     if !has_errors(scale) {
-        return Ok(None);
+        return None;
     }
-    let settings = Settings::new(asked)?;
+    let settings = Settings::new(asked).expect(rt, "settings");
     let words = word_count(trace.page_count() as usize);
-    let mut room = Vec::from_elem(alloc, u32::MAX, scale.sampled() as usize)?;
-    let mut listed = Vec::from_elem(alloc, u64::MAX, words)?;
-    let mut marks = Vec::from_elem(alloc, u64::MAX, words)?;
+    let mut room = Vec::from_elem(alloc, u32::MAX, scale.sampled() as usize).expect(rt, "memory");
+    let mut listed = Vec::from_elem(alloc, u64::MAX, words).expect(rt, "memory");
+    let mut marks = Vec::from_elem(alloc, u64::MAX, words).expect(rt, "memory");
     let errors = sample_errors(trace, &settings, scale, &mut room, &mut listed, &mut marks);
-    Ok(Some(numbers(errors)))
+    Some(numbers(errors))
 }
 
 /// What a tick is in microseconds, a page in bytes, and how many pages of a guest of how many are in the trace.
@@ -162,19 +174,20 @@ pub(crate) type Units = (u64, u64, u64, u64);
 
 /// Returns the standard errors by both calls.
 fn both_errors(
+    rt: &impl Abort,
     alloc: Global,
     trace: &Trace,
     asked: Asked,
     (tick, page, sampled, pages): Units,
-) -> Result<[Option<Numbers>; 2], Fail> {
-    let scale = Scale::new(tick, page, sampled, pages)?;
-    let owned = errors(alloc, trace, asked, &scale)?;
-    let lent = lent_errors(alloc, trace, asked, &scale)?;
-    Ok([owned, lent])
+) -> [Option<Numbers>; 2] {
+    let scale = Scale::new(tick, page, sampled, pages).expect(rt, "a scale");
+    let owned = errors(rt, alloc, trace, asked, &scale);
+    let lent = lent_errors(rt, alloc, trace, asked, &scale);
+    [owned, lent]
 }
 
 #[test]
-fn errors_of_samples(rt: HostRuntime) -> Result<(), Fail> {
+fn errors_of_samples(rt: HostRuntime) {
     const SOME: Units = (1000, 4096, 6, 1000);
     const MOST: Units = (1, 16, 9, 10);
     const FEW: Units = (1_000_000, 4096, 6, 1 << 32);
@@ -194,29 +207,30 @@ fn errors_of_samples(rt: HostRuntime) -> Result<(), Fail> {
         (Case::Slow, ALL, None),
     ];
     let alloc = rt.alloc();
-    let trace = guest(alloc, 6, &WRITES)?;
+    let trace = guest(&rt, alloc, 6, &WRITES);
     for &(case, units, expected) in &CASES {
-        assert!(rt; both_errors(alloc, &trace, case.asked(), units)? == [expected; 2]);
+        assert!(rt; both_errors(&rt, alloc, &trace, case.asked(), units) == [expected; 2]);
     }
-    Ok(())
 }
 
 /// Returns 5,000 writes to some of 200 pages, by a generator of Park and Miller.
-fn many(alloc: Global) -> Result<Vec<(u64, u32)>, Fail> {
-    let mut writes = Vec::with_capacity(alloc, 5000)?;
+fn many(rt: &impl Abort, alloc: Global) -> Vec<(u64, u32)> {
+    let mut writes = Vec::with_capacity(alloc, 5000).expect(rt, "memory");
     let mut state = 1u64;
     let mut tick = 0u64;
     for _ in 0..5000 {
         state = state.wrapping_mul(48_271) % 2_147_483_647;
         tick = tick.wrapping_add(state % 7);
         let place = (state / 7 % 200) as u32;
-        writes.push((tick, place * place / 200))?;
+        writes
+            .push((tick, place * place / 200))
+            .expect(rt, "memory");
     }
-    Ok(writes)
+    writes
 }
 
 #[test]
-fn errors_of_a_larger_sample(rt: HostRuntime) -> Result<(), Fail> {
+fn errors_of_a_larger_sample(rt: HostRuntime) {
     let rising = Asked {
         min: 40,
         max: 200,
@@ -240,13 +254,13 @@ fn errors_of_a_larger_sample(rt: HostRuntime) -> Result<(), Fail> {
         ..rising
     };
     let alloc = rt.alloc();
-    let writes = many(alloc)?;
-    let trace = guest(alloc, 200, &writes)?;
-    let scale = Scale::new(1000, 4096, 210, 100_000)?;
+    let writes = many(&rt, alloc);
+    let trace = guest(&rt, alloc, 200, &writes);
+    let scale = Scale::new(1000, 4096, 210, 100_000).expect(&rt, "a scale");
     let found = [
-        errors(alloc, &trace, rising, &scale)?,
-        errors(alloc, &trace, late, &scale)?,
-        errors(alloc, &trace, five, &scale)?,
+        errors(&rt, alloc, &trace, rising, &scale),
+        errors(&rt, alloc, &trace, late, &scale),
+        errors(&rt, alloc, &trace, five, &scale),
     ];
     let expected = [
         (35_467_264, 216_776, 0),
@@ -254,5 +268,4 @@ fn errors_of_a_larger_sample(rt: HostRuntime) -> Result<(), Fail> {
         (83_152_896, 636_125, 105_881),
     ];
     assert!(rt; found == expected.map(Some));
-    Ok(())
 }

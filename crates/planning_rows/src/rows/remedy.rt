@@ -10,7 +10,7 @@ use predictions::units::{Limits, Scale};
 use rate_limit::Asked;
 use round_planner::RoundRow;
 use std::alloc::Global;
-use std::test::Fail;
+use std::process::Abort;
 use trace_codec::Trace;
 use worked_guest::ASKED;
 
@@ -108,10 +108,10 @@ impl Others {
 }
 
 /// Returns a trial.
-pub(crate) fn trial(tried: &Tried) -> Result<Trial, Fail> {
+pub(crate) fn trial(rt: &impl Abort, tried: &Tried) -> Trial {
     let (tick, guest, (link, first), (downtime, reserve), increment, others) = *tried;
-    Ok(Trial {
-        scale: Scale::new(tick, 16, 6, guest)?,
+    Trial {
+        scale: Scale::new(tick, 16, 6, guest).expect(rt, "a scale"),
         limits: Limits {
             link,
             first,
@@ -120,22 +120,22 @@ pub(crate) fn trial(tried: &Tried) -> Result<Trial, Fail> {
         },
         increment,
         others: others.asked(),
-    })
+    }
 }
 
 /// Returns what keeps the limit of a trial, in memory that is lent and not empty.
-fn lent(alloc: Global, trace: &Trace, trial: &Trial) -> Result<Remedies, Fail> {
+fn lent(rt: &impl Abort, alloc: Global, trace: &Trace, trial: &Trial) -> Remedies {
     let pages = trace.page_count() as usize;
-    let mut marks = Vec::from_elem(alloc, u64::MAX, word_count(pages))?;
-    let mut list = Vec::from_elem(alloc, u32::MAX, pages)?;
-    let mut rows = Vec::from_elem(alloc, OLD_ROW, 64)?;
-    Ok(remedies_of(trace, trial, &mut marks, &mut list, &mut rows))
+    let mut marks = Vec::from_elem(alloc, u64::MAX, word_count(pages)).expect(rt, "memory");
+    let mut list = Vec::from_elem(alloc, u32::MAX, pages).expect(rt, "memory");
+    let mut rows = Vec::from_elem(alloc, OLD_ROW, 64).expect(rt, "memory");
+    remedies_of(trace, trial, &mut marks, &mut list, &mut rows)
 }
 
 /// Returns what keeps the limit of a trial, by both calls.
-fn both_remedies(alloc: Global, trace: &Trace, trial: &Trial) -> Result<[Remedies; 2], Fail> {
-    let owned = Remedies::of_trace(alloc, trace, trial)?;
-    Ok([owned, lent(alloc, trace, trial)?])
+fn both_remedies(rt: &impl Abort, alloc: Global, trace: &Trace, trial: &Trial) -> [Remedies; 2] {
+    let owned = Remedies::of_trace(alloc, trace, trial).expect(rt, "memory");
+    [owned, lent(rt, alloc, trace, trial)]
 }
 
 fn remedies((is_kept, link, downtime, speed, ends): Found) -> Remedies {
@@ -154,7 +154,7 @@ fn remedies((is_kept, link, downtime, speed, ends): Found) -> Remedies {
 }
 
 #[test]
-fn remedies_of_migrations(rt: HostRuntime) -> Result<(), Fail> {
+fn remedies_of_migrations(rt: HostRuntime) {
     const CASES: [(Tried, Found); 11] = [
         // the rate is too high after a round; it is not from 11 Kbit a second on
         (
@@ -275,17 +275,16 @@ fn remedies_of_migrations(rt: HostRuntime) -> Result<(), Fail> {
         ),
     ];
     let alloc = rt.alloc();
-    let trace = guest(alloc, 6, &WRITES)?;
+    let trace = guest(&rt, alloc, 6, &WRITES);
     for (tried, found) in &CASES {
-        assert!(rt; both_remedies(alloc, &trace, &trial(tried)?)? == [remedies(*found); 2]);
+        assert!(rt; both_remedies(&rt, alloc, &trace, &trial(&rt, tried)) == [remedies(*found); 2]);
     }
-    Ok(())
 }
 
 /// The lines on the first of these, on a migration that ends after the trace, on a limit that is kept, and on one that
 /// nothing keeps.
 #[test]
-fn lines_of_remedies(rt: HostRuntime) -> Result<(), Fail> {
+fn lines_of_remedies(rt: HostRuntime) {
     let alloc = rt.alloc();
     const CASES: [(Found, &str); 4] = [
         (
@@ -306,8 +305,7 @@ fn lines_of_remedies(rt: HostRuntime) -> Result<(), Fail> {
     ];
     for &(found, expected) in &CASES {
         let mut text = Vec::new(alloc);
-        push_remedies(&mut text, &remedies(found))?;
+        push_remedies(&mut text, &remedies(found)).expect(&rt, "memory");
         assert!(rt; text.as_slice() == expected.as_bytes(), "{expected}");
     }
-    Ok(())
 }

@@ -10,7 +10,7 @@ use predictions::Verdict;
 use predictions::remedies::Trial;
 use predictions::shares::{LinkShare, link_share_of, push_share};
 use std::alloc::Global;
-use std::test::Fail;
+use std::process::Abort;
 use trace_codec::Trace;
 
 /// What is found: the verdict at all of the link, the least share with it, and the verdict below.
@@ -25,22 +25,22 @@ fn link_share((verdict, share, below): Found) -> LinkShare {
 }
 
 /// Returns the shares of a trial, in memory that is lent and not empty.
-fn lent(alloc: Global, trace: &Trace, trial: &Trial) -> Result<LinkShare, Fail> {
+fn lent(rt: &impl Abort, alloc: Global, trace: &Trace, trial: &Trial) -> LinkShare {
     let pages = trace.page_count() as usize;
-    let mut marks = Vec::from_elem(alloc, u64::MAX, word_count(pages))?;
-    let mut list = Vec::from_elem(alloc, u32::MAX, pages)?;
-    let mut rows = Vec::from_elem(alloc, OLD_ROW, 64)?;
-    Ok(link_share_of(trace, trial, &mut marks, &mut list, &mut rows))
+    let mut marks = Vec::from_elem(alloc, u64::MAX, word_count(pages)).expect(rt, "memory");
+    let mut list = Vec::from_elem(alloc, u32::MAX, pages).expect(rt, "memory");
+    let mut rows = Vec::from_elem(alloc, OLD_ROW, 64).expect(rt, "memory");
+    link_share_of(trace, trial, &mut marks, &mut list, &mut rows)
 }
 
 /// Returns the shares of a trial, by both calls.
-fn both_shares(alloc: Global, trace: &Trace, trial: &Trial) -> Result<[LinkShare; 2], Fail> {
-    let owned = LinkShare::of_trace(alloc, trace, trial)?;
-    Ok([owned, lent(alloc, trace, trial)?])
+fn both_shares(rt: &impl Abort, alloc: Global, trace: &Trace, trial: &Trial) -> [LinkShare; 2] {
+    let owned = LinkShare::of_trace(alloc, trace, trial).expect(rt, "memory");
+    [owned, lent(rt, alloc, trace, trial)]
 }
 
 #[test]
-fn shares_of_a_link(rt: HostRuntime) -> Result<(), Fail> {
+fn shares_of_a_link(rt: HostRuntime) {
     const CASES: [(Tried, Found); 11] = [
         // the verdict turns to another one, or the trace ends first
         (
@@ -115,16 +115,15 @@ fn shares_of_a_link(rt: HostRuntime) -> Result<(), Fail> {
         ),
     ];
     let alloc = rt.alloc();
-    let trace = guest(alloc, 6, &WRITES)?;
+    let trace = guest(&rt, alloc, 6, &WRITES);
     for (tried, found) in &CASES {
-        let shares = both_shares(alloc, &trace, &trial(tried)?)?;
+        let shares = both_shares(&rt, alloc, &trace, &trial(&rt, tried));
         assert!(rt; shares == [link_share(*found); 2], "{shares:?}");
     }
-    Ok(())
 }
 
 #[test]
-fn lines_of_shares(rt: HostRuntime) -> Result<(), Fail> {
+fn lines_of_shares(rt: HostRuntime) {
     const CASES: [(Found, &str); 5] = [
         (
             (Verdict::Yes, 91, Some(Verdict::No)),
@@ -146,8 +145,7 @@ fn lines_of_shares(rt: HostRuntime) -> Result<(), Fail> {
     ];
     for &(found, expected) in &CASES {
         let mut text = Vec::new(rt.alloc());
-        push_share(&mut text, &link_share(found))?;
+        push_share(&mut text, &link_share(found)).expect(&rt, "memory");
         assert!(rt; text.as_slice() == expected.as_bytes(), "{expected}");
     }
-    Ok(())
 }

@@ -1,11 +1,10 @@
 //! Live runs from the command line.
 
 use super::{cut, fails, is_not_taken, refuses, whole, writes};
-use std::test::Fail;
 use worked_guest::{MEMORY, MEMORY_AT_2000};
 
 #[test]
-fn runs_live_by_the_command_line(rt: HostRuntime) -> Result<(), Fail> {
+fn runs_live_by_the_command_line(rt: HostRuntime) {
     const LINES: [&str; 2] = [
         "live",
         "live --min=2 --max=2 --inc=1 --threshold=1 --rounds=1",
@@ -16,19 +15,21 @@ fn runs_live_by_the_command_line(rt: HostRuntime) -> Result<(), Fail> {
     ];
     let alloc = rt.alloc();
     for line in LINES {
-        assert!(rt; writes(&rt, alloc, whole(alloc)?, line, &MEMORY)?, "{line}");
-    }
-    for line in STOPPED {
         assert!(rt;
-            writes(&rt, alloc, whole(alloc)?, line, &MEMORY_AT_2000)?,
+            writes(&rt, alloc, whole(&rt, alloc), line, &MEMORY),
             "{line}"
         );
     }
-    Ok(())
+    for line in STOPPED {
+        assert!(rt;
+            writes(&rt, alloc, whole(&rt, alloc), line, &MEMORY_AT_2000),
+            "{line}"
+        );
+    }
 }
 
 #[test]
-fn refuses_live_words_before_the_trace(rt: HostRuntime) -> Result<(), Fail> {
+fn refuses_live_words_before_the_trace(rt: HostRuntime) {
     const CASES: [(&str, &str); 8] = [
         ("live --min=0", "precopy: settings S1\n"),
         ("live --max=500", "precopy: settings S2\n"),
@@ -40,13 +41,12 @@ fn refuses_live_words_before_the_trace(rt: HostRuntime) -> Result<(), Fail> {
         ("live --lane=0", "precopy: settings S9\n"),
     ];
     for &(line, fault) in &CASES {
-        assert!(rt; refuses(&rt, rt.alloc(), line, fault)?, "{line}");
+        assert!(rt; refuses(&rt, rt.alloc(), line, fault), "{line}");
     }
-    Ok(())
 }
 
 #[test]
-fn runs_nothing_live_by_unknown_words(rt: HostRuntime) -> Result<(), Fail> {
+fn runs_nothing_live_by_unknown_words(rt: HostRuntime) {
     const LINES: [&str; 5] = [
         "live --window=1",
         "live --hot=1",
@@ -55,13 +55,12 @@ fn runs_nothing_live_by_unknown_words(rt: HostRuntime) -> Result<(), Fail> {
         "live --streams x",
     ];
     for line in LINES {
-        assert!(rt; is_not_taken(&rt, rt.alloc(), line)?, "{line}");
+        assert!(rt; is_not_taken(&rt, rt.alloc(), line), "{line}");
     }
-    Ok(())
 }
 
 #[test]
-fn says_why_a_live_run_ends(rt: HostRuntime) -> Result<(), Fail> {
+fn says_why_a_live_run_ends(rt: HostRuntime) {
     const CASES: [(usize, &str); 3] = [
         (0, "precopy: trace E1\n"),
         (103, "precopy: trace E14\n"),
@@ -70,9 +69,8 @@ fn says_why_a_live_run_ends(rt: HostRuntime) -> Result<(), Fail> {
     let alloc = rt.alloc();
     for &(len, fault) in &CASES {
         assert!(rt;
-            fails(&rt, alloc, cut(alloc, len)?, "live", 1, fault)?,
+            fails(&rt, alloc, cut(&rt, alloc, len), "live", 1, fault).expect(&rt, "memory"),
             "{fault}"
         );
     }
-    Ok(())
 }

@@ -1,8 +1,8 @@
 //! Reports from the command line, with lines worked out by hand.
 
 use super::{refuses, whole, writes};
-use std::alloc::{AllocError, Global};
-use std::test::Fail;
+use std::alloc::Global;
+use std::process::Abort;
 use worked_guest::{REPORT, changed};
 
 /// The report with windows of 5,000 ticks, with a page that is hot in one of them.
@@ -24,7 +24,7 @@ stop few at 2000 pages 0 down 0 total 4
 ";
 
 #[test]
-fn reports_working_sets(rt: HostRuntime) -> Result<(), Fail> {
+fn reports_working_sets(rt: HostRuntime) {
     const SLOW: [&str; 3] = [
         "report --min=2 --max=4 --inc=1 --threshold=1 --rounds=8",
         "report --min=2 --max=4 --inc=1 --threshold=1 --rounds=8 --workers=2",
@@ -38,25 +38,23 @@ fn reports_working_sets(rt: HostRuntime) -> Result<(), Fail> {
     let alloc = rt.alloc();
     for line in SLOW {
         assert!(rt;
-            writes(&rt, alloc, whole(alloc)?, line, REPORT.as_bytes())?,
+            writes(&rt, alloc, whole(&rt, alloc), line, REPORT.as_bytes()),
             "{line}"
         );
     }
     for line in LONG {
         assert!(rt;
-            writes(&rt, alloc, whole(alloc)?, line, LONG_WINDOW.as_bytes())?,
+            writes(&rt, alloc, whole(&rt, alloc), line, LONG_WINDOW.as_bytes()),
             "{line}"
         );
     }
-    Ok(())
 }
 
 #[test]
-fn reports_a_trace_without_writes(rt: HostRuntime) -> Result<(), Fail> {
-    let bytes = changed(rt.alloc(), 16, 12, &[0], &[])?;
+fn reports_a_trace_without_writes(rt: HostRuntime) {
+    let bytes = changed(rt.alloc(), 16, 12, &[0], &[]).expect(&rt, "memory");
     let line = "report --min=2 --max=4 --inc=1 --threshold=1 --rounds=8";
-    assert!(rt; writes(&rt, rt.alloc(), bytes, line, NO_WRITES.as_bytes())?);
-    Ok(())
+    assert!(rt; writes(&rt, rt.alloc(), bytes, line, NO_WRITES.as_bytes()));
 }
 
 /// The report of the worked rounds that skip pages.
@@ -72,26 +70,25 @@ stop fast at 2500 pages 2 down 500 total 7
 ";
 
 /// Returns the trace with its last two writes a tick earlier.
-fn earlier(alloc: Global) -> Result<Vec<u8>, AllocError> {
-    let mut bytes = whole(alloc)?;
+fn earlier(rt: &impl Abort, alloc: Global) -> Vec<u8> {
+    let mut bytes = whole(rt, alloc);
     for (place, byte) in bytes.iter_mut().enumerate() {
         if place == 67 || place == 85 {
             *byte = 0xc3;
         }
     }
-    Ok(bytes)
+    bytes
 }
 
 #[test]
-fn reports_skipped_pages(rt: HostRuntime) -> Result<(), Fail> {
-    let bytes = earlier(rt.alloc())?;
+fn reports_skipped_pages(rt: HostRuntime) {
+    let bytes = earlier(&rt, rt.alloc());
     let line = "report --min=2 --max=4 --inc=1 --threshold=1 --rounds=8 --skip";
-    assert!(rt; writes(&rt, rt.alloc(), bytes, line, SKIPPING.as_bytes())?);
-    Ok(())
+    assert!(rt; writes(&rt, rt.alloc(), bytes, line, SKIPPING.as_bytes()));
 }
 
 #[test]
-fn refuses_settings_before_the_trace(rt: HostRuntime) -> Result<(), Fail> {
+fn refuses_settings_before_the_trace(rt: HostRuntime) {
     const CASES: [(&str, &str); 5] = [
         ("report --min=0", "precopy: settings S1\n"),
         ("report --max=500", "precopy: settings S2\n"),
@@ -100,7 +97,6 @@ fn refuses_settings_before_the_trace(rt: HostRuntime) -> Result<(), Fail> {
         ("report --workers=17", "precopy: settings S9\n"),
     ];
     for &(line, fault) in &CASES {
-        assert!(rt; refuses(&rt, rt.alloc(), line, fault)?, "{line}");
+        assert!(rt; refuses(&rt, rt.alloc(), line, fault), "{line}");
     }
-    Ok(())
 }

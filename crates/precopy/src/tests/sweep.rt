@@ -1,8 +1,8 @@
 //! Sweeps from the command line, with lines worked out by hand.
 
 use super::{is_not_taken, refuses, whole, writes};
-use std::alloc::{AllocError, Global};
-use std::test::Fail;
+use std::alloc::Global;
+use std::process::Abort;
 
 /// Three cases, the first of which is the best.
 const THREE: &str =
@@ -33,7 +33,7 @@ best 0
 ";
 
 #[test]
-fn sweeps_cases(rt: HostRuntime) -> Result<(), Fail> {
+fn sweeps_cases(rt: HostRuntime) {
     const CASES: [(&str, &str); 4] = [
         ("sweep 02,4,1,1,8,0 2,2,1,1,8,0 2,4,1,3,8,000", THREE),
         ("sweep 2,4,1,1,8,0 2,4,1,1,8,0", TWICE),
@@ -46,15 +46,14 @@ fn sweeps_cases(rt: HostRuntime) -> Result<(), Fail> {
     let alloc = rt.alloc();
     for &(line, expected) in &CASES {
         assert!(rt;
-            writes(&rt, alloc, whole(alloc)?, line, expected.as_bytes())?,
+            writes(&rt, alloc, whole(&rt, alloc), line, expected.as_bytes()),
             "{line}"
         );
     }
-    Ok(())
 }
 
 #[test]
-fn refuses_cases_before_the_trace(rt: HostRuntime) -> Result<(), Fail> {
+fn refuses_cases_before_the_trace(rt: HostRuntime) {
     // The eighth line ends in a space, so its last word is empty.
     const CASES: [(&str, &str); 12] = [
         ("sweep 2,4,1,1,8", "precopy: case 0\n"),
@@ -71,35 +70,32 @@ fn refuses_cases_before_the_trace(rt: HostRuntime) -> Result<(), Fail> {
         ("sweep --workers=17 2,4,1,1,8,0", "precopy: case 0 S9\n"),
     ];
     for &(line, fault) in &CASES {
-        assert!(rt; refuses(&rt, rt.alloc(), line, fault)?, "{line}");
+        assert!(rt; refuses(&rt, rt.alloc(), line, fault), "{line}");
     }
-    Ok(())
 }
 
 #[test]
-fn sweeps_nothing_by_unknown_words(rt: HostRuntime) -> Result<(), Fail> {
+fn sweeps_nothing_by_unknown_words(rt: HostRuntime) {
     const LINES: [&str; 3] = ["sweep", "sweep -2,4,1,1,8,0", "sweep 2,4,1,1,8,0 --start x"];
     for line in LINES {
-        assert!(rt; is_not_taken(&rt, rt.alloc(), line)?, "{line}");
+        assert!(rt; is_not_taken(&rt, rt.alloc(), line), "{line}");
     }
-    Ok(())
 }
 
 /// Returns a sweep of as many cases, each of which is too short.
-fn short_cases(alloc: Global, count: usize) -> Result<String, AllocError> {
-    let mut line = "sweep".to_string(alloc)?;
+fn short_cases(rt: &impl Abort, alloc: Global, count: usize) -> String {
+    let mut line = "sweep".to_string(alloc).expect(rt, "memory");
     for _ in 0..count {
-        line.push_str(" 2,4")?;
+        line.push_str(" 2,4").expect(rt, "memory");
     }
-    Ok(line)
+    line
 }
 
 #[test]
-fn refuses_too_many_cases(rt: HostRuntime) -> Result<(), Fail> {
+fn refuses_too_many_cases(rt: HostRuntime) {
     const CASES: [(usize, &str); 2] = [(256, "precopy: case 0\n"), (257, "precopy: cases\n")];
     for &(count, fault) in &CASES {
-        let line = short_cases(rt.alloc(), count)?;
-        assert!(rt; refuses(&rt, rt.alloc(), &line, fault)?, "{fault}");
+        let line = short_cases(&rt, rt.alloc(), count);
+        assert!(rt; refuses(&rt, rt.alloc(), &line, fault), "{fault}");
     }
-    Ok(())
 }
