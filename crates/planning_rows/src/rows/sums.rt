@@ -5,7 +5,7 @@ use guest_log::Timeline;
 use look_planner::{LookAsked, LookSettings, LookSums, PlanEnd, look_sums};
 use page_bitmap::word_count;
 use std::alloc::Global;
-use std::test::Fail;
+use std::process::Abort;
 use trace_codec::Trace;
 
 /// The writes of the worked guest.
@@ -26,15 +26,16 @@ fn has_sums(sums: &LookSums, expected: &Sums) -> bool {
 }
 
 /// Returns the sums of a plan in memory that holds something else before.
-fn sums_of(alloc: Global, trace: &Trace, settings: &LookSettings) -> Result<LookSums, Fail> {
+fn sums_of(rt: &impl Abort, alloc: Global, trace: &Trace, asked: LookAsked) -> LookSums {
+    let settings = LookSettings::new(asked).expect(rt, "settings");
     let pages = trace.page_count() as usize;
-    let mut marks = Vec::from_elem(alloc, u64::MAX, word_count(pages))?;
-    let mut room = Vec::from_elem(alloc, 7, pages)?;
-    Ok(look_sums(trace, settings, &mut marks, &mut room))
+    let mut marks = Vec::from_elem(alloc, u64::MAX, word_count(pages)).expect(rt, "memory");
+    let mut room = Vec::from_elem(alloc, 7, pages).expect(rt, "memory");
+    look_sums(trace, &settings, &mut marks, &mut room)
 }
 
 #[test]
-fn worked_sums(rt: HostRuntime) -> Result<(), Fail> {
+fn worked_sums(rt: HostRuntime) {
     /// The window, the threshold, the end of the record, and the sums.
     const CASES: [(u64, u64, u64, Sums); 5] = [
         (0, 1, 10_000, (PlanEnd::Few, 3, 4000, 8, 0, 0)),
@@ -43,9 +44,9 @@ fn worked_sums(rt: HostRuntime) -> Result<(), Fail> {
         (0, 1, 1999, (PlanEnd::Record, 0, 1999, 6, 3, 1500)),
         (0, 1, 2600, (PlanEnd::Record, 1, 2600, 7, 2, 1000)),
     ];
-    let trace = guest(rt.alloc(), 4, &TOUCHES)?;
+    let trace = guest(&rt, rt.alloc(), 4, &TOUCHES);
     for (window, threshold, end, expected) in &CASES {
-        let settings = LookSettings::new(LookAsked {
+        let asked = LookAsked {
             start: 0,
             base: None,
             rate: 2,
@@ -53,9 +54,8 @@ fn worked_sums(rt: HostRuntime) -> Result<(), Fail> {
             threshold: *threshold,
             looks: None,
             end: *end,
-        })?;
-        let sums = sums_of(rt.alloc(), &trace, &settings)?;
+        };
+        let sums = sums_of(&rt, rt.alloc(), &trace, asked);
         assert!(rt; has_sums(&sums, expected));
     }
-    Ok(())
 }
