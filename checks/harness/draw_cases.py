@@ -121,10 +121,12 @@ def kept_of_a_case(_, folder):
 
 
 def lines_that_keep_nothing(_, folder):
-    """A line of which nothing is drawn fails, and one that is none."""
+    """A line of which nothing is drawn fails, unless something is left out; and one that is none fails."""
     keep(folder, f"others\t1\t{SEED}\tit was wrong\n")
     told = f"draws that failed once: failed_seeds.tsv: nothing is drawn by ['others\\t1\\t{SEED}']\n"
     expect_told(small_check(folder, NUMBERS.format(0)), 1, "3 passed, 1 failed", f"  FAILED {told}")
+    leaves_out = NUMBERS.format(0) + '    left_out("others", "no tool")\n'
+    expect_told(small_check(folder, leaves_out), 0, "3 passed, 0 failed, 1 skipped")
     for line in (
         "numbers\t1\n",
         f"numbers\t1\t{SEED}\n",

@@ -9,7 +9,7 @@ from checks.lib.amount_texts import error_text, moment_text, size_text, time_tex
 from checks.lib.harness import drawn
 from checks.lib.host_words import host_lines, is_command, sentence_of
 from checks.lib.migration_model import report_of
-from checks.lib.view_texts import TOP, Failure, document_of, ran, report_facts, sweep_facts, told
+from checks.lib.view_texts import TOP, Failure, parsed, ran, report_facts, sweep_facts, told
 from checks.page import shapes
 from checks.page.tables import round_texts, window_texts
 from checks.view.limit_cases import RATES, Known, redrawn
@@ -221,7 +221,7 @@ REPORTS = {}
 
 def reported(precopy, asked):
     """The facts of `precopy report`, which must be those of a plain model."""
-    words = asked.known.path, *asked.words()
+    words = str(asked.draw), asked.known.path, *asked.words()
     if words not in REPORTS:
         found = report_facts(told(precopy, ["report", *asked.words()], asked.known.path))
         wanted = report_of(asked.known, settings_of(asked), asked.window)
@@ -265,7 +265,7 @@ def drawn_errors(asked):
 
 
 def micros(value):
-    return round(value * 1e6)
+    return round(value * 1_000_000)
 
 
 def told_errors(document):
@@ -435,7 +435,7 @@ def predicted(view, asked, found):
     if status not in (0, 3, 4, 5) or live is None or f"{live} < TRACE" != found["commands"]["live"]:
         raise Failure(f"{words}: status {status}, {faults!r}, {live!r} in place of {found['commands']['live']!r}")
     _, text, _ = ran(view, ["json", *words], asked.known.path)
-    return document_of("predict", text)
+    return parsed("predict", text)
 
 
 def tries(folder):
