@@ -8,7 +8,7 @@ export const REASONS = ["few", "fast", "rounds"];
 const VERDICTS = ["yes", "no", "unknown"];
 
 /** Why a migration like QEMU ends: few pages are left, the trace ends first, or it begins after the trace. */
-const ENDS = ["few", "record", "none"];
+const FORECAST_ENDS = ["few", "record", "none"];
 
 /** Writes the fields of a struct; what is not given is 0. */
 function write(view, at, { wide, narrow }, fields) {
@@ -69,6 +69,6 @@ export function readRemedies(view, at) {
 /** Reads what comes of a migration like QEMU: microseconds and bytes as BigInt; null if it begins after the trace. */
 export function readForecast(view, at) {
   const { end, looks, kept, ...costs } = read(view, at, FORECAST);
-  return ENDS[end] === "none" ? null
-    : { ...costs, end: ENDS[end], looks: Number(looks), kept: VERDICTS[kept] };
+  return FORECAST_ENDS[end] === "none" ? null
+    : { ...costs, end: FORECAST_ENDS[end], looks: Number(looks), kept: VERDICTS[kept] };
 }
