@@ -276,7 +276,7 @@ class Python(Library):
         more = {"enough": vars(precopy.enough(trace, question)), "sure": sure}
         forecast, shares = vars(precopy.forecast(trace, question)), vars(precopy.link_shares(trace, question))
         more["forecast"] = forecast | {name: forecast[name].name.lower() for name in ("end", "kept")}
-        below = shares["below"] and shares["below"].name.lower()
+        below = None if shares["below"] is None else shares["below"].name.lower()
         more["shares"] = shares | {"converges": shares["converges"].name.lower(), "below": below}
         return {**vars(it), **words, **known, **more}
 
