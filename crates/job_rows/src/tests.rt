@@ -17,8 +17,8 @@ use image_build::{Image, replay, replay_before, replay_bytes, replay_view};
 use live_engine::OpenGate;
 use migration_jobs::{Job, RunError, run};
 use std::alloc::{AllocError, Global};
-use std::process::Abort;
 use std::sync::Wait;
+use std::test::Fail;
 use std::thread::Threads;
 use trace_codec::{TestSource, Trace, TraceError, TraceView, decode, encode, read_trace};
 use worked_guest::{MEMORY, MEMORY_AT_2000, NO_WRITES, TRACE, changed};
@@ -30,8 +30,8 @@ fn sink(alloc: Global) -> TestSink
 }
 
 /// Returns the whole trace.
-fn whole(rt: &impl Abort, alloc: Global) -> Vec<u8> {
-    Vec::from_slice(alloc, &TRACE).expect(rt, "memory")
+fn whole(alloc: Global) -> Result<Vec<u8>, AllocError> {
+    Vec::from_slice(alloc, &TRACE)
 }
 
 /// Returns what `run` returns for a job over a source, and the sink afterwards.
@@ -76,67 +76,62 @@ fn refuses<R: Threads + Wait + Sync>(
 }
 
 /// Returns the memory of the trace after all writes and before tick 2000, and the number of its writes.
-fn replayed(rt: &impl Abort, alloc: Global) -> (Image, Image, u32) {
-    let trace = decode(alloc, &TRACE).expect(rt, "a trace");
-    let before = replay_before(alloc, &trace, 2000).expect(rt, "an image");
-    (
-        replay(alloc, &trace).expect(rt, "an image"),
-        before,
-        trace.shape().writes,
-    )
+fn replayed(alloc: Global) -> Result<(Image, Image, u32), Fail> {
+    let trace = decode(alloc, &TRACE)?;
+    let before = replay_before(alloc, &trace, 2000)?;
+    Ok((replay(alloc, &trace)?, before, trace.shape().writes))
 }
 
 #[test]
-fn replays_memory(rt: HostRuntime) {
-    let (memory, before, writes) = replayed(&rt, rt.alloc());
+fn replays_memory(rt: HostRuntime) -> Result<(), Fail> {
+    let (memory, before, writes) = replayed(rt.alloc())?;
     assert!(rt; memory.bytes() == MEMORY.as_slice() && before.bytes() == MEMORY_AT_2000.as_slice());
     assert!(rt; writes == 5);
+    Ok(())
 }
 
 #[test]
-fn writes_memory(rt: HostRuntime) {
+fn writes_memory(rt: HostRuntime) -> Result<(), Fail> {
     let alloc = rt.alloc();
-    let source = TestSource::new(whole(&rt, alloc), 7, None);
+    let source = TestSource::new(whole(alloc)?, 7, None);
     let sink = TestSink::new(Vec::new(alloc), 10, None, false);
     let (answer, sink) = ran(&rt, alloc, &Job::Image, source, sink);
     assert!(rt; answer == Ok(()) && sink.bytes() == MEMORY.as_slice());
+    Ok(())
 }
 
 #[test]
-fn writes_nothing_of_an_empty_trace(rt: HostRuntime) {
-    assert!(rt; writes(&rt, rt.alloc(), &Job::Image, &NO_WRITES, &[0; 64]).expect(&rt, "memory"));
+fn writes_nothing_of_an_empty_trace(rt: HostRuntime) -> Result<(), Fail> {
+    assert!(rt; writes(&rt, rt.alloc(), &Job::Image, &NO_WRITES, &[0; 64])?);
+    Ok(())
 }
 
 /// The same writes in a guest of 16,384 pages of 4,096 bytes.
 #[test]
-fn writes_large_memory(rt: HostRuntime) {
+fn writes_large_memory(rt: HostRuntime) -> Result<(), Fail> {
     let alloc = rt.alloc();
-    let source = TestSource::new(
-        changed(alloc, 102, 5, &[12, 0, 0, 0, 0x40], &[]).expect(&rt, "memory"),
-        50,
-        None,
-    );
+    let source = TestSource::new(changed(alloc, 102, 5, &[12, 0, 0, 0, 0x40], &[])?, 50, None);
     let (answer, sink) = ran(&rt, alloc, &Job::Image, source, sink(alloc));
-    let set = not_zero(alloc, sink.bytes()).expect(&rt, "memory");
+    let set = not_zero(alloc, sink.bytes())?;
     assert!(rt; answer == Ok(()) && sink.bytes().len() == 1 << 26);
     assert!(rt; set.as_slice() == [(0, 1), (4_111, 2), (12_290, 4), (12_291, 5)].as_slice());
+    Ok(())
 }
 
 /// Why a changed trace is refused.
 fn refusal(
-    rt: &impl Abort,
     alloc: Global,
     len: usize,
     place: usize,
     patch: &[u8],
     more: &[u8],
-) -> Option<TraceError> {
-    let bytes = changed(alloc, len, place, patch, more).expect(rt, "memory");
-    decode(alloc, &bytes).err()
+) -> Result<Option<TraceError>, AllocError> {
+    let bytes = changed(alloc, len, place, patch, more)?;
+    Ok(decode(alloc, &bytes).err())
 }
 
 #[test]
-fn refuses_headers(rt: HostRuntime) {
+fn refuses_headers(rt: HostRuntime) -> Result<(), Fail> {
     let alloc = rt.alloc();
     const CHANGES: [(usize, usize, &[u8], TraceError); 14] = [
         (0, 0, &[], TraceError::ShortHeader),
@@ -156,14 +151,15 @@ fn refuses_headers(rt: HostRuntime) {
     ];
     for &(len, place, patch, error) in &CHANGES {
         assert!(rt;
-            refusal(&rt, alloc, len, place, patch, &[]) == Some(error),
+            refusal(alloc, len, place, patch, &[])? == Some(error),
             "{len} bytes, at {place}"
         );
     }
+    Ok(())
 }
 
 #[test]
-fn refuses_records(rt: HostRuntime) {
+fn refuses_records(rt: HostRuntime) -> Result<(), Fail> {
     let alloc = rt.alloc();
     // First the trace without its last byte, and with one byte more.
     const CHANGES: [(usize, usize, &[u8], &[u8], TraceError); 9] = [
@@ -185,10 +181,11 @@ fn refuses_records(rt: HostRuntime) {
     ];
     for &(len, place, patch, more, error) in &CHANGES {
         assert!(rt;
-            refusal(&rt, alloc, len, place, patch, more) == Some(error),
+            refusal(alloc, len, place, patch, more)? == Some(error),
             "{len} bytes, at {place}"
         );
     }
+    Ok(())
 }
 
 /// Returns the trace from a source of pieces of at most `greatest` bytes, one of whose reads may fail.
@@ -203,61 +200,64 @@ fn read_in_pieces(
 }
 
 #[test]
-fn reads_to_the_end(rt: HostRuntime) {
+fn reads_to_the_end(rt: HostRuntime) -> Result<(), Fail> {
     let alloc = rt.alloc();
-    let trace = read_in_pieces(alloc, 1, None).expect(&rt, "memory");
+    let trace = read_in_pieces(alloc, 1, None)?;
     let found = (trace.shift, trace.pages, trace.writes.len());
     let failed = read_in_pieces(alloc, 50, Some(2)).err();
     assert!(rt; (found, failed) == ((4, 4, 5), Some(TraceError::ReadFault)));
+    Ok(())
 }
 
 #[test]
-fn writes_nothing_where_a_read_fails(rt: HostRuntime) {
+fn writes_nothing_where_a_read_fails(rt: HostRuntime) -> Result<(), Fail> {
     let alloc = rt.alloc();
-    let source = TestSource::new(whole(&rt, alloc), 50, Some(2));
+    let source = TestSource::new(whole(alloc)?, 50, Some(2));
     let (answer, sink) = ran(&rt, alloc, &Job::Image, source, sink(alloc));
     let fault = Err(RunError::Trace(TraceError::ReadFault));
     assert!(rt; answer == fault && sink.bytes().is_empty());
+    Ok(())
 }
 
 #[test]
-fn leaves_a_beginning_where_a_write_fails(rt: HostRuntime) {
+fn leaves_a_beginning_where_a_write_fails(rt: HostRuntime) -> Result<(), Fail> {
     let alloc = rt.alloc();
-    let source = TestSource::new(whole(&rt, alloc), 102, None);
+    let source = TestSource::new(whole(alloc)?, 102, None);
     let sink = TestSink::new(Vec::new(alloc), 10, Some(2), false);
     let (answer, sink) = ran(&rt, alloc, &Job::Image, source, sink);
     assert!(rt; answer == Err(RunError::Write) && sink.bytes() == &MEMORY[..10]);
+    Ok(())
 }
 
 #[test]
-fn tells_that_a_flush_failed(rt: HostRuntime) {
+fn tells_that_a_flush_failed(rt: HostRuntime) -> Result<(), Fail> {
     let alloc = rt.alloc();
-    let source = TestSource::new(whole(&rt, alloc), 102, None);
+    let source = TestSource::new(whole(alloc)?, 102, None);
     let sink = TestSink::new(Vec::new(alloc), 64, None, true);
     let (answer, _) = ran(&rt, alloc, &Job::Image, source, sink);
     assert!(rt; answer == Err(RunError::Write));
+    Ok(())
 }
 
 /// Why the writes of the trace are refused in this version, in a guest of `pages` pages of this size.
 fn refusal_of_writes(
-    rt: &impl Abort,
     alloc: Global,
     version: u8,
     shift: u8,
     pages: u32,
-) -> Option<TraceError> {
-    let Trace { writes, .. } = decode(alloc, &TRACE).expect(rt, "a trace");
-    Trace::new(version, shift, pages, writes).err()
+) -> Result<Option<TraceError>, Fail> {
+    let Trace { writes, .. } = decode(alloc, &TRACE)?;
+    Ok(Trace::new(version, shift, pages, writes).err())
 }
 
 #[test]
-fn traces_from_writes(rt: HostRuntime) {
+fn traces_from_writes(rt: HostRuntime) -> Result<(), Fail> {
     let alloc = rt.alloc();
     assert!(rt;
         (
-            refusal_of_writes(&rt, alloc, 1, 4, 4),
-            refusal_of_writes(&rt, alloc, 2, 4, 3),
-            refusal_of_writes(&rt, alloc, 0, 13, 3),
+            refusal_of_writes(alloc, 1, 4, 4)?,
+            refusal_of_writes(alloc, 2, 4, 3)?,
+            refusal_of_writes(alloc, 0, 13, 3)?,
             Trace::new(1, 13, 4, Vec::new(alloc)).err(),
             Trace::new(1, 4, 0, Vec::new(alloc)).err(),
             Trace::new(1, 4, 1, Vec::new(alloc)).err()
@@ -270,62 +270,62 @@ fn traces_from_writes(rt: HostRuntime) {
             None
         )
     );
+    Ok(())
 }
 
 #[test]
-fn encodes_what_it_decodes(rt: HostRuntime) {
+fn encodes_what_it_decodes(rt: HostRuntime) -> Result<(), Fail> {
     let alloc = rt.alloc();
-    let trace = decode(alloc, &TRACE).expect(&rt, "a trace");
-    let bytes = encode(alloc, &trace).expect(&rt, "bytes");
+    let trace = decode(alloc, &TRACE)?;
+    let bytes = encode(alloc, &trace)?;
     assert!(rt; bytes.as_slice() == TRACE.as_slice());
+    Ok(())
 }
 
 /// The memory of the trace, made from its records in place and from its bytes.
-fn replayed_in_place(rt: &impl Abort, alloc: Global) -> (Image, Image) {
-    let view = TraceView::parse(&TRACE).expect(rt, "a trace");
-    (
-        replay_view(alloc, &view).expect(rt, "an image"),
-        replay_bytes(alloc, &TRACE).expect(rt, "an image"),
-    )
+fn replayed_in_place(alloc: Global) -> Result<(Image, Image), Fail> {
+    let view = TraceView::parse(&TRACE)?;
+    Ok((replay_view(alloc, &view)?, replay_bytes(alloc, &TRACE)?))
 }
 
 #[test]
-fn memory_of_bytes_where_they_stand(rt: HostRuntime) {
-    let (image, of_bytes) = replayed_in_place(&rt, rt.alloc());
+fn memory_of_bytes_where_they_stand(rt: HostRuntime) -> Result<(), Fail> {
+    let (image, of_bytes) = replayed_in_place(rt.alloc())?;
     let bytes = of_bytes.into_bytes();
     assert!(rt; image.bytes() == MEMORY.as_slice() && bytes.as_slice() == MEMORY.as_slice());
+    Ok(())
 }
 
 #[test]
-fn pages_of_an_image(rt: HostRuntime) {
+fn pages_of_an_image(rt: HostRuntime) -> Result<(), Fail> {
     let alloc = rt.alloc();
-    let trace = decode(alloc, &TRACE).expect(&rt, "a trace");
+    let trace = decode(alloc, &TRACE)?;
     let shape = trace.shape();
-    let image = replay(alloc, &trace).expect(&rt, "an image");
+    let image = replay(alloc, &trace)?;
     if !image.fits(&shape) || shape.pages != 4 {
-        panic!(rt; "an image of 4 pages");
+        return Err(Fail::from("an image of 4 pages"));
     }
     assert!(rt; image.page(3) == &MEMORY[48..]);
+    Ok(())
 }
 
 #[test]
-fn views_show_each_page(rt: HostRuntime) {
-    let view = TraceView::parse(&TRACE).expect(&rt, "a trace");
+fn views_show_each_page(rt: HostRuntime) -> Result<(), Fail> {
+    let view = TraceView::parse(&TRACE)?;
     let mut pages = Vec::new(rt.alloc());
     for write in view.records() {
-        pages.push(write.page).expect(&rt, "memory");
+        pages.push(write.page)?;
     }
     assert!(rt; pages.as_slice() == [0, 1, 1, 3, 1].as_slice());
+    Ok(())
 }
 
 #[test]
-fn views_become_traces(rt: HostRuntime) {
-    let trace = TraceView::parse(&TRACE)
-        .expect(&rt, "a trace")
-        .to_trace(rt.alloc())
-        .expect(&rt, "a trace");
+fn views_become_traces(rt: HostRuntime) -> Result<(), Fail> {
+    let trace = TraceView::parse(&TRACE)?.to_trace(rt.alloc())?;
     let is_fourth = trace.writes.get(3).is_some_and(|write| {
         write.tick == 2500 && write.offset == 2 && write.bytes.as_slice() == [4, 5].as_slice()
     });
     assert!(rt; is_fourth);
+    Ok(())
 }

@@ -4,6 +4,7 @@ ghost use Rattle.std.specs.Prelude.{⊤};
 
 use super::whole;
 use std::alloc::{AllocError, Global};
+use std::test::Fail;
 use trace_codec::{TestSource, Timeline, TraceError, WriteLog, WriteView};
 use trace_readers::{HeldTrace, IncomingTrace, WriteVisitor};
 use worked_guest::changed;
@@ -77,37 +78,38 @@ pub(crate) fn held(
 }
 
 #[test]
-fn visits_pieces_of_every_size(rt: HostRuntime) {
+fn visits_pieces_of_every_size(rt: HostRuntime) -> Result<(), Fail> {
     let alloc = rt.alloc();
     for greatest in [1, 7, 16, 33, 102, 1000] {
         for least in [0u8, 17, 60, 102, 103] {
-            let visit = visited(alloc, whole(&rt, alloc), greatest, least);
-            let (enough, writes) = visit.expect(&rt, "a trace");
+            let (enough, writes) = visited(alloc, whole(alloc)?, greatest, least)?;
             assert!(rt;
                 enough == (least <= 102) && writes.all.as_slice() == WRITES.as_slice(),
                 "{greatest} {least}"
             );
         }
     }
+    Ok(())
 }
 
 #[test]
-fn holds_pieces_of_every_size(rt: HostRuntime) {
+fn holds_pieces_of_every_size(rt: HostRuntime) -> Result<(), Fail> {
     let alloc = rt.alloc();
     for greatest in [1, 16, 33, 1000] {
         for least in [0u8, 60, 103] {
-            let trace = held(alloc, whole(&rt, alloc), greatest, least).expect(&rt, "memory");
+            let trace = held(alloc, whole(alloc)?, greatest, least)?;
             let mut found = Vec::new(alloc);
             for index in 0..trace.touch_count() {
-                found.push(seen(&trace.write(index))).expect(&rt, "memory");
+                found.push(seen(&trace.write(index)))?;
             }
             assert!(rt; found.as_slice() == WRITES.as_slice(), "{greatest} {least}");
         }
     }
+    Ok(())
 }
 
 #[test]
-fn refuses_the_first_cause_on_the_way(rt: HostRuntime) {
+fn refuses_the_first_cause_on_the_way(rt: HostRuntime) -> Result<(), Fail> {
     let alloc = rt.alloc();
     const REFUSED: [(usize, usize, &[u8], &[u8], TraceError); 5] = [
         (15, 0, &[], &[], TraceError::ShortHeader),
@@ -118,22 +120,13 @@ fn refuses_the_first_cause_on_the_way(rt: HostRuntime) {
     ];
     for &(len, place, patch, more, cause) in &REFUSED {
         for least in [0u8, 70] {
-            let visit = visited(
-                alloc,
-                changed(alloc, len, place, patch, more).expect(&rt, "memory"),
-                20,
-                least,
-            );
-            let hold = held(
-                alloc,
-                changed(alloc, len, place, patch, more).expect(&rt, "memory"),
-                20,
-                least,
-            );
+            let visit = visited(alloc, changed(alloc, len, place, patch, more)?, 20, least);
+            let hold = held(alloc, changed(alloc, len, place, patch, more)?, 20, least);
             assert!(rt;
                 matches!(visit, Err(error) if error == cause)
                     && matches!(hold, Err(error) if error == cause)
             );
         }
     }
+    Ok(())
 }

@@ -5,57 +5,57 @@ use byte_sinks::TestSink;
 use live_engine::{Gate, LiveError, OpenGate, Point};
 use migration_jobs::{Job, RunError, Show, run};
 use rate_limit::{Asked, Settings};
-use std::alloc::Global;
-use std::process::Abort;
+use std::alloc::{AllocError, Global};
 use std::sync::Wait;
 use std::sync::atomic::{AtomicU64, Ordering};
+use std::test::Fail;
 use std::thread;
 use std::thread::Threads;
 use trace_codec::{TestSource, TraceError};
 use worked_guest::{ASKED, MEMORY, MEMORY_AT_2000, TRACE};
 
 /// Returns what a live run over some bytes writes.
-pub(crate) fn shown<R: Abort + Threads + Wait + Sync, G: Gate>(
+pub(crate) fn shown<R: Threads + Wait + Sync, G: Gate>(
     rt: &R,
     alloc: Global,
     bytes: Vec<u8>,
     asked: Asked,
     show: Show,
     gate: &G,
-) -> TestSink {
-    let job = Job::Live(Settings::new(asked).expect(rt, "settings"), show);
+) -> Result<TestSink, Fail> {
+    let job = Job::Live(Settings::new(asked)?, show);
     let mut source = TestSource::new(bytes, 102, None);
     let mut output = sink(alloc);
-    run(rt, alloc, &job, &mut source, &mut output, gate).expect(rt, "a run");
-    output
+    run(rt, alloc, &job, &mut source, &mut output, gate)?;
+    Ok(output)
 }
 
 /// Returns whether live runs over some bytes leave these memories, at the stop and at the end.
-pub(crate) fn leaves<R: Abort + Threads + Wait + Sync>(
+pub(crate) fn leaves<R: Threads + Wait + Sync>(
     rt: &R,
     alloc: Global,
     bytes: &[u8],
     asked: Asked,
     at_stop: &[u8],
     at_end: &[u8],
-) -> bool {
+) -> Result<bool, Fail> {
     let stopped = shown(
         rt,
         alloc,
-        Vec::from_slice(alloc, bytes).expect(rt, "memory"),
+        Vec::from_slice(alloc, bytes)?,
         asked,
         Show::Stop,
         &OpenGate,
-    );
+    )?;
     let ended = shown(
         rt,
         alloc,
-        Vec::from_slice(alloc, bytes).expect(rt, "memory"),
+        Vec::from_slice(alloc, bytes)?,
         asked,
         Show::End,
         &OpenGate,
-    );
-    stopped.bytes() == at_stop && ended.bytes() == at_end
+    )?;
+    Ok(stopped.bytes() == at_stop && ended.bytes() == at_end)
 }
 
 /// Settings of more than one thread of each kind.
@@ -74,20 +74,18 @@ pub(crate) const ONE_ROUND: Asked = Asked {
 };
 
 #[test]
-fn writes_memory_of_a_live_run(rt: HostRuntime) {
+fn writes_memory_of_a_live_run(rt: HostRuntime) -> Result<(), Fail> {
     let alloc = rt.alloc();
     let early = Asked { max: 2, ..MANY };
     let skipping = Asked {
         skip: true,
         ..ASKED
     };
-    let are_left = [
-        leaves(&rt, alloc, &TRACE, ASKED, &MEMORY, &MEMORY),
-        leaves(&rt, alloc, &TRACE, early, &MEMORY, &MEMORY),
-        leaves(&rt, alloc, &TRACE, ONE_ROUND, &MEMORY_AT_2000, &MEMORY),
-        leaves(&rt, alloc, &TRACE, skipping, &MEMORY, &MEMORY),
-    ];
-    assert!(rt; are_left == [true; 4]);
+    assert!(rt; leaves(&rt, alloc, &TRACE, ASKED, &MEMORY, &MEMORY)?);
+    assert!(rt; leaves(&rt, alloc, &TRACE, early, &MEMORY, &MEMORY)?);
+    assert!(rt; leaves(&rt, alloc, &TRACE, ONE_ROUND, &MEMORY_AT_2000, &MEMORY)?);
+    assert!(rt; leaves(&rt, alloc, &TRACE, skipping, &MEMORY, &MEMORY)?);
+    Ok(())
 }
 
 /// Pages of 16 bytes, 65 pages, one write.
@@ -97,15 +95,15 @@ static LAST_PAGE: [u8; 33] = [
 ];
 
 /// Returns the memory of this guest.
-fn memory_of_the_last_page(rt: &impl Abort, alloc: Global) -> Vec<u8> {
-    let mut memory = Vec::from_elem(alloc, 0u8, 1024).expect(rt, "memory");
-    memory.push(7).expect(rt, "memory");
-    memory.extend_from_slice(&[0; 15]).expect(rt, "memory");
-    memory
+fn memory_of_the_last_page(alloc: Global) -> Result<Vec<u8>, AllocError> {
+    let mut memory = Vec::from_elem(alloc, 0u8, 1024)?;
+    memory.push(7)?;
+    memory.extend_from_slice(&[0; 15])?;
+    Ok(memory)
 }
 
 #[test]
-fn writes_a_page_past_the_first_word(rt: HostRuntime) {
+fn writes_a_page_past_the_first_word(rt: HostRuntime) -> Result<(), Fail> {
     let alloc = rt.alloc();
     let asked = Asked {
         min: 10,
@@ -115,15 +113,16 @@ fn writes_a_page_past_the_first_word(rt: HostRuntime) {
         ..ASKED
     };
     for show in [Show::Stop, Show::End] {
-        let bytes = Vec::from_slice(alloc, &LAST_PAGE).expect(&rt, "memory");
-        let output = shown(&rt, alloc, bytes, asked, show, &OpenGate);
-        let expected = memory_of_the_last_page(&rt, alloc);
+        let bytes = Vec::from_slice(alloc, &LAST_PAGE)?;
+        let output = shown(&rt, alloc, bytes, asked, show, &OpenGate)?;
+        let expected = memory_of_the_last_page(alloc)?;
         assert!(rt; output.bytes() == expected.as_slice());
     }
+    Ok(())
 }
 
 #[test]
-fn refusals_of_a_live_run_have_their_names(rt: HostRuntime) {
+fn refusals_of_a_live_run_have_their_names(rt: HostRuntime) -> Result<(), Fail> {
     let alloc = rt.alloc();
     const NAMES: [(RunError, &str); 3] = [
         (RunError::Live(LiveError::Memory), "live L1"),
@@ -131,9 +130,10 @@ fn refusals_of_a_live_run_have_their_names(rt: HostRuntime) {
         (RunError::Trace(TraceError::Memory), "trace E16"),
     ];
     for &(error, text) in &NAMES {
-        let line = format!(in alloc; "{error}").expect(&rt, "memory");
+        let line = format!(in alloc; "{error}")?;
         assert!(rt; line.as_str() == text);
     }
+    Ok(())
 }
 
 /// How often points were reached. Each side waits for the other's first step.
@@ -203,12 +203,13 @@ impl Gate for Meeting {
 }
 
 #[test]
-fn replayers_and_copiers_run_at_once(rt: HostRuntime) {
+fn replayers_and_copiers_run_at_once(rt: HostRuntime) -> Result<(), Fail> {
     let alloc = rt.alloc();
     for show in [Show::Stop, Show::End] {
         let gate = Meeting::new();
-        let output = shown(&rt, alloc, whole(&rt, alloc), ASKED, show, &gate);
+        let output = shown(&rt, alloc, whole(alloc)?, ASKED, show, &gate)?;
         assert!(rt; output.bytes() == MEMORY.as_slice());
         assert!(rt; gate.counts() == [0, 5, 5, 3]);
     }
+    Ok(())
 }

@@ -2,8 +2,8 @@
 
 use super::incoming::{held, visited};
 use super::released::{RELEASED, refusals};
-use std::alloc::Global;
-use std::process::Abort;
+use std::alloc::{AllocError, Global};
+use std::test::Fail;
 use trace_codec::TraceError;
 use worked_guest::TRACE;
 
@@ -16,8 +16,8 @@ enum Cause {
 }
 
 /// Returns the trace in a version that does not exist, with a cause after its header.
-fn of_no_version(rt: &impl Abort, alloc: Global, trace: &[u8], cause: Cause) -> Vec<u8> {
-    let mut bytes = Vec::from_slice(alloc, trace).expect(rt, "memory");
+fn of_no_version(alloc: Global, trace: &[u8], cause: Cause) -> Result<Vec<u8>, AllocError> {
+    let mut bytes = Vec::from_slice(alloc, trace)?;
     for (place, byte) in bytes.iter_mut().enumerate() {
         match cause {
             // The high byte of the fourth write's tick, so that it comes before the third's.
@@ -27,41 +27,38 @@ fn of_no_version(rt: &impl Abort, alloc: Global, trace: &[u8], cause: Cause) -> 
         }
     }
     match cause {
-        Cause::ByteMore => bytes.push(0).expect(rt, "memory"),
+        Cause::ByteMore => bytes.push(0)?,
         Cause::ShortRecord => bytes.truncate(trace.len().saturating_sub(1)),
         Cause::TickOrder => {}
     }
-    bytes
+    Ok(bytes)
 }
 
 #[test]
-fn readers_name_the_version_first(rt: HostRuntime) {
+fn readers_name_the_version_first(rt: HostRuntime) -> Result<(), Fail> {
     let alloc = rt.alloc();
     for cause in [Cause::ByteMore, Cause::ShortRecord, Cause::TickOrder] {
         for trace in [TRACE.as_slice(), RELEASED.as_slice()] {
-            let bytes = of_no_version(&rt, alloc, trace, cause);
+            let bytes = of_no_version(alloc, trace, cause)?;
             let error = Some(TraceError::BadVersion);
-            assert!(rt; refusals(&rt, alloc, &bytes) == [error; 7], "{cause:?}");
+            assert!(rt; refusals(alloc, &bytes)? == [error; 7], "{cause:?}");
         }
     }
+    Ok(())
 }
 
 #[test]
-fn a_trace_on_its_way_names_the_version_first(rt: HostRuntime) {
+fn a_trace_on_its_way_names_the_version_first(rt: HostRuntime) -> Result<(), Fail> {
     let alloc = rt.alloc();
     for cause in [Cause::ByteMore, Cause::ShortRecord, Cause::TickOrder] {
         for trace in [TRACE.as_slice(), RELEASED.as_slice()] {
             for least in [0u8, 70] {
-                let visit = visited(
-                    alloc,
-                    of_no_version(&rt, alloc, trace, cause),
-                    20,
-                    least,
-                ).err();
-                let hold = held(alloc, of_no_version(&rt, alloc, trace, cause), 20, least).err();
+                let visit = visited(alloc, of_no_version(alloc, trace, cause)?, 20, least).err();
+                let hold = held(alloc, of_no_version(alloc, trace, cause)?, 20, least).err();
                 let error = Some(TraceError::BadVersion);
                 assert!(rt; [visit, hold] == [error; 2], "{cause:?}");
             }
         }
     }
+    Ok(())
 }
