@@ -19,7 +19,16 @@ import zipfile
 HERE = os.path.dirname(os.path.abspath(__file__))
 NAME = "libprecopy.so.3"
 LIBRARY = os.path.join(HERE, "..", "..", "out", "library", NAME)
-PARTS = ("__init__.py", "_calls.py", "_interface.py", "_predictions.py", "_refusals.py", "_streams.py", "py.typed")
+PARTS = (
+    "__init__.py",
+    "_calls.py",
+    "_interface.py",
+    "_open_traces.py",
+    "_predictions.py",
+    "_refusals.py",
+    "_streams.py",
+    "py.typed",
+)
 MOMENT = (1980, 1, 1, 0, 0, 0)
 
 

@@ -196,7 +196,8 @@ def check_copies(tally):
 def check_statuses(tally):
     """They are an enumeration, with the numbers of the header, and of a number that is not there they know that."""
     numbers = dict(re.findall(r"\bPRECOPY_(\w+) = (\d+)", read("include/precopy.h", "r")))
-    for it in ("OK", "FEW", "FAST", "ALL_ROUNDS", "YES", "NO", "UNKNOWN", "UNCERTAIN"):
+    reasons = ("FEW", "FAST", "ALL_ROUNDS", "FEW_LEFT", "TRACE_ENDS", "NOT_BEGUN")
+    for it in ("OK", "YES", "NO", "UNKNOWN", "UNCERTAIN", *reasons):
         del numbers[it]
     found = {it.name: str(int(it)) for it in precopy.Status}
     tally.add(issubclass(precopy.Status, enum.IntEnum) and found == numbers, f"statuses are {found}, not {numbers}")
