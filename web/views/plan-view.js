@@ -111,7 +111,7 @@ export class PlanView {
   /** Shows a prediction beside the kept ones, or why there is none, with the last one grey. */
   draw(settings, found, kept) {
     this.last = found.value ?? this.last;
-    for (const id of ["limit-bar", "like-qemu", "reasons", "rounds"]) {
+    for (const id of ["limit-bar", "reasons", "rounds"]) {
       byId(id).classList.toggle("stale", !found.value);
     }
     byId("reasons").hidden = this.last === null;
