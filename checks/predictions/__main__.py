@@ -69,10 +69,9 @@ def programs_of(folder: str, view: str, module: str) -> Programs:
 
 def expect_each(kinds: collections.Counter) -> None:
     told = ", ".join(f"{kind} {count}" for kind, count in sorted(kinds.items()))
-    least = VERDICTS | OTHERS
-    expect(all(kinds[kind] >= count for kind, count in least.items()), f"fewer than {least}: {told}")
-    all_asked = sum(kinds[verdict] for verdict in VERDICTS)
+    least, all_asked = VERDICTS | OTHERS, sum(kinds[verdict] for verdict in VERDICTS)
     expect(5 * kinds["refused"] <= all_asked, f"more than a fifth is refused: {told}")
+    expect(all(kinds[kind] >= count for kind, count in least.items()), f"fewer than {least}: {told}")
     print(f"{all_asked} questions: {told}")
 
 
