@@ -107,7 +107,7 @@ def exact_series(folder, draws, *words, steps=STEPS, size=STEP, pauses=PAUSES, c
     found = segments_in(folder)
     times = written_in(found, count)
     expect(len(times) == steps * size, f"{len(times)} pages")
-    # A store whose fault is served just before a look is told by it, and stored after it: the next look tells it too.
+    # A store whose fault is served just before a look may be stored after it, and then the next look tells it too.
     twice = sum(times.values()) - len(times)
     expect(twice <= 1, f"{twice} more than one write of each page")
     expect(run.told() == [os.path.basename(path) for path, *_ in found], run.output)
