@@ -1,8 +1,9 @@
 //! The plan of a hypervisor, which sends at one rate and looks at its dirty bitmap again only when few pages are left.
 //!
 //! [`look_plan`] makes the plan of a trace: the numbers of its lists, why and when it ends, what is left then, and the
-//! downtime. [`look_sums`] keeps only the sums, in memory that is lent. The laws say what plans of the definition have in common: that there is one, that no page is lost, that a
-//! look finds what was written, and when such a plan is Clark's.
+//! downtime. [`look_sums`] keeps only the sums, in memory that is lent. The laws say what plans of the definition have
+//! in common: that there is one, that no page is lost, that a look finds what was written, and when such a plan is
+//! Clark's.
 //!
 //! ```
 //! let settings = LookSettings::new(asked)?;

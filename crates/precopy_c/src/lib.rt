@@ -2,7 +2,8 @@
 //! enough for a limit, memory, versions of pages, and frames.
 //!
 //! `include/precopy.h` declares them, and says what a caller must do. No call keeps anything between two calls but in
-//! what the caller lends, starts a thread or waits. A call returns 0, or the number of a refusal; it has then written only what its contract names.
+//! what the caller lends, starts a thread or waits. A call returns 0, or the number of a refusal; it has then written
+//! only what its contract names.
 #![tactic(auto)]
 
 mod agreements;

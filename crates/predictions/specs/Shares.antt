@@ -1,5 +1,6 @@
 -- At which shares of its link a migration has the same verdict. A hypervisor may reach less of a link than is asked,
--- and a verdict may turn more than once as the link shrinks: so each whole per cent is tried, down to 50: QEMU reached 85 to 99. This project's own.
+-- and a verdict may turn more than once as the link shrinks: so each whole per cent is tried, down to 50. QEMU reached
+-- 85 to 99. This project's own.
 pub mod Texts
 use Rattle.std.specs.Prelude.{◌≡◌, ◌⊎◌, ℕ, ◌-◌, ◌*◌, ◌/◌, ◌<◌, ◌≤◌, min, nat_lt, List, Option, None, Some}
 use Rattle.std.specs.Option.{option_map}
