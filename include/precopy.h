@@ -101,7 +101,7 @@ enum precopy_status {
     PRECOPY_BAD_HOT = 27,       /* S7: hot is not 1 to 1,048,576 */
     PRECOPY_BAD_START = 28,     /* S8: start is 2^40 or more */
     PRECOPY_BAD_BASE = 30,      /* S10: base is after start */
-    PRECOPY_BAD_SIZE = 31,      /* a struct of settings or of a question has another size than the library knows */
+    PRECOPY_BAD_SIZE = 31,      /* a struct of settings, a question or starts has another size than the library knows */
 
     /* A frame is refused. */
     PRECOPY_FRAME_SHORT = 41, /* F1: a frame is cut off */
@@ -140,7 +140,10 @@ enum precopy_status {
 
     /* A trace is not as a question says. */
     PRECOPY_OTHER_PAGES = 88, /* the pages of the trace have another size than the question says */
-    PRECOPY_MORE_PAGES = 89   /* the trace has more pages than the question says were sampled */
+    PRECOPY_MORE_PAGES = 89,  /* the trace has more pages than the question says were sampled */
+
+    /* Starts are refused. */
+    PRECOPY_TOO_MANY_STARTS = 90 /* there are more than 4,096 starts; take them further apart */
 };
 
 /* A line about a status, in English. It never returns null, and the text stays. */
@@ -499,6 +502,50 @@ struct precopy_link_shares {
 PRECOPY_ANSWERS PRECOPY_NOT_NULL(3, 4, 5)
 uint32_t precopy_link_shares(const uint8_t *trace, size_t trace_length, const struct precopy_question *question,
                              struct precopy_link_shares *shares, uint32_t *record);
+
+/*
+ * From which starts a migration is tried: that of its question, and then one after the other, at a fixed spacing, as
+ * `precopy-view when` does.
+ */
+struct precopy_starts {
+    uint64_t size;      /* sizeof(struct precopy_starts), which grows if a version has more fields */
+    uint64_t to;        /* the tick after which there is no start, if has_to isn't 0; else the last of the trace */
+    uint64_t every;     /* the ticks from one start to the next, if has_every isn't 0; a spacing of 0 counts as 1 */
+    uint32_t has_to;    /* 0: up to the last tick of the trace */
+    uint32_t has_every; /* 0: a 200th of the ticks up to the last start, rounded up */
+};
+
+/* Starts to begin with: at most 201 of them, over the whole trace. */
+#define PRECOPY_STARTS_DEFAULT {sizeof(struct precopy_starts), 0, 0, 0, 0}
+
+/*
+ * The best start of a migration, and what it costs from there. If the migration ends within the trace from no start,
+ * `kept` is unknown, and all else is 0.
+ */
+struct precopy_best_start {
+    uint64_t start;     /* its tick */
+    uint64_t rounds;    /* how many rounds there are */
+    uint64_t time;      /* from the start until the guest runs again, in microseconds */
+    uint64_t bytes;     /* how many bytes of the guest are sent */
+    uint64_t downtime;  /* how long the guest stands still, with the reserve, in microseconds */
+    uint32_t kept;      /* of enum precopy_verdict: whether the downtime is within its limit */
+    uint32_t is_likely; /* 0: the downtime and two standard errors of it are not within the limit */
+};
+
+/*
+ * Sets *best to the best start of the migration of a question, as `precopy-view when` tells it, and *errors to the
+ * standard errors from there, or to zeros. A start that is likely to keep the limit is better than one that is not: its
+ * downtime and two standard errors are within it. Of those that are likely to, the one that sends less is better; of
+ * others the one whose downtime is likely to be less. Then the quicker one is, and of equals the first.
+ *
+ * It tests what precopy_predict does, in the same order, and then the starts, with PRECOPY_TOO_MANY_STARTS and
+ * PRECOPY_BAD_START. It takes memory as precopy_predict does, and some 500 bytes for each start. It takes the time of a
+ * plan for each, and of 20 more for each that is better than all before it if pages were sampled.
+ */
+PRECOPY_ANSWERS PRECOPY_NOT_NULL(3, 4, 5, 6, 7)
+uint32_t precopy_best_start(const uint8_t *trace, size_t trace_length, const struct precopy_question *question,
+                            const struct precopy_starts *starts, struct precopy_best_start *best,
+                            struct precopy_errors *errors, uint32_t *record);
 
 /* ---- memory */
 

@@ -53,7 +53,7 @@
     case PRECOPY_BAD_BASE:
         return "settings S10: base is after start";
     case PRECOPY_BAD_SIZE:
-        return "a struct of settings or of a question has another size than the library knows";
+        return "a struct of settings, a question or starts has another size than the library knows";
     case PRECOPY_FRAME_SHORT:
         return "frame F1: a frame is cut off";
     case PRECOPY_FRAME_PAGE:
@@ -108,3 +108,5 @@
         return "the pages of the trace have another size than the question says";
     case PRECOPY_MORE_PAGES:
         return "the trace has more pages than the question says were sampled";
+    case PRECOPY_TOO_MANY_STARTS:
+        return "there are more than 4,096 starts; take them further apart";

@@ -1,6 +1,6 @@
 """Tries the library for C from outside: its form, its calls beside the program precopy, streams of frames, examples.
 
-    checks/run library [--seed N] [--only PART] [PRECOPY]
+    checks/run library [--seed N] [--only PART] [PRECOPY] [PRECOPY_VIEW]
 
 `make lib` builds the library if need be. What it answers and what the program writes must be what a plain model says,
 byte for byte, over the examples and 500 traces, of which half are damaged. checks/library/rows.c has worked
@@ -11,7 +11,8 @@ is the proved archive, which is built without sanitizers. The address and undefi
 programs around it. Frames are shuffled, repeated, damaged, and cut at every byte. Mistakes are planted in random frames
 of 2,000 streams, of which the library's check must name each (checks/library/streams.py). Versions, writes and steps of
 memory are worked out once more for random traces (checks/library/places.py), also over open traces
-(checks/library/open_traces.py). Numbers out of range and bytes of all
+(checks/library/open_traces.py). So is the best start of random migrations, which precopy-view tells too
+(checks/library/starts.py). Numbers out of range and bytes of all
 kinds go to Python, which pip installs in a fresh environment, and to Rust, whose answers must be the model's too.
 Python is also given memory that overlaps a trace, streams that are cut off, too little memory, and arrays of
 numpy if it has that. The crate is linked with each form of the library. The examples run, and so does what
@@ -34,8 +35,8 @@ def check(tally, given):
         from checks.library import cases
 
         with tempfile.TemporaryDirectory() as folder:
-            cases.check(tally, folder, given.precopy, given.only)
+            cases.check(tally, folder, given)
 
 
 if __name__ == "__main__":
-    run_main(check, __doc__, "precopy")
+    run_main(check, __doc__, "precopy", "precopy_view")

@@ -7,7 +7,7 @@
 #include <string.h>
 
 struct guest {
-    struct room trace, settings, cases, question, sizes, page, stream, streams, lengths, states;
+    struct room trace, settings, cases, question, starts, sizes, page, stream, streams, lengths, states;
     uint64_t tick;
     uint32_t stamp; /* the last version of page 0 */
 };
@@ -45,16 +45,21 @@ static uint32_t sweep(const struct guest *g, struct outputs *out) {
                          out->room.length / sizeof(struct precopy_sums), (void *)out->told.at, (void *)out->record.at);
 }
 
-/* A prediction, and its standard errors behind it, whose last bytes are no part of any of them. */
-static uint32_t predict(const struct guest *g, struct outputs *out) {
-    uint8_t *errors = out->told.at + sizeof(struct precopy_prediction);
-    uint32_t status = precopy_predict(g->trace.at, g->trace.length, (void *)g->question.at, (void *)out->told.at,
-                                      (void *)errors, (void *)out->record.at);
+/* Puts the pattern back behind standard errors that were told, where no part of them is. */
+static uint32_t with_pattern(uint32_t status, uint8_t *errors) {
     if (status == PRECOPY_OK) {
         size_t end = offsetof(struct precopy_errors, has_errors) + sizeof(uint32_t);
         memset(errors + end, PATTERN, sizeof(struct precopy_errors) - end);
     }
     return status;
+}
+
+/* A prediction, and its standard errors behind it. */
+static uint32_t predict(const struct guest *g, struct outputs *out) {
+    uint8_t *errors = out->told.at + sizeof(struct precopy_prediction);
+    uint32_t status = precopy_predict(g->trace.at, g->trace.length, (void *)g->question.at, (void *)out->told.at,
+                                      (void *)errors, (void *)out->record.at);
+    return with_pattern(status, errors);
 }
 
 static uint32_t enough(const struct guest *g, struct outputs *out) {
@@ -75,6 +80,15 @@ static uint32_t forecast(const struct guest *g, struct outputs *out) {
 static uint32_t link_shares(const struct guest *g, struct outputs *out) {
     return precopy_link_shares(g->trace.at, g->trace.length, (void *)g->question.at, (void *)out->told.at,
                                (void *)out->record.at);
+}
+
+/* From starts at ticks that are few, so that a trial takes no longer than others. */
+static uint32_t best_start(const struct guest *g, struct outputs *out) {
+    uint8_t *errors = out->told.at + sizeof(struct precopy_best_start);
+    uint32_t status =
+        precopy_best_start(g->trace.at, g->trace.length, (void *)g->question.at, (void *)g->starts.at,
+                           (void *)out->told.at, (void *)errors, (void *)out->record.at);
+    return with_pattern(status, errors);
 }
 
 static uint32_t memory(const struct guest *g, struct outputs *out) {

@@ -10,7 +10,7 @@ from checks.lib import traces as all_traces
 from checks.lib.harness import drawn, expect
 from checks.lib.library_runs import LIBRARY, is_done, program_says, read, run
 from checks.lib.traces import EXAMPLES
-from checks.library import beside, header, installs, open_traces, places, python, rust, streams, traces
+from checks.library import beside, header, installs, open_traces, places, python, rust, starts, streams, traces
 from precopy_dev.tree import TOP
 from precopy_tools import version
 
@@ -52,7 +52,7 @@ def check_form(tally):
     tally.add(size < 112 * 1024, f"libprecopy.so.3 has {size} bytes")
     print(f"libprecopy.so.3 has {size} bytes, libprecopy.a {os.path.getsize(archive)}", flush=True)
     # The contracts say the same numbers, but for two that no call answers: a failed read, and threads out of range.
-    names = ("Answers", "Places", "Predictions", "StreamChecks")
+    names = ("Answers", "Places", "Predictions", "Starts", "StreamChecks")
     files = ["c_layout/specs/Refusals.antt", *(f"precopy_c/specs/{name}.antt" for name in names)]
     specs = "".join(read(f"crates/{file}", "r") for file in files)
     told = re.findall(r"^number_of\w* .* = (\d+)$", specs, re.M)
@@ -286,8 +286,9 @@ def check_rust(tally, folder, program):
         rust.check(tally, folder, program)
 
 
-def check(tally, folder, program, only):
+def check(tally, folder, given):
     """All of it, or some parts, in a folder that is empty."""
+    program = given.precopy
     parts = {
         "rows": lambda: check_rows(tally, folder),
         "calls": lambda: check_sanitized(tally, folder),
@@ -296,10 +297,11 @@ def check(tally, folder, program, only):
         "streams": lambda: (check_streams(tally), streams.check(tally)),
         "places": lambda: places.check(tally),
         "opened": lambda: open_traces.check(tally),
+        "starts": lambda: starts.check(tally, folder, given.precopy_view),
         "python": lambda: python.check(tally, folder),
         "rust": lambda: check_rust(tally, folder, program),
     }
-    expect(set(only or ()) <= set(parts), f"the parts are {' '.join(parts)}")
+    expect(set(given.only or ()) <= set(parts), f"the parts are {' '.join(parts)}")
     for name, part in parts.items():
-        if not only or name in only:
+        if not given.only or name in given.only:
             part()

@@ -15,6 +15,7 @@ static const uint8_t frame[25] = {0, 0, 0, 0, 1, 0, 0, 0, 1, 5};
 static const struct precopy_settings good = PRECOPY_SETTINGS_DEFAULT;
 static const struct precopy_settings bad = {sizeof bad, 1000, 5000, 500, 0, 30, 0, 1000, 2, 0, 0, 0};
 static const struct precopy_question asked = {sizeof asked, 16000, 0, 0, 0, 1000, 16, 1, 1, 0, 30, 0, 0, 0, 0, 0, 0};
+static const struct precopy_starts all_starts = PRECOPY_STARTS_DEFAULT;
 static const struct precopy_sizes sizes = {4, 1, 1}, no_sizes = {4, 0, 1};
 
 static uint32_t record = 9;
@@ -35,6 +36,7 @@ static void nulls_of_traces(void) {
     struct precopy_agreement agreement;
     struct precopy_forecast forecast;
     struct precopy_link_shares shares;
+    struct precopy_best_start best;
     struct precopy_trace held;
     uint32_t written, words[4];
     size_t count = 9;
@@ -49,6 +51,7 @@ static void nulls_of_traces(void) {
     ROW(precopy_agreement(NULL, 0, &asked, &agreement, &record) == PRECOPY_SHORT_HEADER);
     ROW(precopy_forecast(NULL, 0, &asked, &forecast, &record) == PRECOPY_SHORT_HEADER);
     ROW(precopy_link_shares(NULL, 0, &asked, &shares, &record) == PRECOPY_SHORT_HEADER);
+    ROW(precopy_best_start(NULL, 0, &asked, &all_starts, &best, &errors, &record) == PRECOPY_SHORT_HEADER);
     ROW(precopy_sweep(NULL, 0, NULL, 0, NULL, 0, &count, &record) == PRECOPY_SHORT_HEADER);
     ROW(precopy_sweep(trace, sizeof trace, NULL, 0, NULL, 0, &count, &record) == PRECOPY_OK && count == 0);
     ROW(precopy_sweep(trace, sizeof trace, &good, 1, NULL, 0, &count, &record) == PRECOPY_SHORT_BUFFER && count == 0);
@@ -199,6 +202,26 @@ static void order_of_shares(void) {
     ROW(precopy_link_shares(trace, sizeof trace, &other, &shares, &record) == PRECOPY_OTHER_PAGES);
 }
 
+static void order_of_starts(void) {
+    struct precopy_question other = asked;
+    struct precopy_starts many = {sizeof many, 4096, 1, 1, 1}, short_size = many;
+    struct precopy_best_start best;
+    struct precopy_errors errors;
+    ROW(precopy_best_start(trace, sizeof trace, &asked, &all_starts, &best, &errors, &record) == PRECOPY_OK);
+    ROW(best.kept == PRECOPY_YES && best.start == 0 && best.is_likely == 1);
+    short_size.size = 0, other.tick = 0;
+    ROW(precopy_best_start(trace, 5, &other, &short_size, &best, &errors, &record) == PRECOPY_BAD_SIZE);
+    other.size = 0;
+    ROW(precopy_best_start(trace, 5, &other, &many, &best, &errors, &record) == PRECOPY_BAD_SIZE);
+    other.size = sizeof other;
+    ROW(precopy_best_start(trace, 5, &other, &many, &best, &errors, &record) == PRECOPY_BAD_TICK);
+    other = asked, other.page = 32, other.link = 32000;
+    ROW(precopy_best_start(trace, 32, &other, &many, &best, &errors, &record) == PRECOPY_SHORT_RECORD
+        && forget() == 0);
+    ROW(precopy_best_start(trace, sizeof trace, &other, &many, &best, &errors, &record) == PRECOPY_OTHER_PAGES);
+    ROW(precopy_best_start(trace, sizeof trace, &asked, &many, &best, &errors, &record) == PRECOPY_TOO_MANY_STARTS);
+}
+
 static void order_of_places(void) {
     struct precopy_write writes[1];
     uint32_t version;
@@ -248,6 +271,7 @@ int main(void) {
     order_of_agreements();
     order_of_forecasts();
     order_of_shares();
+    order_of_starts();
     order_of_places();
     order_of_frames();
     printf("%d passed, %d failed\n", passed, failed);

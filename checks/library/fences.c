@@ -220,6 +220,16 @@ uint32_t __wrap_precopy_link_shares(const uint8_t *trace, size_t length, const s
         &all, __real_precopy_link_shares(IN(trace, length), length, IN(question, 1), OUT(shares, 1), OUT(record, 1)));
 }
 
+FENCED(best_start);
+uint32_t __wrap_precopy_best_start(const uint8_t *trace, size_t length, const struct precopy_question *question,
+                                   const struct precopy_starts *starts, struct precopy_best_start *best,
+                                   struct precopy_errors *errors, uint32_t *record) {
+    struct fences all = {.count = 0};
+    return given_back(&all,
+                      __real_precopy_best_start(IN(trace, length), length, IN(question, 1), IN(starts, 1),
+                                                OUT(best, 1), OUT(errors, 1), OUT(record, 1)));
+}
+
 FENCED(memory);
 uint32_t __wrap_precopy_memory(const uint8_t *trace, size_t length, uint8_t *memory, size_t memory_length,
                                size_t *needed, uint32_t *record) {

@@ -302,8 +302,9 @@ static void try_streams(const struct precopy_sizes *sizes, const uint8_t *earlie
 /* ---- one trace */
 
 static void drop_guest(struct guest *guest) {
-    struct room *rooms[] = {&guest->trace, &guest->settings, &guest->cases,   &guest->question, &guest->sizes,
-                            &guest->page,  &guest->stream,   &guest->streams, &guest->lengths,  &guest->states};
+    struct room *rooms[] = {&guest->trace,  &guest->settings, &guest->cases,   &guest->question,
+                            &guest->starts, &guest->sizes,    &guest->page,    &guest->stream,
+                            &guest->streams, &guest->lengths, &guest->states};
     for (size_t i = 0; i < sizeof rooms / sizeof *rooms; i++) {
         drop(rooms[i]);
     }
@@ -328,7 +329,7 @@ static void try_refused(const struct guest *guest, uint32_t status, const struct
     call_of *calls[] = {plan,        rounds,        report,        sweep,       predict,        enough,
                         memory,      memory_before, writes_before, memory_step, version_after,  page_at,
                         page_writes, check_streams, check_piece,   check_pages, versions_after, versions_before,
-                        agreement,   forecast,      link_shares};
+                        agreement,   forecast,      link_shares,   best_start};
     for (size_t i = 0; i < sizeof calls / sizeof *calls; i++) {
         struct outputs out = outputs_of(1920, sizeof(struct precopy_prediction) + sizeof(struct precopy_errors));
         uint32_t told = calls[i](guest, &out);
@@ -380,6 +381,7 @@ static void try_all(struct guest *guest, const struct precopy_sizes *sizes) {
         {"agreement", agreement, 0, sizeof(struct precopy_agreement), 1},
         {"forecast", forecast, 0, sizeof(struct precopy_forecast), 1},
         {"link_shares", link_shares, 0, sizeof(struct precopy_link_shares), 1},
+        {"best_start", best_start, 0, sizeof(struct precopy_best_start) + sizeof(struct precopy_errors), 1},
         {"memory", memory, bytes, sizeof(size_t), 1},
         {"memory_before", memory_before, bytes, sizeof(size_t), 1},
         {"writes_before", writes_before, 0, sizeof(uint32_t), 1},
@@ -423,7 +425,9 @@ int main(int argc, char **argv) {
     struct guest guest = {.trace = input_of(bytes, length), .settings = input_of(&settings, sizeof settings)};
     __real_free(bytes);
     struct precopy_question question = question_of(4096, 1);
+    struct precopy_starts starts = {sizeof starts, 0, 1000, 0, 1};
     guest.cases = input_of(cases, sizeof cases);
+    guest.starts = input_of(&starts, sizeof starts);
     guest.question = input_of(&question, sizeof question);
     guest.tick = strtoull(argv[2], NULL, 10);
     struct outputs out = outputs_of(0, sizeof(struct precopy_sizes));

@@ -25,11 +25,12 @@ LIBRARY = os.path.join(TOP, "out", "library", "libprecopy.so.3")
 SECONDS = 300
 HOSTILE = [-1, 1 << 31, 1 << 32, (1 << 32) + 1, (1 << 32) + 4, 1 << 63, 1 << 64, (1 << 64) + 1, 10**5000]
 HOSTILE += [-(1 << 31), -(1 << 32), -(1 << 63), -(1 << 64), -(10**30)]
-OPTIONAL = ("base", "first", "increment of a question")
+OPTIONAL = ("base", "first", "increment of a question", "best_start, to", "best_start, every")
 NO_NUMBERS = [1.0, 0.5, -1.0, 2.0**32, float("nan"), float("inf"), "1", b"1", None, [], 1j]
 NO_BYTES = [5, -1, 1 << 64, 1.5, None, "text", [1, 2], object()]
 SIZES, PAGE = precopy.Sizes(4, 3, 20), bytes(15) + b"\1"
 OF_QUESTIONS = (precopy.predict, precopy.agreement, precopy.enough, precopy.forecast, precopy.link_shares)
+OF_QUESTIONS += (precopy.best_start,)
 
 
 # ---- Numbers.
@@ -77,6 +78,9 @@ def numbers_of_questions(trace):
     for name, each in ends.items():
         for call in OF_QUESTIONS:
             yield f"{call.__name__}, {name}", answered_with(call, trace, asked, name.split()[0]), each
+    whole = precopy.Question(**asked)
+    yield "best_start, to", lambda it: precopy.best_start(trace, whole, it, 1 << 28), (0, (1 << 40) - 1)
+    yield "best_start, every", lambda it: precopy.best_start(trace, whole, 4096, it), (2, (1 << 64) - 1)
 
 
 def answered_with(call, trace, asked, name):

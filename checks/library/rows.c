@@ -205,6 +205,81 @@ static void shares(void) {
     ROW(are_shares(&asked, (struct precopy_link_shares){50, unknown, unknown}));
 }
 
+/* Whether the best start is this one, with these standard errors, which are of the fields that are not 0. */
+static int is_best(const struct precopy_question *asked, const struct precopy_starts *starts,
+                   struct precopy_best_start wanted, struct precopy_errors far) {
+    struct precopy_best_start told;
+    struct precopy_errors errors;
+    memset(&told, 9, sizeof told);
+    return precopy_best_start(trace, sizeof trace, asked, starts, &told, &errors, &record) == PRECOPY_OK
+           && !memcmp(&told, &wanted, sizeof told)
+           && are_errors(&errors, far.bytes, far.time, far.downtime, far.has_errors);
+}
+
+/* The starts are those of checks/lib/migration_model.py. */
+static void best_starts(void) {
+    struct precopy_question asked = half;
+    struct precopy_starts starts = PRECOPY_STARTS_DEFAULT;
+    struct precopy_errors none = {0, 0, 0, 0}, far = {48, 360008, 129524, 1};
+    uint32_t yes = PRECOPY_YES, no = PRECOPY_NO, unknown = PRECOPY_UNKNOWN;
+    /* 350 ms and two errors of 130 ms are 9 ms above the limit. */
+    ROW(is_best(&asked, &starts, (struct precopy_best_start){13, 1, 2350000, 160, 350000, yes, 0}, far));
+    starts.has_to = starts.has_every = 1, starts.to = 100;
+    ROW(is_best(&asked, &starts, (struct precopy_best_start){1, 1, 2350000, 160, 350000, yes, 0}, far));
+    starts.to = 0, starts.has_every = 0;
+    far.time = 430565;
+    ROW(is_best(&asked, &starts, (struct precopy_best_start){0, 1, 2600000, 192, 600000, yes, 0}, far));
+    starts.has_to = 0, starts.has_every = 1, starts.every = 500, asked.downtime = 900000;
+    far = (struct precopy_errors){32, 172062, 172062, 1};
+    ROW(is_best(&asked, &starts, (struct precopy_best_start){500, 1, 2350000, 160, 350000, yes, 1}, far));
+    asked = half, asked.guest = 4, asked.link = 64, asked.first = 32;
+    ROW(is_best(&asked, &starts, (struct precopy_best_start){500, 1, 2350000, 80, 350000, yes, 1}, none));
+    asked.rounds = 1, asked.downtime = asked.reserve = 0;
+    ROW(is_best(&asked, &starts, (struct precopy_best_start){500, 1, 2250000, 80, 250000, no, 0}, none));
+    asked = half, asked.has_base = 1, asked.base = 6, asked.start = 1201, starts.every = 100;
+    far = (struct precopy_errors){48, 520628, 0, 1};
+    ROW(is_best(&asked, &starts, (struct precopy_best_start){1201, 1, 600000, 32, 100000, yes, 1}, far));
+    asked = half, asked.start = 2400;
+    ROW(is_best(&asked, &starts, (struct precopy_best_start){0, 0, 0, 0, 0, unknown, 0}, none));
+}
+
+/* Returns what is told of some starts, the first at a tick. */
+static uint32_t started(uint64_t first, struct precopy_starts starts) {
+    struct precopy_question asked = half;
+    struct precopy_best_start best = {9, 9, 9, 9, 9, 9, 9}, before = best;
+    struct precopy_errors errors = {9, 9, 9, 9};
+    asked.start = first;
+    uint32_t status = precopy_best_start(trace, sizeof trace, &asked, &starts, &best, &errors, &record);
+    ROW(status == PRECOPY_OK || (!memcmp(&best, &before, sizeof best) && are_errors(&errors, 9, 9, 9, 9)));
+    ROW(record == 9);
+    return status;
+}
+
+static void numbers_of_starts(void) {
+    struct precopy_starts starts = PRECOPY_STARTS_DEFAULT;
+    const uint64_t last = ((uint64_t)1 << 40) - 1, size = sizeof starts;
+    ROW(started(0, starts) == PRECOPY_OK && started(last, starts) == PRECOPY_OK);
+    ROW(started(last + 1, starts) == PRECOPY_BAD_START);
+    starts.has_to = starts.has_every = 1, starts.to = 4095, starts.every = 1;
+    ROW(started(0, starts) == PRECOPY_OK);
+    starts.every = 0;
+    ROW(started(0, starts) == PRECOPY_OK);
+    starts.to = 4096;
+    ROW(started(0, starts) == PRECOPY_TOO_MANY_STARTS && started(1, starts) == PRECOPY_OK);
+    starts.every = UINT64_MAX;
+    ROW(started(0, starts) == PRECOPY_OK && started(5000, starts) == PRECOPY_OK);
+    starts.to = last, starts.every = last;
+    ROW(started(0, starts) == PRECOPY_OK);
+    starts.to = UINT64_MAX, starts.every = (uint64_t)1 << 52;
+    ROW(started(0, starts) == PRECOPY_BAD_START);
+    starts.every--;
+    ROW(started(0, starts) == PRECOPY_TOO_MANY_STARTS);
+    starts.size = size - 1;
+    ROW(started(0, starts) == PRECOPY_BAD_SIZE);
+    starts.size = size + 1;
+    ROW(started(0, starts) == PRECOPY_BAD_SIZE);
+}
+
 /* Compares all fields; behind the last there is a gap. */
 static int are_amounts(const struct precopy_amounts *one, const struct precopy_amounts *other) {
     return !memcmp(one, other, offsetof(struct precopy_amounts, ends) + sizeof one->ends);
@@ -238,6 +313,8 @@ static uint32_t refused(struct precopy_question asked) {
     struct precopy_agreement sure = {9, 9, 9, 9, 9, 9, 9, 9, 9}, not_sure = sure;
     struct precopy_forecast forecast = {9, 9, 9, 9, 9, 9, 9}, not_told = forecast;
     struct precopy_link_shares shares = {9, 9, 9}, no_shares = shares;
+    struct precopy_starts starts = PRECOPY_STARTS_DEFAULT;
+    struct precopy_best_start best = {9, 9, 9, 9, 9, 9, 9}, no_best = best;
     uint32_t status = precopy_predict(trace, sizeof trace, &asked, &told, &errors, &record);
     ROW(told.time == 9 && told.kept == 9 && are_errors(&errors, 9, 9, 9, 9) && record == 9);
     ROW(precopy_enough(trace, sizeof trace, &asked, &amounts, &record) == status);
@@ -248,6 +325,8 @@ static uint32_t refused(struct precopy_question asked) {
     ROW(!memcmp(&forecast, &not_told, sizeof forecast) && record == 9);
     ROW(precopy_link_shares(trace, sizeof trace, &asked, &shares, &record) == status);
     ROW(!memcmp(&shares, &no_shares, sizeof shares) && record == 9);
+    ROW(precopy_best_start(trace, sizeof trace, &asked, &starts, &best, &errors, &record) == status);
+    ROW(!memcmp(&best, &no_best, sizeof best) && are_errors(&errors, 9, 9, 9, 9) && record == 9);
     return status;
 }
 
@@ -595,6 +674,8 @@ int main(void) {
     agreements();
     forecasts();
     shares();
+    best_starts();
+    numbers_of_starts();
     amounts();
     questions();
     memories();

@@ -7,11 +7,11 @@ import re
 import shutil
 
 import precopy
-from checks.lib import stream_model, stream_rows
+from checks.lib import migration_model, stream_model, stream_rows
 from checks.lib import traces as all_traces
 from checks.lib.harness import drawn
 from checks.lib.library_runs import LIBRARY, TOP, is_done, program_says, read, run
-from checks.lib.migration_model import Question, answer_of, sweep_of
+from checks.lib.migration_model import Cost, Question, answer_of, sweep_of
 from checks.lib.tally import left_out, why_not
 from checks.lib.traces import EXAMPLES, Trace
 from checks.lib.view_texts import report_text
@@ -108,6 +108,7 @@ def prediction_lines(trace, asked):
     yield agreement_line(it)
     yield forecast_line(it.forecast)
     yield shares_line(it.share)
+    yield best_line(told, trace)
     yield amounts_line(it.enough)
 
 
@@ -128,6 +129,19 @@ def forecast_line(told):
 def shares_line(found):
     below = found.below and found.below.capitalize()
     return f"shares {found.verdict.capitalize()} {found.share} {below or '-'}"
+
+
+def best_line(asked, trace):
+    """The best of at most eleven starts."""
+    recorded = max(0, trace.last - asked.start)
+    ticks = range(asked.start, max(asked.start, trace.last) + 1, max(1, recorded // 10))
+    best, _ = migration_model.chosen([Cost.of(asked, trace, tick) for tick in ticks], asked, trace)
+    if not best:
+        return "best -"
+    is_likely = str(best.likely() <= asked.downtime).lower()
+    error = f"Some({best.errors[2]})" if best.errors else "None"
+    numbers = f"{best.start} {best.rounds} {best.time} {best.sent} {best.down}"
+    return f"best {numbers} {best.verdict().capitalize()} {is_likely} {error}"
 
 
 def amounts_line(it):

@@ -35,6 +35,7 @@ from ._open_traces import OpenTrace
 from ._predictions import (
     Agreement,
     Amounts,
+    BestStart,
     Errors,
     Forecast,
     ForecastEnd,
@@ -44,6 +45,7 @@ from ._predictions import (
     Reason,
     Verdict,
     agreement,
+    best_start,
     enough,
     forecast,
     link_shares,
@@ -68,13 +70,13 @@ from ._refusals import room as _room
 from ._streams import Finding, StreamCheck, check_streams, writes_before
 
 __all__ = [
-    "Agreement", "Amounts", "BufferRefused", "Errors", "Finding", "FlatMemory", "Forecast", "ForecastEnd", "Frame",
-    "FrameRefused", "LinkShares", "NoMemory", "OpenTrace", "Overlap", "PlaceRefused", "Prediction", "Question",
-    "QuestionRefused", "Reason", "Refused", "Round", "Settings", "SettingsRefused", "Sizes", "Status",
-    "StreamCheck", "Sums", "Taken", "TraceRefused", "Verdict", "Write", "agreement", "check_settings",
-    "check_streams", "check_trace", "decode_frame", "encode_frame", "enough", "forecast", "is_zero", "link_shares",
-    "memory", "memory_before", "memory_step", "page_at", "page_writes", "plan", "predict", "report", "rounds",
-    "sweep", "version", "version_after", "versions_after", "versions_before", "writes_before",
+    "Agreement", "Amounts", "BestStart", "BufferRefused", "Errors", "Finding", "FlatMemory", "Forecast", "ForecastEnd",
+    "Frame", "FrameRefused", "LinkShares", "NoMemory", "OpenTrace", "Overlap", "PlaceRefused", "Prediction", "Question",
+    "QuestionRefused", "Reason", "Refused", "Round", "Settings", "SettingsRefused", "Sizes", "Status", "StreamCheck",
+    "Sums", "Taken", "TraceRefused", "Verdict", "Write", "agreement", "best_start", "check_settings", "check_streams",
+    "check_trace", "decode_frame", "encode_frame", "enough", "forecast", "is_zero", "link_shares", "memory",
+    "memory_before", "memory_step", "page_at", "page_writes", "plan", "predict", "report", "rounds", "sweep", "version",
+    "version_after", "versions_after", "versions_before", "writes_before",
 ]  # fmt: skip
 
 

@@ -60,6 +60,7 @@ class Status(IntEnum):
     BAD_DOWNTIME = 87
     OTHER_PAGES = 88
     MORE_PAGES = 89
+    TOO_MANY_STARTS = 90
 
     @classmethod
     def _missing_(cls, value):
@@ -138,6 +139,14 @@ class LinkShares(Structure):
     _fields_ = [*_of(c_uint64, "percent"), *_of(c_uint32, "converges", "below")]
 
 
+class Starts(Structure):
+    _fields_ = [*_of(c_uint64, "size", "to", "every"), *_of(c_uint32, "has_to", "has_every")]
+
+
+class BestStart(Structure):
+    _fields_ = [*_of(c_uint64, "start", "rounds", "time", "bytes", "downtime"), *_of(c_uint32, "kept", "is_likely")]
+
+
 class Write(Structure):
     _fields_ = [*_of(c_uint64, "tick"), *_of(c_size_t, "size"), *_of(c_uint32, "place", "offset")]
 
@@ -203,6 +212,15 @@ CALLS = {
     "enough": [c_void_p, c_size_t, POINTER(Question), POINTER(Amounts), POINTER(c_uint32)],
     "forecast": [c_void_p, c_size_t, POINTER(Question), POINTER(Forecast), POINTER(c_uint32)],
     "link_shares": [c_void_p, c_size_t, POINTER(Question), POINTER(LinkShares), POINTER(c_uint32)],
+    "best_start": [
+        c_void_p,
+        c_size_t,
+        POINTER(Question),
+        POINTER(Starts),
+        POINTER(BestStart),
+        POINTER(Errors),
+        POINTER(c_uint32),
+    ],
     "memory": [c_void_p, c_size_t, c_void_p, c_size_t, POINTER(c_size_t), POINTER(c_uint32)],
     "memory_before": [c_void_p, c_size_t, c_uint64, c_void_p, c_size_t, POINTER(c_size_t), POINTER(c_uint32)],
     "memory_step": [c_void_p, c_size_t, c_uint32, c_uint32, c_void_p, c_size_t, POINTER(c_uint32)],

@@ -75,6 +75,10 @@ class Errors:
     downtime: int
 
 
+def _errors(found: _interface.Errors) -> Optional[Errors]:
+    return Errors(found.bytes, found.time, found.downtime) if found.has_errors else None
+
+
 @dataclass(frozen=True)
 class Prediction:
     """What a migration will be: the sums of its plan in ticks and pages of the trace, `left` pages after the stop, and
@@ -102,8 +106,7 @@ def predict(trace: Bytes, question: Question) -> Prediction:
     check_over(_LIBRARY.precopy_predict, trace, question._as_c(), found, errors)
     told = {name: getattr(found, name) for name, _ in _interface.Prediction._fields_}
     told |= {"reason": Reason(found.reason), "converges": Verdict(found.converges), "kept": Verdict(found.kept)}
-    moved = Errors(errors.bytes, errors.time, errors.downtime) if errors.has_errors else None
-    return Prediction(**told, errors=moved)
+    return Prediction(**told, errors=_errors(errors))
 
 
 @dataclass(frozen=True)
@@ -205,3 +208,33 @@ def link_shares(trace: Bytes, question: Question) -> LinkShares:
     check_over(_LIBRARY.precopy_link_shares, trace, question._as_c(), found)
     below = Verdict(found.below) if found.below != found.converges else None
     return LinkShares(Verdict(found.converges), found.percent, below)
+
+
+@dataclass(frozen=True)
+class BestStart:
+    """The best start of a migration, and what it costs from there, with times in microseconds. It is likely to keep its
+    limit if the downtime and two standard errors are within it; there are `errors` as of a prediction."""
+
+    start: int
+    rounds: int
+    time: int
+    bytes: int
+    downtime: int
+    kept: Verdict
+    is_likely: bool
+    errors: Optional[Errors]
+
+
+def best_start(
+    trace: Bytes, question: Question, to: Optional[int] = None, every: Optional[int] = None
+) -> Optional[BestStart]:
+    """Returns the best start of the migration of a trace, or None if it ends within the trace from no start. The first
+    is that of the question, and `every` so many ticks there is another, up to the tick `to`. Without these there are at
+    most 201, up to the last tick of the trace."""
+    starts = _interface.Starts(size=ctypes.sizeof(_interface.Starts), has_to=to is not None, has_every=every is not None)
+    starts.to, starts.every = (_number(name, 0 if it is None else it, 64) for name, it in (("to", to), ("every", every)))
+    found, errors = _interface.BestStart(), _interface.Errors()
+    check_over(_LIBRARY.precopy_best_start, trace, question._as_c(), starts, found, errors)
+    told = {name: getattr(found, name) for name, _ in _interface.BestStart._fields_}
+    told |= {"kept": Verdict(found.kept), "is_likely": found.is_likely != 0}
+    return None if found.kept == Verdict.UNKNOWN else BestStart(**told, errors=_errors(errors))

@@ -70,7 +70,7 @@ class PlaceRefused(Refused):
 
 
 class QuestionRefused(Refused):
-    """A question is out of its range, or the trace is not as it says."""
+    """A question is out of its range, or has too many starts, or the trace is not as it says."""
 
 
 class NoMemory(Refused, MemoryError):
@@ -83,7 +83,7 @@ class Overlap(ValueError):
 
 _KINDS = [(range(1, 16), TraceRefused), (range(16, 17), NoMemory), (range(21, 32), SettingsRefused)]
 _KINDS += [(range(41, 46), FrameRefused), (range(61, 66), BufferRefused), (range(67, 72), PlaceRefused)]
-_KINDS += [(range(81, 90), QuestionRefused)]
+_KINDS += [(range(81, 91), QuestionRefused)]
 
 
 def room(make: Callable[..., Made], *words: Any) -> Made:

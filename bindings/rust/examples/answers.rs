@@ -4,7 +4,7 @@
 //!
 //! The numbers are those of the settings. A base of `-` is none, and SKIP is 0 or 1.
 
-use precopy::{Question, Refused, Settings};
+use precopy::{Question, Refused, Settings, Starts};
 use std::error::Error;
 use std::io::Read;
 
@@ -68,6 +68,7 @@ fn print_prediction(trace: &[u8], question: &Question) -> Result<(), Refused> {
     }
     print_agreement(trace, question)?;
     print_forecast(trace, question)?;
+    print_best_start(trace, question)?;
     print_amounts(trace, question)
 }
 
@@ -98,6 +99,23 @@ fn print_forecast(trace: &[u8], question: &Question) -> Result<(), Refused> {
     let found = precopy::link_shares(trace, question)?;
     let below = found.below.map_or("-".to_string(), |verdict| format!("{verdict:?}"));
     println!("shares {:?} {} {below}", found.converges, found.percent);
+    Ok(())
+}
+
+/// The best of at most eleven starts.
+fn print_best_start(trace: &[u8], question: &Question) -> Result<(), Refused> {
+    let recorded = precopy::predict(trace, question)?.recorded / question.tick;
+    let starts = Starts {
+        to: None,
+        every: Some(recorded / 10),
+    };
+    match precopy::best_start(trace, question, &starts)? {
+        Some(it) => println!(
+            "best {} {} {} {} {} {:?} {} {:?}",
+            it.start, it.rounds, it.time, it.bytes, it.downtime, it.kept, it.is_likely, it.errors.map(|it| it.downtime)
+        ),
+        None => println!("best -"),
+    }
     Ok(())
 }
 

@@ -139,6 +139,28 @@ pub struct LinkShares {
 
 #[repr(C)]
 #[derive(Clone, Copy, Default)]
+pub struct Starts {
+    pub size: u64,
+    pub to: u64,
+    pub every: u64,
+    pub has_to: u32,
+    pub has_every: u32,
+}
+
+#[repr(C)]
+#[derive(Clone, Copy, Default)]
+pub struct BestStart {
+    pub start: u64,
+    pub rounds: u64,
+    pub time: u64,
+    pub bytes: u64,
+    pub downtime: u64,
+    pub kept: u32,
+    pub is_likely: u32,
+}
+
+#[repr(C)]
+#[derive(Clone, Copy, Default)]
 pub struct Frame {
     pub page: u32,
     pub stamp: u32,
@@ -257,6 +279,15 @@ extern "C" {
         trace_length: usize,
         question: *const Question,
         shares: *mut LinkShares,
+        record: *mut u32,
+    ) -> u32;
+    pub fn precopy_best_start(
+        trace: *const u8,
+        trace_length: usize,
+        question: *const Question,
+        starts: *const Starts,
+        best: *mut BestStart,
+        errors: *mut Errors,
         record: *mut u32,
     ) -> u32;
     pub fn precopy_memory(

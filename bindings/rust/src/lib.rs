@@ -20,8 +20,8 @@ pub use places::{
     versions_after_into, versions_before, versions_before_into, Write,
 };
 pub use predictions::{
-    agreement, enough, forecast, link_shares, predict, Agreement, Amounts, Errors, Forecast, ForecastEnd, LinkShares,
-    Prediction, Question, Verdict,
+    agreement, best_start, enough, forecast, link_shares, predict, Agreement, Amounts, BestStart, Errors, Forecast,
+    ForecastEnd, LinkShares, Prediction, Question, Starts, Verdict,
 };
 pub use refusals::Refused;
 pub use status::Status;

@@ -116,6 +116,16 @@ pub struct Errors {
     pub downtime: u64,
 }
 
+impl Errors {
+    fn of(found: &calls::Errors) -> Option<Errors> {
+        (found.has_errors != 0).then_some(Errors {
+            bytes: found.bytes,
+            time: found.time,
+            downtime: found.downtime,
+        })
+    }
+}
+
 /// What a migration will be. If the verdicts are unknown, only `recorded` tells something.
 #[derive(Clone, Copy, Debug, PartialEq, Eq)]
 pub struct Prediction {
@@ -162,11 +172,7 @@ impl Prediction {
             recorded: found.recorded,
             converges: Verdict::of(found.converges),
             kept: Verdict::of(found.kept),
-            errors: (errors.has_errors != 0).then_some(Errors {
-                bytes: errors.bytes,
-                time: errors.time,
-                downtime: errors.downtime,
-            }),
+            errors: Errors::of(errors),
         }
     }
 }
@@ -373,4 +379,83 @@ pub fn link_shares(trace: &[u8], question: &Question) -> Result<LinkShares, Refu
     let status =
         unsafe { calls::precopy_link_shares(trace.as_ptr(), trace.len(), &question.as_c(), &mut found, &mut record) };
     with_record(record, checked(status).map(|()| LinkShares::of(&found)))
+}
+
+/// From which starts a migration is tried: that of its question, and then one after the other, at a fixed spacing. The
+/// default is at most 201 of them, up to the last tick of the trace.
+#[derive(Clone, Copy, Debug, Default, PartialEq, Eq)]
+pub struct Starts {
+    /// The tick after which there is no start, if not the last of the trace.
+    pub to: Option<u64>,
+    /// The ticks from one start to the next, if not a 200th of those up to the last start.
+    pub every: Option<u64>,
+}
+
+impl Starts {
+    fn as_c(&self) -> calls::Starts {
+        calls::Starts {
+            size: std::mem::size_of::<calls::Starts>() as u64,
+            to: self.to.unwrap_or(0),
+            every: self.every.unwrap_or(0),
+            has_to: self.to.is_some().into(),
+            has_every: self.every.is_some().into(),
+        }
+    }
+}
+
+/// The best start of a migration, and what it costs from there.
+#[derive(Clone, Copy, Debug, PartialEq, Eq)]
+pub struct BestStart {
+    /// Its tick.
+    pub start: u64,
+    /// How many rounds there are.
+    pub rounds: u64,
+    /// From the start until the guest runs again, in microseconds.
+    pub time: u64,
+    /// How many bytes of the guest are sent.
+    pub bytes: u64,
+    /// How long the guest stands still, with the reserve, in microseconds.
+    pub downtime: u64,
+    /// Whether the downtime is within its limit.
+    pub kept: Verdict,
+    /// Whether the downtime and two standard errors of it are.
+    pub is_likely: bool,
+    /// Standard errors, if a part of the guest's pages was sampled, of two pages or more.
+    pub errors: Option<Errors>,
+}
+
+impl BestStart {
+    fn of(found: &calls::BestStart, errors: &calls::Errors) -> Option<BestStart> {
+        let kept = Verdict::of(found.kept);
+        (kept != Verdict::Unknown).then(|| BestStart {
+            start: found.start,
+            rounds: found.rounds,
+            time: found.time,
+            bytes: found.bytes,
+            downtime: found.downtime,
+            kept,
+            is_likely: found.is_likely != 0,
+            errors: Errors::of(errors),
+        })
+    }
+}
+
+/// Returns the best start of the migration of a trace, or none if it ends within the trace from no start. A start that
+/// is likely to keep the limit of the question is better than one that is not.
+pub fn best_start(trace: &[u8], question: &Question, starts: &Starts) -> Result<Option<BestStart>, Refused> {
+    let (mut found, mut errors) = (calls::BestStart::default(), calls::Errors::default());
+    let mut record = NO_RECORD;
+    // SAFETY: the slice is there for its length; what is written is this function's.
+    let status = unsafe {
+        calls::precopy_best_start(
+            trace.as_ptr(),
+            trace.len(),
+            &question.as_c(),
+            &starts.as_c(),
+            &mut found,
+            &mut errors,
+            &mut record,
+        )
+    };
+    with_record(record, checked(status).map(|()| BestStart::of(&found, &errors)))
 }

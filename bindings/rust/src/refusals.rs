@@ -26,7 +26,7 @@ pub enum Refused {
     /// The guest does not have the page, or the page no such version, or a step ends before it begins.
     #[allow(missing_docs)]
     Place { status: Status },
-    /// A question is out of its range, or the trace is not as it says.
+    /// A question is out of its range, or has too many starts, or the trace is not as it says.
     #[allow(missing_docs)]
     Question { status: Status },
     /// Memory ran out.
@@ -45,7 +45,7 @@ impl Refused {
                 Refused::Frame { status, taken }
             }
             67..=71 => Refused::Place { status },
-            81..=89 => Refused::Question { status },
+            81..=90 => Refused::Question { status },
             _ => Refused::Length { status },
         }
     }

@@ -55,7 +55,7 @@ pub enum Status {
     BadStart = 28,
     /// settings S10: base is after start
     BadBase = 30,
-    /// a struct of settings or of a question has another size than the library knows
+    /// a struct of settings, a question or starts has another size than the library knows
     BadSize = 31,
     /// frame F1: a frame is cut off
     FrameShort = 41,
@@ -111,6 +111,8 @@ pub enum Status {
     OtherPages = 88,
     /// the trace has more pages than the question says were sampled
     MorePages = 89,
+    /// there are more than 4,096 starts; take them further apart
+    TooManyStarts = 90,
     /// a status of a later library, which this crate does not know
     Unknown = 0xffff_ffff,
 }
@@ -171,6 +173,7 @@ impl Status {
             87 => Status::BadDowntime,
             88 => Status::OtherPages,
             89 => Status::MorePages,
+            90 => Status::TooManyStarts,
             _ => Status::Unknown,
         }
     }

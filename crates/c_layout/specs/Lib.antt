@@ -3,3 +3,4 @@ pub mod Settings
 pub mod Sums
 pub mod Forecasts
 pub mod Shares
+pub mod Starts

@@ -2,9 +2,9 @@
 
 ghost use Rattle.std.specs.Prelude.{◌≡◌};
 ghost use Rattle.look_planner.specs.Plans.{end_of};
-ghost use Rattle.predictions.specs.Questions.{capped};
 ghost use Rattle.c_layout.specs.Forecasts.{end_number, kept_number};
 
+use crate::numbers::capped;
 use look_planner::PlanEnd;
 use predictions::looks::LookForecast;
 
@@ -26,13 +26,6 @@ pub struct ForecastNumbers {
     pub end: u32,
     /// Whether it keeps the downtime limit: 0 for yes, 1 for no, and 2 if the trace ends first.
     pub kept: u32,
-}
-
-/// Returns a number, or else the greatest that 64 bits hold.
-fn capped(number: u128) -> u64
-    ensures { result ≡ capped number }
-{
-    number.min(u64::MAX as u128) as u64
 }
 
 /// Returns the number of the end of a plan. No forecast ends since all looks are done.

@@ -2,13 +2,16 @@
 #![tactic(auto)]
 
 mod forecasts;
+mod numbers;
 mod refusals;
 mod settings;
 mod shares;
+mod starts;
 mod sums;
 
 pub use forecasts::ForecastNumbers;
 pub use refusals::{misfit_number, refuse_trace, settings_number, trace_number, units_number};
 pub use settings::PlanSettings;
 pub use shares::ShareNumbers;
+pub use starts::{BestStartNumbers, best_error_numbers};
 pub use sums::PlanSums;

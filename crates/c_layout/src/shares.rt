@@ -1,9 +1,6 @@
 //! The shares of a link that have one verdict.
 
-ghost use Rattle.std.specs.Prelude.{◌≡◌};
-ghost use Rattle.predictions.specs.Questions.{verdict_number};
-
-use predictions::Verdict;
+use crate::numbers::verdict_number;
 use predictions::shares::LinkShare;
 
 /// Whether a migration converges at all of its link, and down to which share of it: C's `struct precopy_link_shares`.
@@ -17,18 +14,6 @@ pub struct ShareNumbers {
     /// Whether it does at one per cent less than the least share, in the same numbers: another one. If less than a half
     /// would be tried, the same one.
     pub below: u32,
-}
-
-/// Returns the number of a verdict.
-fn verdict_number(verdict: Verdict) -> u32
-    ensures { result ≡ verdict_number verdict }
-{
-    match verdict {
-        Verdict::Yes => 0,
-        Verdict::No => 1,
-        Verdict::Unknown => 2,
-        Verdict::Uncertain => 3,
-    }
 }
 
 impl ShareNumbers {

@@ -8,6 +8,7 @@ pub mod Enough
 pub mod Agreements
 pub mod Forecasts
 pub mod LinkShares
+pub mod Starts
 pub mod Memories
 pub mod Frames
 pub mod FlatMemory

@@ -30,6 +30,7 @@ mod questions;
 mod reports;
 mod settings;
 mod sizes;
+mod starts;
 mod sweeps;
 mod traces;
 mod versions;
