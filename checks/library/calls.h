@@ -85,9 +85,8 @@ static uint32_t link_shares(const struct guest *g, struct outputs *out) {
 /* From starts at ticks that are few, so that a trial takes no longer than others. */
 static uint32_t best_start(const struct guest *g, struct outputs *out) {
     uint8_t *errors = out->told.at + sizeof(struct precopy_best_start);
-    uint32_t status =
-        precopy_best_start(g->trace.at, g->trace.length, (void *)g->question.at, (void *)g->starts.at,
-                           (void *)out->told.at, (void *)errors, (void *)out->record.at);
+    uint32_t status = precopy_best_start(g->trace.at, g->trace.length, (void *)g->question.at, (void *)g->starts.at,
+                                         (void *)out->told.at, (void *)errors, (void *)out->record.at);
     return with_pattern(status, errors);
 }
 

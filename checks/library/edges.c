@@ -216,8 +216,7 @@ static void order_of_starts(void) {
     other.size = sizeof other;
     ROW(precopy_best_start(trace, 5, &other, &many, &best, &errors, &record) == PRECOPY_BAD_TICK);
     other = asked, other.page = 32, other.link = 32000;
-    ROW(precopy_best_start(trace, 32, &other, &many, &best, &errors, &record) == PRECOPY_SHORT_RECORD
-        && forget() == 0);
+    ROW(precopy_best_start(trace, 32, &other, &many, &best, &errors, &record) == PRECOPY_SHORT_RECORD && forget() == 0);
     ROW(precopy_best_start(trace, sizeof trace, &other, &many, &best, &errors, &record) == PRECOPY_OTHER_PAGES);
     ROW(precopy_best_start(trace, sizeof trace, &asked, &many, &best, &errors, &record) == PRECOPY_TOO_MANY_STARTS);
 }

@@ -225,9 +225,8 @@ uint32_t __wrap_precopy_best_start(const uint8_t *trace, size_t length, const st
                                    const struct precopy_starts *starts, struct precopy_best_start *best,
                                    struct precopy_errors *errors, uint32_t *record) {
     struct fences all = {.count = 0};
-    return given_back(&all,
-                      __real_precopy_best_start(IN(trace, length), length, IN(question, 1), IN(starts, 1),
-                                                OUT(best, 1), OUT(errors, 1), OUT(record, 1)));
+    return given_back(&all, __real_precopy_best_start(IN(trace, length), length, IN(question, 1), IN(starts, 1),
+                                                      OUT(best, 1), OUT(errors, 1), OUT(record, 1)));
 }
 
 FENCED(memory);

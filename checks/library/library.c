@@ -302,9 +302,9 @@ static void try_streams(const struct precopy_sizes *sizes, const uint8_t *earlie
 /* ---- one trace */
 
 static void drop_guest(struct guest *guest) {
-    struct room *rooms[] = {&guest->trace,  &guest->settings, &guest->cases,   &guest->question,
-                            &guest->starts, &guest->sizes,    &guest->page,    &guest->stream,
-                            &guest->streams, &guest->lengths, &guest->states};
+    struct room *rooms[] = {&guest->trace,   &guest->settings, &guest->cases, &guest->question,
+                            &guest->starts,  &guest->sizes,    &guest->page,  &guest->stream,
+                            &guest->streams, &guest->lengths,  &guest->states};
     for (size_t i = 0; i < sizeof rooms / sizeof *rooms; i++) {
         drop(rooms[i]);
     }

@@ -225,16 +225,22 @@ class BestStart:
     errors: Optional[Errors]
 
 
+def _starts(to: Optional[int], every: Optional[int]) -> _interface.Starts:
+    asked = _interface.Starts(size=ctypes.sizeof(_interface.Starts))
+    for name, ticks in (("to", to), ("every", every)):
+        setattr(asked, f"has_{name}", ticks is not None)
+        setattr(asked, name, _number(name, 0 if ticks is None else ticks, 64))
+    return asked
+
+
 def best_start(
     trace: Bytes, question: Question, to: Optional[int] = None, every: Optional[int] = None
 ) -> Optional[BestStart]:
     """Returns the best start of the migration of a trace, or None if it ends within the trace from no start. The first
     is that of the question, and `every` so many ticks there is another, up to the tick `to`. Without these there are at
     most 201, up to the last tick of the trace."""
-    starts = _interface.Starts(size=ctypes.sizeof(_interface.Starts), has_to=to is not None, has_every=every is not None)
-    starts.to, starts.every = (_number(name, 0 if it is None else it, 64) for name, it in (("to", to), ("every", every)))
     found, errors = _interface.BestStart(), _interface.Errors()
-    check_over(_LIBRARY.precopy_best_start, trace, question._as_c(), starts, found, errors)
+    check_over(_LIBRARY.precopy_best_start, trace, question._as_c(), _starts(to, every), found, errors)
     told = {name: getattr(found, name) for name, _ in _interface.BestStart._fields_}
     told |= {"kept": Verdict(found.kept), "is_likely": found.is_likely != 0}
     return None if found.kept == Verdict.UNKNOWN else BestStart(**told, errors=_errors(errors))

@@ -112,7 +112,14 @@ fn print_best_start(trace: &[u8], question: &Question) -> Result<(), Refused> {
     match precopy::best_start(trace, question, &starts)? {
         Some(it) => println!(
             "best {} {} {} {} {} {:?} {} {:?}",
-            it.start, it.rounds, it.time, it.bytes, it.downtime, it.kept, it.is_likely, it.errors.map(|it| it.downtime)
+            it.start,
+            it.rounds,
+            it.time,
+            it.bytes,
+            it.downtime,
+            it.kept,
+            it.is_likely,
+            it.errors.map(|it| it.downtime)
         ),
         None => println!("best -"),
     }
