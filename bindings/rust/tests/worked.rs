@@ -4,8 +4,8 @@ mod guest;
 
 use guest::TRACE;
 use precopy::{
-    Amounts, Errors, Forecast, ForecastEnd, LinkShares, OpenTrace, Question, Reason, Refused, Settings, Sizes, Status,
-    Sums, Taken, Verdict, Write,
+    Amounts, BestStart, Errors, Forecast, ForecastEnd, LinkShares, OpenTrace, Question, Reason, Refused, Settings,
+    Sizes, Starts, Status, Sums, Taken, Verdict, Write,
 };
 
 const REPORT: &str = "trace pages 4 size 16 writes 5
@@ -206,6 +206,37 @@ fn link_shares() {
         ..half()
     };
     assert_eq!(precopy::link_shares(&TRACE, &warm), shares(Verdict::Yes, 50, None));
+}
+
+#[test]
+fn best_starts() {
+    let found = precopy::best_start(&TRACE, &half(), &Starts::default());
+    let best = BestStart {
+        start: 13,
+        rounds: 1,
+        time: 2_350_000,
+        bytes: 160,
+        downtime: 350_000,
+        kept: Verdict::Yes,
+        is_likely: false,
+        errors: Some(Errors {
+            bytes: 48,
+            time: 360_008,
+            downtime: 129_524,
+        }),
+    };
+    assert_eq!(found, Ok(Some(best)));
+    let late = Question { start: 2400, ..half() };
+    assert_eq!(precopy::best_start(&TRACE, &late, &Starts::default()), Ok(None));
+    let many = Starts {
+        to: Some(4096),
+        every: Some(1),
+    };
+    let status = Status::TooManyStarts;
+    assert_eq!(
+        precopy::best_start(&TRACE, &half(), &many),
+        Err(Refused::Question { status })
+    );
 }
 
 #[test]

@@ -3,6 +3,7 @@ pub mod Flat
 pub mod Replayed
 pub mod Streams
 pub mod Given
+pub mod StartRefusals
 pub mod PageVersions
 pub mod PageVersionsAll
 pub mod PageRows
