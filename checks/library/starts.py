@@ -4,6 +4,7 @@
 import collections
 import json
 import os
+from dataclasses import replace
 
 import precopy
 from checks.lib import migration_model
@@ -13,19 +14,27 @@ from checks.lib.traces import Trace, generated
 from checks.lib.view_texts import parsed, ran
 from checks.predictions.questions import random_question
 
-TRIES, SELDOM = 400, 20
+TRIES, SELDOM = 1500, 20
 TOO_MANY, BAD_START, LAST_START = 90, 28, (1 << 40) - 1
-LEAST = {"likely": 40, "kept": 4, "not kept": 20, "unknown": 40, "refused": 20, "with errors": 40}
+LEAST = {"likely": 300, "kept": 2, "not kept": 20, "unknown": 200, "refused": 100, "with errors": 250}
 
 
 def drawn_starts(chosen, first, last):
     """The tick after which there is no start, and the ticks between two: seldom too many, or a start too late."""
-    to = chosen.choice([None, chosen.randrange(2 * last + 2)])
+    to = chosen.choice([None, first, chosen.randrange(2 * last + 2)])
     end = max(first, last if to is None else to)
     every = max(1, (end - first) // chosen.randrange(1, 8))
     if chosen.randrange(SELDOM) == 0:
         return chosen.choice([(first + 4096, 1), (first + 4096, 0), ((1 << 40) + first, 1 << 36), ((1 << 64) - 1, 1)])
     return to, None if end - first < 20 else every
+
+
+def question(chosen, trace):
+    """A question about a trace, often with a downtime and rounds that few starts are likely to keep."""
+    asked = random_question(chosen, trace)
+    for_pages = max(0, asked.downtime - asked.reserve) // chosen.choice([1, 1, 4, 16])
+    rounds = chosen.choice([asked.rounds, asked.rounds, 1, 2])
+    return replace(asked, downtime=min(asked.reserve, asked.downtime) + for_pages, rounds=rounds)
 
 
 def ticks_of(first, last, to, every):
@@ -39,7 +48,9 @@ def refusal_of(asked, trace, ticks):
     """The status for which the question or its starts are refused, or 0."""
     if refusal := asked.refusal(trace, by_library=True):
         return refusal.number
-    return TOO_MANY if len(ticks) > 4096 else BAD_START if ticks[-1] > LAST_START else 0
+    # There may be more of them than len() tells.
+    most = (ticks.stop - 1 - ticks.start) // ticks.step
+    return TOO_MANY if most >= 4096 else BAD_START if ticks[most] > LAST_START else 0
 
 
 def told_by_library(trace, asked, starts):
@@ -97,7 +108,7 @@ def check(tally, folder, view):
         with open(path, "wb") as file:
             file.write(text)
         trace = Trace(text)
-        asked = random_question(chosen, trace)
+        asked = question(chosen, trace)
         with tally.case(str(chosen)) as case:
             kinds.update(check_starts(case, view, path, asked, trace, drawn_starts(chosen, asked.start, trace.last)))
     told = ", ".join(f"{kind} {count}" for kind, count in sorted(kinds.items()))
