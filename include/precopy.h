@@ -539,8 +539,9 @@ struct precopy_best_start {
  * others the one whose downtime is likely to be less. Then the quicker one is, and of equals the first.
  *
  * It tests what precopy_predict does, in the same order, and then the starts, with PRECOPY_TOO_MANY_STARTS and
- * PRECOPY_BAD_START. It takes memory as precopy_predict does, and some 500 bytes for each start. It takes the time of a
- * plan for each, and of 20 more for each that is better than all before it if pages were sampled.
+ * PRECOPY_BAD_START. It takes memory as precopy_sweep does with a case for each start, and for standard errors as
+ * precopy_predict does. It takes the time of a plan for each start, and of 20 more for each that is better than all
+ * before it if pages were sampled.
  */
 PRECOPY_ANSWERS PRECOPY_NOT_NULL(3, 4, 5, 6, 7)
 uint32_t precopy_best_start(const uint8_t *trace, size_t trace_length, const struct precopy_question *question,
