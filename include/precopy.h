@@ -509,7 +509,7 @@ uint32_t precopy_link_shares(const uint8_t *trace, size_t trace_length, const st
  */
 struct precopy_starts {
     uint64_t size;      /* sizeof(struct precopy_starts), which grows if a version has more fields */
-    uint64_t to;        /* the tick after which there is no start, if has_to isn't 0; else the last of the trace */
+    uint64_t to;        /* the tick after which there is no other start, if has_to isn't 0; else the trace's last */
     uint64_t every;     /* the ticks from one start to the next, if has_every isn't 0; a spacing of 0 counts as 1 */
     uint32_t has_to;    /* 0: up to the last tick of the trace */
     uint32_t has_every; /* 0: a 200th of the ticks up to the last start, rounded up */
@@ -535,8 +535,8 @@ struct precopy_best_start {
 /*
  * Sets *best to the best start of the migration of a question, as `precopy-view when` tells it, and *errors to the
  * standard errors from there, or to zeros. A start that is likely to keep the limit is better than one that is not: its
- * downtime and two standard errors are within it. Of those that are likely to, the one that sends less is better; of
- * others the one whose downtime is likely to be less. Then the quicker one is, and of equals the first.
+ * downtime and two standard errors are within it. Of two that are not, the one with the lower sum of these is better.
+ * Then the one that sends less is, then the quicker one, and of equals the first.
  *
  * It tests what precopy_predict does, in the same order, and then the starts, with PRECOPY_TOO_MANY_STARTS and
  * PRECOPY_BAD_START. It takes memory as precopy_sweep does with a case for each start, and for standard errors as
