@@ -515,7 +515,7 @@ struct precopy_starts {
     uint32_t has_every; /* 0: a 200th of the ticks up to the last start, rounded up */
 };
 
-/* Starts to begin with: at most 201 of them, over the whole trace. */
+/* Starts to begin with: at most 201, from that of the question to the last tick of the trace. */
 #define PRECOPY_STARTS_DEFAULT {sizeof(struct precopy_starts), 0, 0, 0, 0}
 
 /*
