@@ -2,7 +2,6 @@ use Rattle.std.proofs.Common.{◌≡◌, ◌∙◌, ap, subst, sym}
 use Rattle.std.proofs.lemmas.Result.{err_from_is_err_and}
 use Rattle.migration_model.proofs.Traces.{one_trace_lem}
 use Rattle.migration_model.specs.Touches.{GuestTouches, touches_in}
-use Rattle.predictions.specs.Questions.{terms_of}
 use Rattle.predictions.specs.declared.question.Terms.{Terms}
 use Rattle.predictions.specs.declared.starts.cases.Starts.{Starts}
 use Rattle.predictions.specs.declared.starts.error.StartsError.{StartsError}
