@@ -1,11 +1,11 @@
 // The page: it holds the state, has each change planned by the worker, and has the sections drawn.
 
-import { ControlRefusal, refusalOf, takeRules } from "./model/asking.js";
+import { ControlRefusal, takeRules } from "./model/asking.js";
 import { CommandsView } from "./views/commands-view.js";
 import { Controls } from "./views/controls.js";
 import { derivedWords } from "./model/derived.js";
 import { announce, byId, keepFocus, oncePerFrame } from "./views/elements.js";
-import { fittedSettings, withRecord } from "./model/fitting.js";
+import { fittedSettings, withLimitsOf, withRecord } from "./model/fitting.js";
 import { KeptPlans } from "./model/kept-plans.js";
 import { nearestSettings } from "./model/nearest.js";
 import { momentText, unbroken } from "./model/numbers.js";
@@ -26,7 +26,7 @@ import { StartsView } from "./views/starts-view.js";
 import { fragmentOf, MOST_KEPT, presetOf, stateIn, withoutPreset } from "./model/state.js";
 import { suggestionsOf } from "./model/suggestions.js";
 import { TimePlots } from "./views/time-plots.js";
-import { TraceDesk } from "./views/trace-desk.js";
+import { listenToDrops, TraceDesk } from "./views/trace-desk.js";
 import { embeddedBytes } from "./engine/trace-source.js";
 import { amountOf, microsOf } from "./model/units.js";
 import { WindowsView } from "./views/windows-view.js";
@@ -58,6 +58,8 @@ class Page {
     // Whether the settings over the open trace came with an address, and the fingerprint of the trace that it names.
     this.isAddressed = false;
     this.addressed = this.state.print;
+    // How many addresses were followed, how many of their traces are still to come, and whose settings are shown.
+    [this.followed, this.openings, this.taken] = [0, 0, null];
     this.fitted = new Set();
     this.chosen = new Set();
     this.keptPlans = new KeptPlans((trace, settings) => foundBy(() => predictionOf(trace, settings)));
@@ -92,23 +94,10 @@ class Page {
     byId("keep").addEventListener("click", () => this.keep());
     byId("undo-start").addEventListener("click", () => this.undoStart());
     byId("comparison").addEventListener("click", ({ target }) => this.pressed(target));
-    this.listenToDrops();
+    listenToDrops((files) => this.takeFiles(files));
     addEventListener("popstate", () => this.follow());
     listenToPrinting(() => this.draw());
     watchWidths([byId("windows-plot"), byId("starts-plot"), byId("links-plot"), byId("map-plot")], this.planSoon);
-  }
-
-  listenToDrops() {
-    const over = (isOver) => (event) => {
-      event.preventDefault();
-      byId("trace").classList.toggle("over", isOver);
-    };
-    addEventListener("dragover", over(true));
-    addEventListener("dragleave", over(false));
-    addEventListener("drop", (event) => {
-      over(false)(event);
-      this.takeFiles([...event.dataTransfer.files]);
-    });
   }
 
   async takeExample(example) {
@@ -134,8 +123,12 @@ class Page {
     }
   }
 
-  /** Takes a trace that is open now, with settings for it. */
-  take(trace, { isGiven = false, isRecordOnly = false }) {
+  /** Takes a trace that is open now, with settings for it; unless it is of an address that was left meanwhile. */
+  take(trace, { isGiven = false, isRecordOnly = false, followed = this.followed }) {
+    if (followed !== this.followed && this.opensAddressed()) {
+      return;
+    }
+    this.taken = trace;
     const { example } = trace.source;
     this.isAddressed = isRecordOnly ? this.isAddressed : isGiven;
     this.fitted = new Set();
@@ -186,13 +179,9 @@ class Page {
     if (isRecordOnly || this.isAddressed || kept.length + this.keptPlans.others.length === 0) {
       return settings;
     }
-    const { link, first, increase, downtime, reserve, rounds } = before;
-    const same = { ...settings, link, first, increase, downtime, reserve, rounds };
-    if (refusalOf(same, sizes) !== null) {
-      return settings;
-    }
-    this.fitted = new Set();
-    return same;
+    const same = withLimitsOf(before, settings, sizes);
+    this.fitted = same === null ? this.fitted : new Set();
+    return same ?? settings;
   }
 
   /** The settings that are fitted to another trace. Those of an example go with it. */
@@ -277,7 +266,6 @@ class Page {
 
   /** Follows an address: the user went back or forward, or changed it. */
   follow() {
-    const before = this.desk.trace?.source.example;
     this.state = stateIn(location.hash);
     clearTimeout(this.settling);
     this.isGiven = true;
@@ -286,13 +274,8 @@ class Page {
     this.fitted = new Set(this.past.follow().fitted ?? []);
     this.keptPlans.forget();
     byId("moved").hidden = true;
-    const { example, print } = this.state;
-    if (example && example !== before) {
-      this.desk.takeExample(example, { isGiven: true });
-      return;
-    }
-    if (!example && print && print !== this.desk.trace?.print && this.desk.sources.has(print)) {
-      this.desk.reopen(print, { isGiven: true });
+    this.followed += 1;
+    if (this.opensAddressed()) {
       return;
     }
     if (this.desk.trace) {
@@ -303,6 +286,34 @@ class Page {
     this.planAnew();
     this.tellAddress();
     this.announce();
+  }
+
+  /** Opens the trace of the address, if another one is open and the page has it, and says whether it does. */
+  opensAddressed() {
+    const { desk, followed, state: { example, print } } = this;
+    const wish = { isGiven: true, followed };
+    if (example && example !== desk.trace?.source.example) {
+      this.openAddressed(desk.takeExample(example, wish));
+      return true;
+    }
+    if (!example && print && print !== desk.trace?.print && desk.sources.has(print)) {
+      this.openAddressed(desk.reopen(print, wish));
+      return true;
+    }
+    return false;
+  }
+
+  /** Waits for the trace of an address. If it is refused, one that was opened before it may still have to be taken. */
+  async openAddressed(opening) {
+    this.openings += 1;
+    try {
+      await opening;
+    } finally {
+      this.openings -= 1;
+    }
+    if (this.openings === 0 && this.desk.trace !== this.taken) {
+      this.take(this.desk.trace, { isGiven: true });
+    }
   }
 
   predicted(trace) {
@@ -320,9 +331,9 @@ class Page {
     }
     this.isPlanning = true;
     try {
-      while (this.isAgain && this.desk.trace) {
+      while (this.isAgain && this.taken && this.taken === this.desk.trace) {
         this.isAgain = false;
-        await this.planOnce(this.desk.trace);
+        await this.planOnce(this.taken);
       }
     } finally {
       this.isPlanning = false;

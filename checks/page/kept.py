@@ -39,8 +39,16 @@ def check_comparison(page):
 HEADS = "[...document.querySelectorAll('#comparison thead th')].map((cell) => cell.textContent.replace(/\\s+/g, ' '))"
 
 
+# What of a kept plan is compared with this one.
+DIFFERENCES = """[...document.querySelectorAll("#comparison .difference")].map((words) =>
+  words.closest("tr").querySelector("[data-name]").dataset.name)"""
+# Up to how many pages the pictures of rounds go.
+TOPS = """["this", "kept-1"].map((name) => document.querySelector(`#rounds-plot-${name} text.end`).textContent)"""
+
+
 def check_second_trace(page):
-    """A kept plan stays when another trace is opened, with the name of its own, beside a plan with the same limits."""
+    """A kept plan stays when another trace is opened, with the name of its own, beside a plan with the same limits. Its
+    sample of 4,154 pages stands for 129,819: its pages and its moments are no numbers of another trace's."""
     page.open("#trace=sqlite&link=64MiB&first=50&downtime=300ms&start=1000")
     page.wait_for_plan()
     page.after("document.getElementById('keep').click()")
@@ -57,6 +65,12 @@ def check_second_trace(page):
     )
     require(numbers == [words for words, _ in before.values()], f"{numbers} in place of {before}")
     require(page.shown()["comparison"] != before, "the plan over another trace is the same")
+    typed(page, "link", "100")
+    differing = page.browser.value(DIFFERENCES)
+    require(differing == ["downtime", "time", "sent", "rounds"], f"compared over two traces: {differing}")
+    typed(page, "link", "64")
+    tops = page.browser.value(TOPS)
+    require(tops == ["129,819", "4,154"], f"as much memory is not as high: {tops} pages are at the top")
     page.after("document.getElementById('keep').click()")
     require(len(page.browser.value(HEADS)) == 3, f"{page.browser.value(HEADS)}")
     page.after("document.querySelector('[data-drops=\"0\"]').click()")

@@ -231,7 +231,7 @@ def check_map(page):
     cells = sum(colours.values())
     require((cells, rows) == (len(wanted), ROWS) and len(colours) == 5, f"{cells} cells in {colours}: {len(wanted)}")
     words, mark = page.browser.value(f"[textOf('map-most'), {MARKED}]")
-    require(f"Most of the {len(writes):,} writes" in words, words)
+    require(f"The {len(writes):,} writes that are shown are densest in " in words, words)
     require(mark and abs(mark - 0.5) < 0.01, f"a moment of the working set is marked at {mark} of the map")
     page.browser.value("document.getElementById('zoom-plan').click()")
     page.browser.wait("!textOf('map-most').includes('16,294')", 5)

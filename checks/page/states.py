@@ -299,11 +299,13 @@ def check_stacked(page):
 
 
 def check_paper(page, folder):
-    """On paper the page is one: settings, prediction and pictures. With kept plans it may be two. No row has a gap."""
+    """On paper the page is one: settings, prediction and pictures. With starts or kept plans it may be two, and no
+    picture is left out. No row has a gap."""
     browser = page.browser
     for name in ("starts", "kept", "many-kept", "refused-control", "enough"):
         browser.dress(1400, HEIGHT, is_dark=True)
         STATES[name](page)
+        page.rest()
         browser.call("Emulation.setEmulatedMedia", media="print")
         browser.value("dispatchEvent(new Event('beforeprint'))")
         gaps = browser.value(GAPS.replace("PLACES", ".pair, #results"))
@@ -315,9 +317,8 @@ def check_paper(page, folder):
         )
         put(folder, f"paper-{name}.pdf", printed)
         count = len(re.findall(rb"/Type\s*/Page\b", printed))
-        has_map = name in ("kept", "many-kept", "enough")
-        require(has_map == (ROUNDS_ON_PAPER in printed), f"{name}: the map has its rounds on paper: {not has_map}")
-        require(count <= (2 if name in ("kept", "many-kept") else 1), f"{name} takes {count} pages of paper")
+        require(ROUNDS_ON_PAPER in printed, f"{name}: the map lacks its rounds on paper")
+        require(count <= (1 if name == "enough" else 2), f"{name} takes {count} pages of paper")
     browser.dress(1400, HEIGHT)
 
 

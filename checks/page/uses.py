@@ -10,7 +10,7 @@ import tempfile
 from fractions import Fraction
 
 from checks.lib.harness import drawn
-from checks.page import forecasts, kept, limits, links, looking, map, records, saves, shapes, told, worker
+from checks.page import forecasts, kept, late, limits, links, looking, map, records, saves, shapes, told, worker
 from checks.page.acts import asked, read, require, spelled, typed
 from checks.page.cases import example
 from checks.page.shown import tried
@@ -403,6 +403,7 @@ USES = {
     "the rounds on the map": map.check_map_rounds,
     "pages of the map": map.check_map_pages,
     "what is announced": told.check_told,
+    **late.LATE,
     "the worker": worker.check_worker,
     "an ended worker": worker.check_ended,
 }

@@ -1,23 +1,20 @@
 // The planner's worker: it reads and tests a trace, and plans. It runs the page's own program.
 
 import { lightLength, lightTrace, writesIn } from "./light-trace.js";
-import { Planner, Refusal } from "./planner.js";
+import { Planner, READ_FAULT, Refusal } from "./planner.js";
 import { readAnswer } from "../model/questions.js";
 import { Sha256 } from "./sha256.js";
 import { Slice } from "./slices.js";
 import { piecesOf } from "./trace-source.js";
 import { WritesMap } from "./writes-map.js";
 
-/** What is refused if another worker could not read the trace of the first again. */
-const UNREAD = 17;
-
 /** The worker's own state: the module, the trace, and the number of the many answers that are asked for. */
 const held = { module: null, planner: null, map: null, many: null };
 
-/** The planner over the open trace. */
+/** The planner over the open trace. There is none if another worker could not read the trace of the first again. */
 function planner() {
   if (held.planner === null) {
-    throw new Refusal(UNREAD);
+    throw new Refusal(READ_FAULT);
   }
   return held.planner;
 }

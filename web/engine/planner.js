@@ -30,7 +30,7 @@ const START_SIZE = ANSWER.size + ERRORS.size;
 /** What the module answers if memory was not there to lend, if a trace is too long, and if it could not be read. */
 const NO_MEMORY = 16;
 const TOO_LONG = 15;
-const READ_FAULT = 17;
+export const READ_FAULT = 17;
 
 /** A module with one memory of 64-bit addresses, and nothing else. */
 const WIDE_MEMORY = new Uint8Array([0, 0x61, 0x73, 0x6d, 1, 0, 0, 0, 5, 3, 1, 4, 1]);

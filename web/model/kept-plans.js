@@ -18,9 +18,9 @@ export class KeptPlans {
     return this.left.filter(({ digest }) => digest !== this.digest);
   }
 
-  /** Forgets what was planned over the trace that was open. */
+  /** Forgets what was planned over the trace that was open, also what is still being planned. */
   forget() {
-    this.found.clear();
+    this.found = new Map();
   }
 
   /** Another trace is open now: keeps the plans that were shown over the one before, if there was one. */
@@ -58,13 +58,14 @@ export class KeptPlans {
 
   /** All plans, with the length of windows that is shown. */
   async all(trace, { kept, settings: { window } }) {
-    const plans = [...this.others];
+    const { others, found } = this;
+    const plans = [...others];
     for (const some of kept) {
       const key = JSON.stringify(some);
-      if (!this.found.has(key)) {
-        this.found.set(key, await this.find(trace, { ...some, window: trace.sizes.last + 1 }));
+      if (!found.has(key)) {
+        found.set(key, await this.find(trace, { ...some, window: trace.sizes.last + 1 }));
       }
-      plans.push({ settings: { ...some, window }, found: this.found.get(key) });
+      plans.push({ settings: { ...some, window }, found: found.get(key) });
     }
     return plans;
   }

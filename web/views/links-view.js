@@ -90,7 +90,8 @@ export class LinksView {
   /** How the links of the picture are looked at. */
   look(axis) {
     const { costs } = this;
-    const words = (at) => quantityWords(costs[at].link, RATE_UNITS);
+    const fittingOf = ({ link: { amount, unit } }) => inFittingUnit(amount, unit, RATE_UNITS);
+    const words = (at) => quantityWords(fittingOf(costs[at]), RATE_UNITS);
     const distance = (at, place) => Math.abs(axis.place(costs[at].start) - place);
     return {
       count: costs.length,

@@ -281,12 +281,12 @@ export class MapView {
     const all = totals.reduce((sum, count) => sum + count, 0);
     const inRow = Math.ceil((endPage - fromPage) / totals.length);
     const many = inRow === 1 ? "" : ` A row has up to ${countOf(inRow, "page")}: it is dirtied or skipped if one is.`;
-    const most = `${this.rowWords(row)}: ${counted(totals[row])}`;
+    const densest = `${this.rowWords(row)}: ${counted(totals[row])}`;
     if (all < 2) {
       return all === 0 ? "No page is written in this stretch of time."
         : `The write that is shown goes to ${this.rowWords(row)}.${many}`;
     }
-    return `Most of the ${countOf(all, "write")} that are shown go to ${most}.${many}`;
+    return `The ${countOf(all, "write")} that are shown are densest in ${densest}.${many}`;
   }
 
   /** Whether the rounds that were counted last are those of what is drawn. */

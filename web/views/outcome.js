@@ -47,12 +47,12 @@ const ROWS = [
   { name: "sent", title: "Sent", isPrice: true, number: ({ cost }) => cost.bytes, text: bytesText,
     more: (some) => joined(errorText(some, "bytes", bytesText), sentText(some)) },
   { name: "rounds", title: "Rounds", number: ({ plan }) => plan.rounds.length, text: counted, more: reasonWords },
-  { name: "left", title: "Left at the stop", isPrice: true, number: ({ plan }) => plan.left,
+  { name: "left", title: "Left at the stop", isPrice: true, isPages: true, number: ({ plan }) => plan.left,
     text: (pages, { scale }) => pagesText(scale, pages),
     more: ({ settings: { threshold } }) => (threshold === 1 ? "none left ends pre-copy"
       : `fewer than ${counted(threshold)} end pre-copy`) },
-  { name: "stop", title: "Stop in the trace", number: ({ plan, scale }) => microsOf(scale, plan.stop), text: momentText,
-    more: (some) => tickWords(some, `tick ${counted(some.plan.stop)}`) },
+  { name: "stop", title: "Stop in the trace", isMoment: true, number: ({ plan, scale }) => microsOf(scale, plan.stop),
+    text: momentText, more: (some) => tickWords(some, `tick ${counted(some.plan.stop)}`) },
 ];
 
 /** The verdict on a prediction, in a line. */
@@ -94,7 +94,7 @@ function headlineWords(prediction) {
   const { cost } = prediction;
   if (isUnknown(prediction)) {
     return cost.recorded > 0n ? `Longer than the trace: more than ${briefTime(cost.recorded)}`
-      : "The trace ends before the start";
+      : "The trace ends at the start";
   }
   return `${pauseWords(prediction)}, ${briefTime(cost.time)}, ${briefBytes(cost.bytes)}:`;
 }
@@ -141,12 +141,24 @@ function differenceOf(row, prediction, kept) {
   return html("span", { class: className }, `this plan: ${words}${mark}`);
 }
 
-function keptCell(row, prediction, { found: { value } }, place) {
+/** Whether a page of one trace stands for as much memory as one of another. */
+function isSameScale(one, other) {
+  return one.guest * one.page * other.sampled === other.guest * other.page * one.sampled;
+}
+
+/** Whether a number of this plan and of a kept one can be told apart: pages of one size, moments of one trace. */
+function isCompared({ isPages, isMoment }, prediction, { found: { value }, name }) {
+  return ![prediction, value].some(isUnknown) && !(isMoment && name)
+    && (!isPages || isSameScale(prediction.scale, value.scale));
+}
+
+function keptCell(row, prediction, kept, place) {
+  const { found: { value } } = kept;
   if (!value) {
     return html("td", { role: "cell", "data-plan": keptName(place) }, "\u2013");
   }
-  const isCompared = ![prediction, value].some(isUnknown);
-  return cellOf(row, keptName(place), value, ...(isCompared ? [differenceOf(row, prediction, value)] : []));
+  const differences = isCompared(row, prediction, kept) ? [differenceOf(row, prediction, value)] : [];
+  return cellOf(row, keptName(place), value, ...differences);
 }
 
 /** The head of a kept plan's column, with the name of its trace if that is another, and what can be done with it. */

@@ -2,6 +2,9 @@
 
 import { byId, mark } from "./elements.js";
 
+/** So long the browser may take to go to another state, in milliseconds. Until it is there no press counts. */
+const LONGEST_WAY = 1_000;
+
 export class Past {
   /** `settle` has a change that is not settled yet become an address. */
   constructor(settle) {
@@ -10,13 +13,15 @@ export class Past {
     this.place = history.state?.place ?? 0;
     this.lastPlace = this.place;
     this.isSettled = false;
+    this.going = null;
     byId("undo").addEventListener("click", () => this.go(byId("undo"), -1));
     byId("redo").addEventListener("click", () => this.go(byId("redo"), 1));
   }
 
   go(button, steps) {
-    if (button.getAttribute("aria-disabled") === "false") {
+    if (this.going === null && button.getAttribute("aria-disabled") === "false") {
       this.settle();
+      this.going = setTimeout(() => { this.going = null; }, LONGEST_WAY);
       history.go(steps);
     }
   }
@@ -36,6 +41,8 @@ export class Past {
 
   /** Learns that the user went to another address, or wrote one. Returns what belongs to it. */
   follow() {
+    clearTimeout(this.going);
+    this.going = null;
     if (history.state?.place === undefined) {
       this.lastPlace = this.place + 1;
       history.replaceState({ place: this.lastPlace }, "");

@@ -18,6 +18,11 @@ function bytesASecond(scale, rate) {
   return Number(bytes) / Number(seconds);
 }
 
+/** For how many bytes of the guest a page of the trace stands. */
+function bytesOfPage({ guest, page, sampled }) {
+  return Number(guest * page) / Number(sampled);
+}
+
 /** The part of a range of ticks that lies in the time of a plan, in microseconds since its start; or all of that. */
 function stretchIn({ settings: { start }, scale }, range, micros) {
   const since = (tick) => (tick - start) * Number(scale.tick);
@@ -27,15 +32,16 @@ function stretchIn({ settings: { start }, scale }, range, micros) {
 }
 
 /**
- * What a picture of plans must reach: microseconds, pages, and bytes a second; and the unit of rates, in which the
- * fastest link is said, of the family of the first plan's. Plans beside each other share one, whatever their ticks. Of
- * the time only the part in a range of ticks is shown, by the first plan.
+ * What a picture of plans must reach: microseconds, bytes of a round, and bytes a second; and the unit of rates, in
+ * which the fastest link is said, of the family of the first plan's. Plans beside each other share one, whatever their
+ * ticks, and whatever their pages stand for. Of the time only the part in a range of ticks is shown, by the first plan.
  */
 export function reachOf(predictions, range) {
-  const reach = { micros: 1, pages: 1, rate: 1 };
+  const reach = { micros: 1, bytes: 1, rate: 1 };
   for (const { plan, settings, scale } of predictions) {
     reach.micros = Math.max(reach.micros, (plan.stop + plan.down - settings.start) * Number(scale.tick));
-    reach.pages = Math.max(reach.pages, ...plan.rounds.map((round) => Math.max(round.pages, round.dirtied)));
+    const pages = plan.rounds.map((round) => Math.max(1, round.pages, round.dirtied));
+    reach.bytes = Math.max(reach.bytes, ...pages.map((count) => count * bytesOfPage(scale)));
     reach.rate = Math.max(reach.rate, bytesASecond(scale, settings.max));
   }
   const link = Math.max(...predictions.map(({ state }) => state.link.amount));
@@ -107,7 +113,7 @@ export function roundsPicture(width, prediction, reach) {
   const { plan, settings, scale } = prediction;
   const { unit } = reach;
   const axis = axisOf(width, reach.stretch.first, reach.stretch.last);
-  const pages = panelOf(PAGES_TOP, PAGES_HEIGHT, reach.pages);
+  const pages = panelOf(PAGES_TOP, PAGES_HEIGHT, Math.max(1, Math.round(reach.bytes / bytesOfPage(scale))));
   const rates = panelOf(RATES_TOP, RATES_HEIGHT, reach.rate);
   const rateText = (rate) => counted(fewDigits(rate / Number(unit.size)));
   const parts = [

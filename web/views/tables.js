@@ -146,7 +146,7 @@ export function mapTable({ found, prediction: { plan, scale }, held: { trace: { 
     { name: "and dirtied", texts: allOf("again") },
     { name: "skipped", texts: allOf("skipped") },
     { name: "dirtied", texts: allOf("dirtied") },
-    { name: "most of them in pages", texts: numbers.map((round) => mostDirtied(found, rows, round, rowPages)) },
+    { name: "densest in pages", texts: numbers.map((round) => mostDirtied(found, rows, round, rowPages)) },
   ]);
 }
 

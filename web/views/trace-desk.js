@@ -5,7 +5,7 @@ import { byId, html, keepFocus, renew } from "./elements.js";
 import { bytesText, counted, countOf, lengthText, unbroken } from "../model/numbers.js";
 import { refusalPart } from "./outcome.js";
 import { PlannerClient, WorkerEnded } from "../engine/planner-client.js";
-import { Refusal } from "../engine/planner.js";
+import { READ_FAULT, Refusal } from "../engine/planner.js";
 import { differencesFrom, MOST_RECORD_BYTES, recordIn, RecordRefusal } from "../model/record.js";
 import { exampleSource } from "../engine/trace-source.js";
 import { microsOf, scaleOf } from "../model/units.js";
@@ -43,34 +43,57 @@ class OpenTrace {
     this.record = null;
   }
 
+  /** Has the planner asked. What it answers once it has another trace open may be of that: it is no answer. */
+  async ask(name, asked, told) {
+    const found = await this.client.ask(name, asked, told);
+    if (this.client.blob !== this.blob) {
+      throw new Refusal(READ_FAULT);
+    }
+    return found;
+  }
+
   /** The answer to a question about the trace, with the rounds of its plan. */
   predict(question) {
-    return this.client.ask("predict", { question });
+    return this.ask("predict", { question });
   }
 
   /** How often pages are written over time, counted into a grid. */
   map(grid) {
-    return this.client.ask("map", grid);
+    return this.ask("map", grid);
   }
 
   /** What the rounds of a plan do with which pages, counted into a grid. */
   rounds(grid, plan) {
-    return this.client.ask("rounds", { grid, plan });
+    return this.ask("rounds", { grid, plan });
   }
 
   windows(settings) {
-    return this.client.ask("windows", { settings });
+    return this.ask("windows", { settings });
   }
 
   /** The answers to a question from each of some starts, and which are chosen; null if they were cancelled. */
   starts(question, ticks, told) {
     const questions = ticks.map((start) => ({ ...question, start }));
-    return this.client.ask("answers", { questions }, told);
+    return this.ask("answers", { questions }, told);
   }
 
   cancelStarts() {
     return this.client.ask("cancel", {});
   }
+}
+
+/** Has files that are dropped anywhere taken. The trace's line shows that they may be. */
+export function listenToDrops(take) {
+  const over = (isOver) => (event) => {
+    event.preventDefault();
+    byId("trace").classList.toggle("over", isOver);
+  };
+  addEventListener("dragover", over(true));
+  addEventListener("dragleave", over(false));
+  addEventListener("drop", (event) => {
+    over(false)(event);
+    take([...event.dataTransfer.files]);
+  });
 }
 
 /** `taken` is called with each trace that was opened, and with one whose record came later. */
@@ -115,21 +138,17 @@ export class TraceDesk {
   }
 
   async takeExample(example, wish) {
-    await this.openFirst([await exampleSource(example)], [], wish);
+    await this.openFirst([exampleSource(example)], [], wish);
   }
 
-  /** Opens the trace of an address again, if it was open before on this page. */
+  /** Opens a trace again that was open before on this page. */
   async reopen(print, wish) {
-    const source = this.sources.get(print);
-    if (source) {
-      await this.openFirst([source], [], wish);
-    }
-    return source !== undefined;
+    await this.openFirst([this.sources.get(print)], [], wish);
   }
 
   /**
-   * Opens the first of some sources that is a trace, once those of the calls before are open or refused. `others` are
-   * files that are not opened, and `wish` goes to `taken`.
+   * Opens the first of some sources that is a trace, once those of the calls before are open or refused; a source may
+   * still be to come. `others` are files that are not opened, and `wish` goes to `taken`.
    */
   openFirst(sources, others, wish) {
     this.loading += 1;
@@ -145,8 +164,8 @@ export class TraceDesk {
     return opened;
   }
 
-  async openInTurn(sources, others, wish) {
-    const notes = [];
+  async openInTurn(coming, others, wish) {
+    const [notes, sources] = [[], await Promise.all(coming)];
     for (const [place, source] of sources.entries()) {
       const refusal = await this.refusalOf(source);
       if (refusal === null) {

@@ -61,3 +61,19 @@ test("places count what is shown", async () => {
   plans.makeRoom(["2"]);
   assert.deepEqual(plans.others.map(({ settings: { link } }) => link), [3]);
 });
+
+test("a plan that comes after another trace was opened is not of that", async () => {
+  const late = [];
+  const plans = new KeptPlans((trace) => new Promise((come) => { late.push(() => come({ value: trace.digest })); }));
+  const state = { kept: [{ link: 1 }], settings: { window: 5 } };
+  const over = async (trace) => (await plans.all(trace, state)).map(({ found }) => found.value);
+  plans.open(A, null);
+  const first = over(A);
+  plans.open(B, null);
+  plans.forget();
+  late.shift()();
+  assert.deepEqual(await first, ["a"]);
+  const second = over(B);
+  late.shift()?.();
+  assert.deepEqual(await second, ["b"]);
+});

@@ -1,0 +1,85 @@
+"""What the planner's page does with answers of its worker that come late: when something else is asked meanwhile, or
+another trace is open."""
+
+from checks.page.acts import read, require
+from checks.page.cases import example
+
+# How long a message to a worker is on its way here, in milliseconds.
+DELAY = 300
+OVER_SQLITE = "#trace=sqlite&link=64MiB&first=50&downtime=300ms&start=1000"
+STATE = """[location.hash, textOf("trace-state"), textOf("rounds-table-this"), textOf("headline"), textOf("comparison"),
+  ...["undo", "redo"].map((id) => document.getElementById(id).getAttribute("aria-disabled"))]"""
+IS_OPEN = "document.getElementById('trace').getAttribute('aria-busy') === 'false'"
+
+
+def mid():
+    return "mid.pcwt", read(example("guests/mid.light.pcwt"))
+
+
+def pressed(page, button, address):
+    """Presses a button that leads to another address, and waits for that alone."""
+    page.browser.value(f"document.getElementById('{button}').click()")
+    page.browser.wait(f"location.hash.includes('trace=sqlite') === {address}", 5)
+
+
+def open_two(page):
+    """Opens a trace after another, so that the first can be gone back to."""
+    page.browser.forget_pages()
+    page.open(OVER_SQLITE)
+    page.wait_for_plan()
+    page.browser.wait("location.hash.includes('window=')", 5)
+    page.drop(mid())
+    page.rest()
+
+
+def check_left_address(page):
+    """An address that is left while its trace is still being read changes nothing any more."""
+    open_two(page)
+    before = page.browser.value(STATE)
+    page.browser.value(f"window.delay = {DELAY}; 0")
+    pressed(page, "undo", "true")
+    pressed(page, "redo", "false")
+    page.browser.value("window.delay = 0")
+    page.browser.wait(f"{IS_OPEN} && isDrawn()", 20)
+    page.rest()
+    page.becomes(STATE, before, "after an address that was left")
+
+
+def check_two_presses(page):
+    """Undo that is pressed twice, before the browser has gone back once, does not leave the page."""
+    open_two(page)
+    page.after("document.getElementById('undo').click(); document.getElementById('undo').click()")
+    page.becomes("textOf('trace-state').split(':')[0]", "sqlite.light.pcwt", "after Undo that was pressed twice")
+    page.rest()
+    page.after("document.getElementById('redo').click()")
+    page.becomes("textOf('trace-state').split(':')[0]", "mid.pcwt", "after Redo")
+
+
+def check_other_map(page):
+    """The map of one trace has never the writes of another, though these are counted while it is shown."""
+    open_two(page)
+    over_mid = page.browser.value("textOf('map-most')")
+    page.browser.value(
+        f"""(() => {{
+      window.said = new Set();
+      new MutationObserver(() => said.add(textOf("map-most"))).observe(document.getElementById("map-most"),
+        {{ childList: true, characterData: true, subtree: true }});
+      window.delay = {DELAY};
+      document.querySelector("[data-example=gzip]").click();
+    }})()"""
+    )
+    page.browser.wait("textOf('trace-state').includes('gzip')", 5)
+    page.browser.value("document.getElementById('zoom-plan').click()")
+    page.browser.wait(f"textOf('trace-state').startsWith('gzip') && {IS_OPEN} && isDrawn()", 20)
+    page.browser.value("window.delay = 0")
+    page.rest()
+    over_gzip = page.browser.value("textOf('map-most')")
+    said = set(page.browser.value("[...said]"))
+    require(over_gzip in said and said <= {over_mid, over_gzip}, f"the map said {said - {over_mid, over_gzip}}")
+
+
+LATE = {
+    "an address that was left": check_left_address,
+    "undo pressed twice": check_two_presses,
+    "the map of another trace": check_other_map,
+}
