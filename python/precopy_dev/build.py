@@ -53,7 +53,7 @@ SLOWER = {
     "sweep_report": 128,
     "dirty_core": 104,
     "live_tasks": 103,
-    "precopy_schedule": 103,
+    "move_schedules": 103,
     "precopy_view": 95,
     "dirty_words": 88,
     "browser_planner": 88,

@@ -7,6 +7,8 @@ mod quantity;
 mod rate;
 mod redrawn;
 mod remedy;
+mod schedule;
+mod schedule_table;
 mod share;
 mod sums;
 mod table;

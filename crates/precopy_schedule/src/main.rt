@@ -1,27 +1,9 @@
 //! `precopy-schedule`: schedules of moves of guests, and the best of them. `precopy-evacuate` runs it.
 #![tactic(auto)]
 
-mod answers;
-mod choosing;
-mod command;
-mod costs;
-mod error;
-mod faults;
-mod laws;
-mod moves;
-mod plans;
-#[cfg(test)]
-mod schedule_tests;
-mod scheduling;
-mod starting;
-#[cfg(test)]
-mod tests;
-mod texts;
-mod words;
-
-use crate::starting::start;
 use byte_sinks::FromWrite;
 use job_commands::words;
+use move_schedules::start;
 use program_messages::{Program, refuse};
 use std::process::ExitCode;
 use trace_codec::FromRead;

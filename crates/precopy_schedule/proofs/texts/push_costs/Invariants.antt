@@ -1,7 +1,0 @@
-use Rattle.std.proofs.Common.{◌≡◌, ◌++◌, take}
-use Rattle.std.specs.List.{flat_map}
-use Rattle.precopy_schedule.specs.Answers.{cost_line}
-use Rattle.precopy_schedule.proofs.texts.push_costs.Given as goal
-
-abbrev pub invariant-loop-cost : goal.invariant-loop-cost
-invariant-loop-cost l = l.text.items ≡ l.fn.text.items ++ flat_map cost_line (take l.cost-index l.costs)
