@@ -12,3 +12,6 @@ pub mod PieceRefusals
 pub mod PieceRuns
 pub mod PieceStreams
 pub mod TracePoints
+pub mod OneRefusal
+pub mod OneQuestion
+pub mod OneFlat
