@@ -1,11 +1,12 @@
 -- The orders of starts that are lent.
-use Rattle.std.proofs.Common.{◌≡◌, ℕ, ◌+◌, ◌<◌, Bool, true, false, List, length, get_or, arith}
+use Rattle.std.proofs.Common.{◌≡◌, ℕ, ◌+◌, ◌<◌, Bool, true, false, List, [], ◌∷◌, length, get_or, refl, sym, ◌∙◌, arith}
 use Rattle.std.specs.Cmp.{IsStrictWeakOrder}
 use Rattle.std.specs.List.{IsFirstBest}
 use Rattle.std.proofs.lemmas.List.{get_or_default}
-use Rattle.std.proofs.lemmas.List.MinMax.{IsFirstBest-keeps, IsFirstBest-takes}
+use Rattle.std.proofs.lemmas.List.MinMax.{IsFirstBest-keeps, IsFirstBest-takes, IsFirstBest-unique}
 use Rattle.predictions.proofs.Orders.{better_known_order, worse_known_order}
-use Rattle.browser_planner.specs.Starts.{is_better_lent, is_worse_lent, start_in}
+use Rattle.browser_planner.specs.Starts.{AreChosen, IsChoice, is_better_lent, is_worse_lent, start_in}
+use Rattle.browser_planner.specs.declared.starts.LentChoice.{LentChoice}
 use Rattle.browser_planner.specs.declared.starts.LentStart.{LentStart}
 
 pub better_lents : (limit : ℕ) → IsStrictWeakOrder (is_better_lent limit)
@@ -58,3 +59,24 @@ module _ {test : LentStart → LentStart → Bool} (order : IsStrictWeakOrder te
       let inside : b < length xs = omega (arith, first.0, low) in
       IsFirstBest-keeps order xs i b x y first low (get_or_default xs i no_start x low)
       (get_or_default xs b no_start y inside) (is no_start)
+
+-- ---- the choice
+
+pub is_choice : (limit : ℕ) (starts : List LentStart) (old new : LentChoice) → AreChosen limit starts new
+    → IsChoice limit starts old new
+is_choice limit [] old new is = absurd (omega (arith, is.best.0))
+is_choice limit (start ∷ starts) old new is = is
+
+pub no_choice : (limit : ℕ) (starts : List LentStart) (old : LentChoice) → length starts ≡ 0
+    → IsChoice limit starts old old
+no_choice limit [] old none = refl
+no_choice limit (start ∷ starts) old none = absurd (omega (arith, none))
+
+pub one_choice_lem : (limit : ℕ) (starts : List LentStart) (old a b : LentChoice) → IsChoice limit starts old a
+    → IsChoice limit starts old b → a ≡ b
+one_choice_lem limit [] old a b x y = x ∙ sym y
+one_choice_lem limit (start ∷ starts) old a b x y =
+    let all : List LentStart = start ∷ starts in
+    let best = IsFirstBest-unique (better_lents limit) all (length all) a.best b.best start x.best y.best in
+    let worst = IsFirstBest-unique (worse_lents limit) all (length all) a.worst b.worst start x.worst y.worst in
+    λ i. record { best = best i; worst = worst i }

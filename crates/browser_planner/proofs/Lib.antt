@@ -1,3 +1,4 @@
 pub mod Puts
 pub mod Left
 pub mod Choices
+pub mod OneRefusal

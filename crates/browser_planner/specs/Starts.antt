@@ -1,5 +1,5 @@
 -- Which of several answers is the best, and which the worst: those of the same question from several starts.
-use Rattle.std.specs.Prelude.{ℕ, ◌==◌, not, if◌then◌else◌, Bool, List, length, Option, None, Some}
+use Rattle.std.specs.Prelude.{◌≡◌, ℕ, ◌==◌, not, if◌then◌else◌, Bool, List, [], ◌∷◌, length, Option, None, Some}
 use Rattle.std.specs.List.{IsFirstBest, count_by}
 use Rattle.predictions.specs.Redrawn.Errors.{SampleErrors}
 use Rattle.predictions.specs.Starts.Choices.{is_better_known, is_worse_known}
@@ -45,3 +45,8 @@ known_count starts = count_by (λ s. not (s.answer.kept == 2)) starts
 pub record AreChosen (limit : ℕ) (starts : List LentStart) (choice : LentChoice) : Type 0 where
   pub best : IsFirstBest (is_better_lent limit) starts (length starts) choice.best
   pub worst : IsFirstBest (is_worse_lent limit) starts (length starts) choice.worst
+
+-- that choice; without a start the one before it stays
+abbrev pub IsChoice : ℕ → List LentStart → LentChoice → LentChoice → Type 0
+IsChoice limit [] old new = new ≡ old
+IsChoice limit (start ∷ starts) old new = AreChosen limit (start ∷ starts) new

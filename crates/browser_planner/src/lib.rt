@@ -16,6 +16,7 @@ mod errors;
 #[cfg(test)]
 mod forecast_tests;
 mod forecasts;
+mod laws;
 mod plans;
 #[cfg(test)]
 mod prediction_tests;

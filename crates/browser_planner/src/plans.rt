@@ -1,6 +1,7 @@
 //! The plan of a trace: its sums, and the numbers of its rounds.
 
 // `IsPlan` holds of one value alone: `one_plan`.
+// `RefusesPlan` holds of one value alone: `one_refused_plan`.
 // `Spells` holds of one value alone: `one_trace`.
 
 ghost use Rattle.std.specs.Prelude.{◌≡◌, ◌≢◌, IfErr, IfOk, IsOk, OnErr, OnOk, length};

@@ -1,9 +1,12 @@
 //! The choice of a start: the best and the worst of several answers.
 
-ghost use Rattle.std.specs.Prelude.{◌≡◌, ◌≤◌, ◌<◌, [], length, slice_index_or};
+// `IsChoice` holds of one value alone: `one_choice`.
+
+ghost use Rattle.std.specs.Prelude.{◌≡◌, ◌≤◌, ◌<◌, ℕ, List, length, slice_index_or};
 ghost use Rattle.std.specs.List.{IsFirstBest};
+ghost use Rattle.browser_planner.specs.declared.starts.LentChoice.{LentChoice};
 ghost use Rattle.browser_planner.specs.declared.starts.LentStart.{LentStart};
-ghost use Rattle.browser_planner.specs.Starts.{AreChosen, cost_in, errors_in, is_better_lent, is_worse_lent};
+ghost use Rattle.browser_planner.specs.Starts.{IsChoice, cost_in, errors_in, is_better_lent, is_worse_lent};
 ghost use Rattle.browser_planner.specs.Starts.{known_count, start_in};
 
 use predictions::redrawn::Errors;
@@ -156,14 +159,20 @@ pub extern "C" fn lent_chosen_starts(
     choice: &mut LentChoice,
 ) -> usize
     ensures known { result ≡ known_count starts.now }
-    ensures chosen { 1 ≤ length starts.now → AreChosen limit starts.now choice.new }
-    ensures kept { starts.now ≡ [] → choice.new ≡ choice.old }
+    ensures chosen { IsChoice limit starts.now choice.old choice.new }
 {
-    if !starts.is_empty() {
-        *choice = LentChoice {
-            best: best_place(limit, starts) as u64,
-            worst: worst_place(limit, starts) as u64,
-        };
+    if starts.is_empty() {
+        return 0;
     }
+    *choice = LentChoice {
+        best: best_place(limit, starts) as u64,
+        worst: worst_place(limit, starts) as u64,
+    };
     count_known(starts)
 }
+
+/// Of some starts one is chosen as the best, and one as the worst. A law: the body is empty.
+pub fn one_choice()
+    ensures { (limit : ℕ) (starts : List LentStart) (old a b : LentChoice) → IsChoice limit starts old a
+        → IsChoice limit starts old b → a ≡ b }
+{}

@@ -1,5 +1,6 @@
 //! The windows of a trace.
 
+// `RefusesWindows` holds of one value alone: `one_refusal_of_windows`.
 // `Spells` holds of one value alone: `one_trace`.
 
 ghost use Rattle.std.specs.Prelude.{◌≡◌, ◌≢◌, IfErr, IfOk, IsOk, OnErr, OnOk, length};

@@ -1,12 +1,13 @@
 -- Flat memory, as frames come to it.
 use Rattle.std.proofs.Common.{◌⊎◌, ◌≡◌, ◌≢◌, ℕ, inl, inr, ◌+◌, ◌*◌, ◌^◌, ◌<◌, ◌≤◌, cond, eqb}
 use Rattle.std.proofs.Common.{List, [], ◌∷◌, ◌++◌, length, get_or, set, take, drop, replicate, Option, Some, None}
-use Rattle.std.proofs.Common.{refl, sym, ap, ◌∙◌, arith}
+use Rattle.std.proofs.Common.{refl, sym, ap, subst, ◌∙◌, arith}
 use Rattle.std.proofs.Math.ListN.{drop_of_length-le}
 use Rattle.std.proofs.Math.Nat.{mul-le-mul_right, one-le-pow}
 use Rattle.std.proofs.lemmas.Bool.{cases_eq, cond-true, cond-false, eq-eqb, ne_eqb}
 use Rattle.std.proofs.lemmas.Grind.{get_or-set_at}
 use Rattle.std.proofs.lemmas.List.{append-nil, ext_get_or, drop-drop, get_or-set_other, length-set, set-get_or}
+use Rattle.std.proofs.lemmas.List.{length-drop}
 use Rattle.std.proofs.lemmas.List.Edits.{length-between}
 use Rattle.std.proofs.lemmas.List.Elements.{All-cons, All-nil}
 use Rattle.std.proofs.lemmas.List.FromFn.{get_or-map-range_with_len, length-map-range_with_len}
@@ -19,7 +20,8 @@ use Rattle.migration_model.proofs.Parts.{later_first, later_second, same_copy}
 use Rattle.collector.proofs.Taken.{Takes-more, Takes-nothing, Takes-one}
 use Rattle.precopy_c.specs.declared.flat_memory.PageState.{PageState}
 use Rattle.precopy_c.specs.declared.flat_memory.StreamTaken.{StreamTaken}
-use Rattle.precopy_c.specs.FlatMemory.{IsFlat, KeepsOthers, TakesFlat, copy_in_state, flat_part, not_come}
+use Rattle.precopy_c.specs.FlatMemory.{AreLater, IsFlat, IsLater, KeepsOthers, TakesFlat, copy_in_state, flat_part}
+use Rattle.precopy_c.specs.FlatMemory.{not_come}
 use Rattle.image_build.proofs.Joined.{size_of}
 
 -- ---- the bytes of pages
@@ -225,14 +227,38 @@ ComeLater old new = (page : ℕ) → (get_or new page not_come).came ≡ 0 → (
 abbrev pub taken_with : ℕ → ℕ → StreamTaken
 taken_with frames bytes = record { frames = frames; bytes = bytes }
 
+-- a state that is later than a later one
+later_twice : (a b c : PageState) → IsLater a b → IsLater b c → IsLater a c
+later_twice a b c (inl x) y = subst (λ (s : PageState). IsLater s c) x y
+later_twice a b c (inr x) (inl y) = subst (λ (s : PageState). IsLater a s) (sym y) (inr x)
+later_twice a b c (inr x) (inr y) = elim y.1 [
+  | inl none ↦ absurd (omega (arith, none, x.0))
+  | inr low ↦ elim x.1 [ inl first ↦ inr (y.0, inl first) | inr before ↦ inr (y.0, inr (omega (arith, low, before))) ]
+]
+
+-- the state of a page whose frame is taken is later, and the others are as they were
+pub taken_later : (states : List PageState) (page stamp : ℕ) → page < length states
+    → ((get_or states page not_come).came ≡ 0) ⊎ ((get_or states page not_come).stamp < stamp)
+    → AreLater states (set states page (came_with stamp))
+taken_later states page stamp low why other = elim (cases_eq other page) [
+  | inl same ↦
+      let state = get_or-set_at states page other (came_with stamp) not_come same low in
+      subst (λ (s : PageState). IsLater (get_or states other not_come) s) (sym state)
+      (subst (λ (n : ℕ). IsLater (get_or states n not_come) (came_with stamp)) (sym same) (inr (refl, why)))
+  | inr apart ↦ inl (get_or-set_other states page other (came_with stamp) not_come apart)
+]
+
 pub TakesFlat-nothing : (shape : GuestShape) (bytes : List ℕ) (states : List PageState) (stream : List ℕ)
-    → TakesFlat shape bytes bytes states states stream (taken_with 0 0) stream
-TakesFlat-nothing shape bytes states stream =
+    → IsFlat shape bytes states → TakesFlat shape bytes bytes states states stream (taken_with 0 0) stream
+TakesFlat-nothing shape bytes states stream flat =
     record {
       takes = Takes-nothing (flat_part shape bytes states) stream;
       rest_is = refl;
-      others =
-          λ page low none. refl;
+      within = omega arith;
+      others = λ page low none. refl;
+      later = λ page. inl refl;
+      was_flat = flat;
+      is_flat = flat;
     }
 
 pub TakesFlat-more : (shape : GuestShape) (old mid new : List ℕ) (old_states mid_states new_states : List PageState)
@@ -240,15 +266,27 @@ pub TakesFlat-more : (shape : GuestShape) (old mid new : List ℕ) (old_states m
     (frame : PageFrame) (size : ℕ) → TakesFlat shape old mid old_states mid_states stream taken rest
     → SpellsFrame shape (take size rest) frame
     → flat_part shape new new_states ≡ with_frame (flat_part shape mid mid_states) frame
-    → KeepsOthers shape mid new new_states → ComeLater mid_states new_states
+    → KeepsOthers shape mid new new_states → ComeLater mid_states new_states → AreLater mid_states new_states
+    → IsFlat shape new new_states → size ≤ length rest
     → TakesFlat shape old new old_states new_states stream (taken_with (taken.frames + 1) (taken.bytes + size))
     (drop size rest)
 TakesFlat-more shape old mid new old_states mid_states new_states stream rest taken frame size before spells kept others
-    later_come = record {
+    later_come later flat low = record {
       takes = Takes-more (flat_part shape old old_states) (flat_part shape mid mid_states)
           (flat_part shape new new_states)
           stream rest (drop size rest) taken.frames before.takes
           (Takes-one (flat_part shape mid mid_states) (flat_part shape new new_states) rest size frame spells kept);
       rest_is = ap (drop size) before.rest_is ∙ drop-drop size taken.bytes stream;
+      within = omega (
+        arith,
+        low,
+        before.within,
+        ap (λ (l : List ℕ). length l) before.rest_is,
+        length-drop taken.bytes stream,
+      );
       others = λ page low none. others page low none ∙ before.others page low (later_come page none);
+      later = λ page. later_twice (get_or old_states page not_come) (get_or mid_states page not_come)
+          (get_or new_states page not_come) (before.later page) (later page);
+      was_flat = before.was_flat;
+      is_flat = flat;
     }

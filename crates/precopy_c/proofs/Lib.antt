@@ -13,3 +13,6 @@ pub mod PieceRefusals
 pub mod PieceRuns
 pub mod PieceStreams
 pub mod TracePoints
+pub mod OneRefusal
+pub mod OneQuestion
+pub mod OneFlat

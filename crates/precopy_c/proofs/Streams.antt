@@ -1,10 +1,11 @@
 -- All of a stream of frames is taken.
 use Rattle.std.proofs.Common.{◌≡◌, ℕ, ◌+◌, ◌^◌, ◌<◌, Bool, true, false, cond, List, [], length, Some, None}
-use Rattle.std.proofs.Common.{Ok, Err, inr}
+use Rattle.std.proofs.Common.{Ok, Err, inr, ◌∙◌}
 use Rattle.std.specs.Prelude.{◌==◌, nat_lt, nat_le}
-use Rattle.std.specs.List.{list_all}
+use Rattle.std.specs.List.{flat_map, list_all}
+use Rattle.std.proofs.lemmas.List.{append-nil}
 use Rattle.std.proofs.lemmas.Option.{none-some, same_Some}
-use Rattle.migration_model.specs.Frames.{GuestShape, IsGuestShape, PageFrame, SpellsStream}
+use Rattle.migration_model.specs.Frames.{GuestShape, IsGuestShape, PageFrame, SpellsStream, frame_text}
 use Rattle.migration_model.specs.Parts.{with_frames}
 use Rattle.collector.proofs.Taken.{takes_only}
 use Rattle.page_message.specs.Reading.{bytes_in, kind_in, page_in, stamp_in}
@@ -63,3 +64,16 @@ flat_never shape old new old_states new_states stream taken rest e frames is tak
       refused = refused;
     })) frames spells in
     never_memory shape rest (cc (refused, out))
+
+-- frames taken to the end of a stream make it up
+pub flat_spelled : (shape : GuestShape) (old new : List ℕ) (old_states new_states : List PageState) (stream : List ℕ)
+    (taken : StreamTaken) → TakesFlat shape old new old_states new_states stream taken []
+    → (frames : List PageFrame) × SpellsStream shape stream frames
+flat_spelled shape old new old_states new_states stream taken takes =
+    let frames = takes.takes.frames in (
+      frames,
+      record {
+        are_frames = takes.takes.are_frames;
+        text = takes.takes.text ∙ append-nil (flat_map frame_text frames);
+      },
+    )

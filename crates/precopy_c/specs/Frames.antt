@@ -8,6 +8,13 @@ use Rattle.precopy_c.specs.declared.answers.Refusal.TheVariants as refusals
 use Rattle.precopy_c.specs.declared.sizes.GuestSizes.{GuestSizes}
 use Rattle.precopy_c.specs.Settings.{shape_in, shape_refusal}
 
+-- a guest of these sizes has the page, and a page of it may have this stamp and so many bytes
+pub record HasFrame (sizes : GuestSizes) (page stamp : ℕ) (bytes : List ℕ) : Type 0 where
+  pub shape : IsGuestShape (shape_in sizes)
+  pub page_is : page < sizes.pages
+  pub stamp_is : stamp ≤ sizes.writes
+  pub bytes_are : length bytes ≡ 2 ^ sizes.shift
+
 -- a frame is not encoded: the sizes are refused, or else the page, or else the stamp, or else the number of its bytes,
 -- or else memory ran out
 abbrev pub RefusesEncoding : GuestSizes → ℕ → ℕ → List ℕ → Refusal → Type 0
@@ -17,8 +24,7 @@ RefusesEncoding sizes page stamp bytes (refusals.Frame e) = IsGuestShape (shape_
     ⊎ ((e ≡ frames.Stamp) × (page < sizes.pages) × (sizes.writes < stamp)))
 RefusesEncoding sizes page stamp bytes refusals.PageLength = IsGuestShape (shape_in sizes) × (page < sizes.pages)
     × (stamp ≤ sizes.writes) × (length bytes ≢ 2 ^ sizes.shift)
-RefusesEncoding sizes page stamp bytes refusals.Memory = IsGuestShape (shape_in sizes) × (page < sizes.pages)
-    × (stamp ≤ sizes.writes) × (length bytes ≡ 2 ^ sizes.shift)
+RefusesEncoding sizes page stamp bytes refusals.Memory = HasFrame sizes page stamp bytes
 RefusesEncoding sizes page stamp bytes (refusals.Settings e) = ⊥
 RefusesEncoding sizes page stamp bytes refusals.SettingsSize = ⊥
 RefusesEncoding sizes page stamp bytes refusals.ShortBuffer = ⊥

@@ -5,7 +5,7 @@ use Rattle.migration_model.specs.Trace.{GuestTrace, Spells}
 use Rattle.migration_model.specs.Touches.{touches_of}
 use Rattle.migration_model.specs.Rates.{MigrationSettings}
 use Rattle.migration_model.specs.Sweeps.{AreLines, SweepLine}
-use Rattle.trace_codec.specs.Refusals.{RefusesUnlessMemory}
+use Rattle.trace_codec.specs.Refusals.{Refuses}
 use Rattle.c_layout.specs.Sums.{sums_of}
 use Rattle.c_layout.specs.declared.sums.PlanSums.{PlanSums}
 use Rattle.precopy_c.specs.declared.answers.Refusal.{Refusal}
@@ -32,12 +32,12 @@ pub record RefusesCase (cases : List SizedSettings) (refusal : Refusal) : Type 0
   pub given : All AreGiven before
   pub refused : RefusesSettings case refusal
 
--- no lines are made: a case is refused, or else the bytes, or memory ran out after all cases were tested
+-- no lines are made: a case is refused, or else the bytes, or else memory ran out
 abbrev pub RefusesSweep : List ℕ → List SizedSettings → Refusal → Type 0
 RefusesSweep bytes cases refusals.SettingsSize = RefusesCase cases refusals.SettingsSize
 RefusesSweep bytes cases (refusals.Settings e) = RefusesCase cases (refusals.Settings e)
-RefusesSweep bytes cases (refusals.Trace e) = All AreGiven cases × RefusesUnlessMemory bytes e
-RefusesSweep bytes cases refusals.Memory = All AreGiven cases
+RefusesSweep bytes cases (refusals.Trace e) = All AreGiven cases × Refuses bytes e
+RefusesSweep bytes cases refusals.Memory = All AreGiven cases × (trace : GuestTrace) × Spells bytes trace
 RefusesSweep bytes cases (refusals.Frame e) = ⊥
 RefusesSweep bytes cases refusals.ShortBuffer = ⊥
 RefusesSweep bytes cases refusals.PageLength = ⊥

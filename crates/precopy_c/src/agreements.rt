@@ -1,6 +1,7 @@
 //! How sure a prediction is: in how many draws of a sample, and from how many starts, its answers are the same.
 
 // `IsAgreement` holds of one value alone: `one_agreement`.
+// `RefusesPrediction` holds of one value alone, but for memory: `one_refused_prediction`.
 
 ghost use Rattle.std.specs.Prelude.{◌≡◌, ◌≢◌, ◌⊎◌, IfErr, IfOk, OnOk};
 ghost use Rattle.migration_model.specs.Touches.{last_tick_of};

@@ -1,5 +1,7 @@
 //! What is enough for the downtime limit of a migration, or how far it is kept.
 
+// `RefusesPrediction` holds of one value alone, but for memory: `one_refused_prediction`.
+
 ghost use Rattle.std.specs.Prelude.{◌≡◌, ◌≢◌, ◌⊎◌, IfErr, IfOk, OnOk};
 ghost use Rattle.migration_model.specs.Trace.{GuestTrace, Spells};
 ghost use Rattle.predictions.specs.Questions.{Fits, scale_in};

@@ -1,16 +1,18 @@
 //! Frames accepted into the caller's flat memory.
 
-ghost use Rattle.std.specs.Prelude.{◌≡◌, ◌≢◌, ◌*◌, ◌^◌, ◌<◌, ◌≤◌, ◌⊎◌, ℕ, List, [], IfErr, IfOk, OnErr, OnOk, Some};
+// `IsFirstMissing` holds of one value alone: `one_first_missing`. `RefusesFlat` does: `one_refused_memory`.
+// `StopsFlat` holds of one value alone: `one_flat_memory`. `TakesFlat` does, to the end: `one_flat_memory`.
+
+ghost use Rattle.std.specs.Prelude.{◌≡◌, ◌≢◌, ◌↔◌, ◌*◌, ◌^◌, ◌<◌, ◌≤◌, ◌⊎◌, ℕ, List, [], IfErr, IfOk, IsOk, OnOk};
 ghost use Rattle.std.specs.Prelude.{length, slice_index_or};
 ghost use Rattle.migration_model.specs.Frames.{IsFrame, IsGuestShape, PageFrame, SpellsStream, content_of};
 ghost use Rattle.migration_model.specs.Memory.{put};
 ghost use Rattle.migration_model.specs.Parts.{with_frame, with_frames};
-ghost use Rattle.page_message.specs.Refusals.{frame_refusal};
 ghost use Rattle.page_message.specs.Shapes.{shape_of};
 ghost use Rattle.page_message.specs.declared.error.FrameError.{FrameError};
 ghost use Rattle.precopy_c.specs.Answers.{IsNumberOf, number_of_frame};
-ghost use Rattle.precopy_c.specs.FlatMemory.{IsFirstMissing, IsFlat, KeepsOthers, RefusesFlat, TakesFlat, flat_part};
-ghost use Rattle.precopy_c.specs.FlatMemory.{not_come};
+ghost use Rattle.precopy_c.specs.FlatMemory.{AreLater, IsFirstMissing, IsFlat, KeepsOthers, RefusesFlat, StopsFlat};
+ghost use Rattle.precopy_c.specs.FlatMemory.{TakesFlat, flat_part, not_come};
 ghost use Rattle.precopy_c.specs.Settings.{shape_in};
 
 use crate::answers::Refusal;
@@ -58,6 +60,7 @@ fn accept_view(shape: &Shape, view: &FrameView<'_>, memory: &mut [u8], states: &
     ensures kept { flat_part (shape_of shape.now) memory.new states.new
         ≡ with_frame (flat_part (shape_of shape.now) memory.old states.old) view.now }
     ensures others { KeepsOthers (shape_of shape.now) memory.old memory.new states.new }
+    ensures later { AreLater states.old states.new }
     ensures came { (page : ℕ) → (slice_index_or states.new page not_come).came ≡ 0
         → (slice_index_or states.old page not_come).came ≡ 0 }
 {
@@ -85,9 +88,8 @@ fn take_frames(
     requires { IsFlat (shape_of shape.now) memory.old states.old }
     ensures taken { OnOk result (TakesFlat (shape_of shape.now) memory.old memory.new states.old states.new bytes.now
         taken.new []) }
-    ensures refused { IfErr result (λ e. (rest : List ℕ) × TakesFlat (shape_of shape.now) memory.old memory.new
-        states.old states.new bytes.now taken.new rest × (frame_refusal (shape_of shape.now) rest ≡ Some e)) }
-    ensures some { OnErr result (taken.new.bytes < length bytes.now) }
+    ensures refused { IfErr result (StopsFlat (shape_of shape.now) memory.old memory.new states.old states.new bytes.now
+        taken.new) }
 {
     let mut rest = bytes;
     *taken = StreamTaken {
@@ -110,8 +112,9 @@ fn take_frames(
 /// Returns the shape, if there are as many bytes and states as it says.
 fn flat_shape(sizes: &GuestSizes, memory: &[u8], states: &[PageState]) -> Result<Shape, Refusal>
     ensures accepted { IfOk result (λ shape. (shape_of shape ≡ shape_in sizes.now)
-        × IsFlat (shape_in sizes.now) memory.now states.now) }
+        × IsGuestShape (shape_in sizes.now) × IsFlat (shape_in sizes.now) memory.now states.now) }
     ensures refused { IfErr result (RefusesFlat sizes.now (length memory.now) (length states.now)) }
+    ensures only { IsGuestShape (shape_in sizes.now) → IsFlat (shape_in sizes.now) memory.now states.now → IsOk result }
 {
     let shape = sizes.shape()?;
     if memory.len() != shape.pages as usize * shape.page_size() {
@@ -136,16 +139,17 @@ pub extern "C" fn precopy_accept(
 ) -> u32
     ensures taken { result ≡ 0 → TakesFlat (shape_in sizes.now) memory.old memory.new pages.old pages.new stream.now
         taken.new [] }
-    ensures stopped { 41 ≤ result → result ≤ 45 → (e : FrameError) × (rest : List ℕ) × (result ≡ number_of_frame e)
-        × TakesFlat (shape_in sizes.now) memory.old memory.new pages.old pages.new stream.now taken.new rest
-        × (frame_refusal (shape_in sizes.now) rest ≡ Some e) × (taken.new.bytes < length stream.now) }
+    ensures stopped { 41 ≤ result → result ≤ 45 → (e : FrameError) × (result ≡ number_of_frame e)
+        × StopsFlat (shape_in sizes.now) memory.old memory.new pages.old pages.new stream.now taken.new e }
     ensures refused { result ≢ 0 → (result < 41) ⊎ (45 < result)
         → IsNumberOf result (RefusesFlat sizes.now (length memory.old) (length pages.old)) }
     ensures unchanged { result ≢ 0 → (result < 41) ⊎ (45 < result)
         → (memory.new ≡ memory.old) × (pages.new ≡ pages.old) × (taken.new ≡ taken.old) }
-    ensures only { (frames : List PageFrame) → IsGuestShape (shape_in sizes.now)
+    ensures given { (result ≡ 0) ↔ (IsGuestShape (shape_in sizes.now) × IsFlat (shape_in sizes.now) memory.old pages.old
+        × (frames : List PageFrame) × SpellsStream (shape_in sizes.now) stream.now frames) }
+    ensures all { (frames : List PageFrame) → IsGuestShape (shape_in sizes.now)
         → IsFlat (shape_in sizes.now) memory.old pages.old → SpellsStream (shape_in sizes.now) stream.now frames
-        → (result ≡ 0) × (taken.new.frames ≡ length frames)
+        → (taken.new.frames ≡ length frames)
         × (flat_part (shape_in sizes.now) memory.new pages.new
         ≡ with_frames (flat_part (shape_in sizes.now) memory.old pages.old) frames) }
 {
@@ -161,8 +165,8 @@ pub extern "C" fn precopy_accept(
 /// Returns 0 if each page came. If not, it sets `page` to the first that did not.
 #[unsafe(no_mangle)]
 pub extern "C" fn precopy_missing(pages: &[PageState], page: &mut usize) -> u32
-    ensures all { result ≡ 0 → (page : ℕ) → page < length pages.now
-        → (slice_index_or pages.now page not_come).came ≢ 0 }
+    ensures all { (result ≡ 0) ↔ ((page : ℕ) → page < length pages.now
+        → (slice_index_or pages.now page not_come).came ≢ 0) }
     ensures missing { result ≢ 0 → (result ≡ 65) × IsFirstMissing pages.now page.new }
     ensures unchanged { result ≡ 0 → page.new ≡ page.old }
 {

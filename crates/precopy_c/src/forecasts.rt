@@ -1,6 +1,7 @@
 //! What comes of a migration if its hypervisor goes on as QEMU does.
 
 // `IsForecast` holds of one value alone: `one_forecast`.
+// `RefusesPrediction` holds of one value alone, but for memory: `one_refused_prediction`.
 
 ghost use Rattle.std.specs.Prelude.{◌≡◌, ◌≢◌, ◌⊎◌, IfErr, IfOk, OnOk};
 ghost use Rattle.migration_model.specs.Trace.{GuestTrace, Spells};

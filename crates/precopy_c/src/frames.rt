@@ -1,14 +1,17 @@
 //! Frames: one encoded, and one decoded.
 
-ghost use Rattle.std.specs.Prelude.{◌≡◌, ◌≢◌, ◌↔◌, ◌^◌, ◌<◌, ◌≤◌, ◌++◌, ℕ, List, IfErr, IfOk, IsOk, IsTrue, OnErr};
-ghost use Rattle.std.specs.Prelude.{length, take};
+// `RefusesDecoding` holds of one value alone: `one_refused_decoding`.
+// `RefusesEncoding` holds of one value alone: `one_refused_encoding`.
+
+ghost use Rattle.std.specs.Prelude.{◌≡◌, ◌≢◌, ◌↔◌, ◌⊎◌, ◌^◌, ◌<◌, ◌≤◌, ◌++◌, ℕ, List, IfErr, IfOk, IsOk, IsTrue};
+ghost use Rattle.std.specs.Prelude.{OnErr, OnOk, length, take};
 ghost use Rattle.std.specs.List.{All};
 ghost use Rattle.migration_model.specs.Frames.{IsFrame, IsGuestShape, PageFrame, SpellsFrame, content_of, frame_text};
 ghost use Rattle.migration_model.specs.Frames.{IsFrameOf};
 ghost use Rattle.page_message.specs.Shapes.{shape_of};
-ghost use Rattle.precopy_c.specs.Answers.{IsNumberOf};
+ghost use Rattle.precopy_c.specs.Answers.{IsNumberOf, number_of};
 ghost use Rattle.precopy_c.specs.Buffers.{over};
-ghost use Rattle.precopy_c.specs.Frames.{RefusesDecoding, RefusesEncoding};
+ghost use Rattle.precopy_c.specs.Frames.{HasFrame, RefusesDecoding, RefusesEncoding};
 ghost use Rattle.precopy_c.specs.Settings.{shape_in};
 
 use crate::answers::Refusal;
@@ -40,7 +43,9 @@ fn encoded(
 ) -> Result<Vec<u8>, Refusal>
     ensures made { IfOk result (λ text. (frame : PageFrame) × IsFrameOf (shape_in sizes.now) page stamp bytes.now frame
         × (text.items ≡ frame_text frame)) }
+    ensures given { OnOk result (HasFrame sizes.now page stamp bytes.now) }
     ensures refused { IfErr result (RefusesEncoding sizes.now page stamp bytes.now) }
+    ensures only { HasFrame sizes.now page stamp bytes.now → IfErr result (λ e. number_of e ≡ 16) }
 {
     let shape = sizes.shape()?;
     if page >= shape.pages {
@@ -75,6 +80,8 @@ pub extern "C" fn precopy_encode_frame(
         × (needed.new ≡ length (frame_text f)) × (length frame.old < needed.new) }
     ensures refused { result ≢ 0 → result ≢ 61
         → IsNumberOf result (RefusesEncoding sizes.now page stamp bytes.now) × (needed.new ≡ needed.old) }
+    ensures given { (result ≡ 0) ⊎ (result ≡ 61) → HasFrame sizes.now page stamp bytes.now }
+    ensures only { HasFrame sizes.now page stamp bytes.now → (result ≡ 0) ⊎ (result ≡ 16) ⊎ (result ≡ 61) }
     ensures unchanged { result ≢ 0 → frame.new ≡ frame.old }
 {
     match encoded(alloc, sizes, page, stamp, bytes) {
@@ -104,6 +111,7 @@ fn decoded(sizes: &GuestSizes, bytes: &[u8], content: &mut [u8]) -> Result<Frame
     ensures found { IfOk result (λ head. (f : PageFrame) × SpellsFrame (shape_in sizes.now) (take head.size bytes.now) f
         × (head.page ≡ f.page) × (head.stamp ≡ f.stamp) × (head.size ≤ length bytes.now)
         × (content.new ≡ over (content_of (shape_in sizes.now) f) content.old)) }
+    ensures given { OnOk result (IsGuestShape (shape_in sizes.now) × (2 ^ sizes.now.shift ≤ length content.old)) }
     ensures refused { IfErr result (RefusesDecoding sizes.now bytes.now (length content.old)) }
     ensures only { (f : PageFrame) (rest : List ℕ) → IsGuestShape (shape_in sizes.now) → IsFrame (shape_in sizes.now) f
         → bytes.now ≡ frame_text f ++ rest → 2 ^ sizes.now.shift ≤ length content.old → IsOk result }
@@ -134,6 +142,7 @@ pub extern "C" fn precopy_decode_frame(
     ensures found { result ≡ 0 → (f : PageFrame) × SpellsFrame (shape_in sizes.now) (take head.new.size bytes.now) f
         × (head.new.page ≡ f.page) × (head.new.stamp ≡ f.stamp) × (head.new.size ≤ length bytes.now)
         × (content.new ≡ over (content_of (shape_in sizes.now) f) content.old) }
+    ensures given { result ≡ 0 → IsGuestShape (shape_in sizes.now) × (2 ^ sizes.now.shift ≤ length content.old) }
     ensures refused { result ≢ 0
         → IsNumberOf result (RefusesDecoding sizes.now bytes.now (length content.old)) }
     ensures only { (f : PageFrame) (rest : List ℕ) → IsGuestShape (shape_in sizes.now) → IsFrame (shape_in sizes.now) f

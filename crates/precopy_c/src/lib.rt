@@ -15,6 +15,7 @@ mod flat_memory;
 mod forecasts;
 mod frames;
 mod inquiries;
+mod laws;
 mod link_shares;
 mod memories;
 mod memory_steps;

@@ -1,6 +1,7 @@
 //! Down to which share of its link a migration has the verdict that it has at all of it.
 
 // `IsLinkShare` holds of one value alone: `one_link_share`.
+// `RefusesPrediction` holds of one value alone, but for memory: `one_refused_prediction`.
 
 ghost use Rattle.std.specs.Prelude.{◌≡◌, ◌≢◌, ◌⊎◌, IfErr, IfOk, OnOk};
 ghost use Rattle.migration_model.specs.Trace.{GuestTrace, Spells};

@@ -1,17 +1,19 @@
 //! Plans: their sums and their rounds.
 
 // `IsPlan` holds of one value alone: `one_plan`.
+// `RefusesPlan` holds of one value alone: `one_refused_plan`.
 // `Spells` holds of one value alone: `one_trace`.
 
 ghost use Rattle.std.specs.Prelude.{◌≡◌, ◌≢◌, ◌<◌, ◌≤◌, ◌⊎◌, IfErr, IfOk, OnOk, length, map};
 ghost use Rattle.migration_model.specs.Rounds.{MigrationPlan};
 ghost use Rattle.migration_model.specs.Sweeps.{outcome_of};
+ghost use Rattle.migration_model.specs.Touches.{touches_in};
 ghost use Rattle.migration_model.specs.Trace.{GuestTrace, Spells};
 ghost use Rattle.round_planner.specs.Rows.{row_of};
 ghost use Rattle.c_layout.specs.Sums.{sums_of};
 ghost use Rattle.precopy_c.specs.Answers.{IsToldBy, number_of};
 ghost use Rattle.precopy_c.specs.Buffers.{over};
-ghost use Rattle.precopy_c.specs.Plans.{IsPlanOf, RefusesPlan};
+ghost use Rattle.precopy_c.specs.Plans.{IsPlanOf, RefusesPlan, RefusesTouches};
 ghost use Rattle.precopy_c.specs.Settings.{AreGiven, settings_in};
 
 use crate::answers::Refusal;
@@ -19,6 +21,7 @@ use crate::settings::SizedSettings;
 use c_layout::PlanSums;
 use round_planner::{Plan, Round, RoundRow, plan};
 use std::alloc::Global;
+use trace_codec::TraceView;
 use trace_readers::TouchLog;
 
 /// Returns a round as C sees it: its `struct precopy_round`.
@@ -35,6 +38,19 @@ fn row(round: &Round) -> RoundRow
     }
 }
 
+/// Reads the touches of a trace. Where memory runs out, it tests the trace without any: one that is refused is told so.
+pub(crate) fn read_touches(alloc: Global, trace: &[u8]) -> Result<TouchLog, Refusal>
+    ensures made { IfOk result (λ log. (t : GuestTrace) × Spells trace.now t × (log ≡ touches_in t)) }
+    ensures refused { IfErr result (RefusesTouches trace.now) }
+    ensures only { (t : GuestTrace) → Spells trace.now t → IfErr result (λ e. e ≡ Refusal.Memory) }
+{
+    let Ok(log) = TouchLog::parse(alloc, trace) else {
+        TraceView::parse(trace)?;
+        return Err(Refusal::Memory);
+    };
+    Ok(log)
+}
+
 /// Returns the plan of the trace that the bytes encode. The settings are tested first.
 fn planned(alloc: Global, trace: &[u8], settings: &SizedSettings) -> Result<Plan, Refusal>
     ensures made { IfOk result (IsPlanOf trace.now (settings_in settings.now)) }
@@ -47,7 +63,7 @@ fn planned(alloc: Global, trace: &[u8], settings: &SizedSettings) -> Result<Plan
         Ok(settings) => settings,
         Err(refusal) => return Err(refusal),
     };
-    let log = TouchLog::parse(alloc, trace)?;
+    let log = read_touches(alloc, trace)?;
     Ok(plan(alloc, &log, &settings)?)
 }
 

@@ -1,6 +1,7 @@
 //! Predictions: what a migration with given limits will be, in time and bytes, and how far a sample's draw moves that.
 
 // `IsPlan` holds of one value alone: `one_plan`.
+// `RefusesPrediction` holds of one value alone, but for memory: `one_refused_prediction`.
 // `Spells` holds of one value alone: `one_trace`.
 
 ghost use Rattle.std.specs.Prelude.{◌≡◌, ◌≢◌, ◌⊎◌, IfErr, IfOk, OnOk};

@@ -1,6 +1,7 @@
 //! Reports.
 
 // `IsPlan` holds of one value alone: `one_plan`.
+// `RefusesPlan` holds of one value alone: `one_refused_plan`.
 // `Spells` holds of one value alone: `one_trace`.
 
 ghost use Rattle.std.specs.Prelude.{◌≡◌, ◌≢◌, ◌<◌, ◌⊎◌, ℕ, List, IfErr, IfOk, OnOk, length};
@@ -12,11 +13,11 @@ ghost use Rattle.precopy_c.specs.Settings.{AreGiven, settings_in};
 
 use crate::answers::Refusal;
 use crate::buffers::answer_bytes;
+use crate::plans::read_touches;
 use crate::settings::SizedSettings;
 use round_planner::plan;
 use std::alloc::Global;
 use sweep_report::report_text;
-use trace_readers::TouchLog;
 use working_sets::tables;
 
 /// Returns the text of the report on the trace that the bytes encode. The settings are tested first.
@@ -31,7 +32,7 @@ fn reported(alloc: Global, trace: &[u8], settings: &SizedSettings) -> Result<Vec
         Ok(settings) => settings,
         Err(refusal) => return Err(refusal),
     };
-    let log = TouchLog::parse(alloc, trace)?;
+    let log = read_touches(alloc, trace)?;
     let sets = tables(alloc, &log, &settings)?;
     let planned = plan(alloc, &log, &settings)?;
     Ok(report_text(alloc, &log.shape(), &settings, &sets, &planned)?)

@@ -1,6 +1,7 @@
 //! Sweeps: the sums of many plans of one trace, and the best of them.
 
 // `IsPlan` holds of one value alone: `one_plan`.
+// `RefusesSweep` holds of one value alone: `one_refused_sweep`.
 // `Spells` holds of one value alone: `one_trace`.
 
 ghost use Rattle.std.specs.Prelude.{◌≡◌, ◌≢◌, ◌<◌, ◌≤◌, ◌⊎◌, List, IfErr, IfOk, IsOk, OnOk, length, map};
@@ -13,13 +14,13 @@ ghost use Rattle.precopy_c.specs.Settings.{AreGiven, settings_in};
 ghost use Rattle.precopy_c.specs.Sweeps.{IsSweepOf, RefusesCase, RefusesSweep, line_sums};
 
 use crate::answers::Refusal;
+use crate::plans::read_touches;
 use crate::settings::SizedSettings;
 use c_layout::PlanSums;
 use rate_limit::Settings;
 use round_planner::Outcome;
 use std::alloc::{AllocError, Global};
 use sweep_report::{Line, best_case, sweep_in_turn};
-use trace_readers::TouchLog;
 
 /// Tests the cases, in order: an error is the refusal of the first that is out of range. It allocates nothing.
 fn test_cases(cases: &[SizedSettings]) -> Result<(), Refusal>
@@ -61,8 +62,8 @@ fn swept(alloc: Global, trace: &[u8], cases: &[SizedSettings]) -> Result<Vec<Lin
     if let Err(refusal) = test_cases(cases) {
         return Err(refusal);
     }
+    let log = read_touches(alloc, trace)?;
     let checked = settings_of_cases(alloc, cases)?;
-    let log = TouchLog::parse(alloc, trace)?;
     Ok(sweep_in_turn(alloc, &log, &checked)?)
 }
 
@@ -112,7 +113,7 @@ pub extern "C" fn precopy_sweep(
 ) -> u32
     ensures made { result ≡ 0 → (lines : List SweepLine) × IsSweepOf trace.now (map settings_in cases.now) lines
         × (found.new ≡ over (map line_sums lines) found.old) × (chosen.new ≡ best_of lines) }
-    ensures given { result ≡ 0 → All AreGiven cases.now }
+    ensures given { result ≡ 0 → All AreGiven cases.now × (length cases.now ≤ length found.old) }
     ensures short { length found.old < length cases.now → result ≡ 61 }
     ensures long { result ≡ 61 → length found.old < length cases.now }
     ensures refused { result ≢ 0 → result ≢ 61

@@ -1,8 +1,8 @@
-use Rattle.std.proofs.Common.{◌≡◌, ◌∙◌, inl, inr, ap, sym, get_or, set}
+use Rattle.std.proofs.Common.{◌≡◌, ◌∙◌, inl, inr, ap, sym, get_or, set, arith}
 use Rattle.migration_model.specs.Frames.{PageFrame}
 use Rattle.page_message.specs.Shapes.{shape_of}
 use Rattle.precopy_c.specs.FlatMemory.{flat_part, not_come}
-use Rattle.precopy_c.proofs.Flat.{came_with, flat_kept, flat_taken, others_kept}
+use Rattle.precopy_c.proofs.Flat.{came_with, flat_kept, flat_taken, others_kept, taken_later}
 use Rattle.precopy_c.proofs.flat_memory.accept_view.Goals as goal
 use Rattle.precopy_c.proofs.flat_memory.accept_view.Goals.{else-state-ne0-via-then-state-ne0+else-view-state}
 use Rattle.precopy_c.proofs.flat_memory.accept_view.Goals.{else-state-ne0-via-else-state-ne0}
@@ -28,6 +28,16 @@ returns-clause-kept c =
     (elim c.else-state-ne0.branch [
       | else-state-ne0-via-then-state-ne0+else-view-state w ↦ inr (rw (page, stamp) at w.if-view-state.false)
       | else-state-ne0-via-else-state-ne0 w ↦ inl (rw page at w.if-state-ne0.false)
+    ])
+
+pub returns-clause-later : goal.returns-clause-later
+returns-clause-later c =
+    let page : c.view.inside.page ≡ c.args.view.now.page = ap (λ (f : PageFrame). f.page) c.view.view_is in
+    taken_later c.args.states.now c.view.inside.page c.view.inside.stamp
+    (omega (arith, page, c.requires.fits.page, c.requires.flat.states_are))
+    (elim c.else-state-ne0.branch [
+      | else-state-ne0-via-then-state-ne0+else-view-state w ↦ inr w.if-view-state.false
+      | else-state-ne0-via-else-state-ne0 w ↦ inl w.if-state-ne0.false
     ])
 
 pub returns-clause-others : goal.returns-clause-others

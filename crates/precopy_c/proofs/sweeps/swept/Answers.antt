@@ -1,7 +1,7 @@
 use Rattle.std.proofs.Common.{subst, sym}
 use Rattle.std.proofs.lemmas.Result.{err_from_is_err_and}
 use Rattle.precopy_c.specs.Sweeps.{RefusesSweep}
-use Rattle.precopy_c.proofs.Given.{no_sweep}
+use Rattle.precopy_c.proofs.Given.{no_sweep, unread_sweep}
 use Rattle.precopy_c.proofs.sweeps.swept.Goals as goal
 
 pub returns-in-Err-clause-refused : goal.returns-in-Err-clause-refused
@@ -10,6 +10,7 @@ returns-in-Err-clause-refused c =
 
 pub returns-in_err-log-clause-refused : goal.returns-in_err-log-clause-refused
 returns-in_err-log-clause-refused c =
-    let p = err_from_is_err_and c.from_residual-in_err-log.result c.from_residual-in_err-log.ensures.1 in
+    let p = err_from_is_err_and c.from_residual.result c.from_residual.ensures.1 in
     rw p.1 (subst (RefusesSweep c.args.trace.now c.args.cases.now) (sym p.2)
-    (c.in_default.ensures.given, c.in_err-log.ensures.refused))
+    (unread_sweep c.args.trace.now c.args.cases.now c.in_err-log.field-0.0 c.in_default.ensures.given
+    c.in_err-log.ensures.refused))
