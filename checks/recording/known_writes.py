@@ -10,7 +10,8 @@ import sys
 import time
 
 PAGE = 4096
-PAGES, LATER_PAGES = 96, 8
+# The memory that comes later is no size that fits between two libraries: behind one it would be taken for its data.
+PAGES, LATER_PAGES = 96, 80
 HOT = 64
 STEPS, PACE = 60, 0.010
 
