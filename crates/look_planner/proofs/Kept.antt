@@ -92,7 +92,7 @@ reaches_by pages touches s now list lists plan None are next = next are
 reaches_by pages touches s now list lists plan (Some end) are next = omega (arith, are.1.stop_is)
 
 -- no list begins after the stop
-reaches : (pages : ℕ) (touches : List GuestTouch) (s : HypervisorSettings) (now : NextList) (lists : List SentList)
+pub reaches : (pages : ℕ) (touches : List GuestTouch) (s : HypervisorSettings) (now : NextList) (lists : List SentList)
     (plan : HypervisorPlan) → now.from ≤ s.end → AreLists pages touches s now lists plan → now.from ≤ plan.stop
 reaches pages touches s now [] plan high are = absurd are
 reaches pages touches s now (list ∷ lists) plan high are =

@@ -8,3 +8,5 @@ pub mod Kept
 pub mod Windows
 pub mod Clark
 pub mod SummedLists
+pub mod DrawnPages
+pub mod Bounds

@@ -17,7 +17,7 @@ use Rattle.round_planner.specs.Scanning.{IsPageList, IsScan}
 use Rattle.round_planner.proofs.PageLists.{list_low}
 use Rattle.round_planner.proofs.Scans.{begun, mark_is}
 use Rattle.round_planner.proofs.Skims.{filter_all}
-use Rattle.look_planner.specs.Bitmaps.{IsListOf, IsReady}
+use Rattle.look_planner.specs.Bitmaps.{IsListOf, IsListed, IsReady}
 use Rattle.look_planner.specs.declared.bitmap.ListNumbers.{ListNumbers}
 use Rattle.look_planner.specs.declared.pace.Sent.{Sent}
 
@@ -53,7 +53,7 @@ marked_are pages marks test len are none =
     ∙ filter_range_agree test (in_words marks) 0 pages (λ page low high. are page (omega (arith, high)))
 
 -- a page that none of these is
-not_among : (page pages : ℕ) (list : List ℕ) → pages ≤ page → All (λ other. other < pages) list
+pub not_among : (page pages : ℕ) (list : List ℕ) → pages ≤ page → All (λ other. other < pages) list
     → is_among page list ≡ false
 not_among page pages list high low = list_any_none (λ other. eqb page other) list (λ k d inside. ne_eqb page
     (get_or list k d) (λ e. omega (arith, e, high, low k d inside)))
@@ -95,21 +95,21 @@ not_sent_low pages listed sent room few list = All-same (λ page. page < pages) 
 
 -- what is marked at a look is what the look finds
 pub found_are : (pages : ℕ) (touches : List GuestTouch) (now : ListNumbers) (sent : Sent)
-    (marks room marked new : List ℕ) (next : ℕ) (list : SentList) → IsReady pages touches now marks room
-    → now.from ≤ sent.to → sent.count ≤ now.listed
+    (marks room marked new : List ℕ) (next : ℕ) (list : SentList) → IsReady pages touches now marks
+    → IsListed pages now.listed room → now.from ≤ sent.to → sent.count ≤ now.listed
     → ((from upto : ℕ) → upto ≤ sent.to → IsScan pages touches from upto now.next marks
     → IsScan pages touches from sent.to next marked) → length new ≡ length marked
     → ((page : ℕ) → in_words new page ≡ (in_words marked page
     || is_among page (take (now.listed - sent.count) (drop sent.count room))))
     → IsListOf now sent room list → pages_of new ≡ pages_left pages touches list
-found_are pages touches now sent marks room marked new next list ready order count walked len are is =
+found_are pages touches now sent marks room marked new next list ready listed order count walked len are is =
     let rest = take (now.listed - sent.count) (drop sent.count room) in
     let scan : IsScan pages touches now.from sent.to next marked = walked now.from now.from order
     (begun pages touches now.from now.next marks ready.bound ready.point ready.clear) in
     let rest_is : rest ≡ drop list.sent list.pages = not_sent room now.listed sent.count count
     ∙ (λ i. drop (sym is.sent_is i) (sym is.pages_are i)) in
     left_are pages touches list rest marked new next (rw (is.from_is, is.to_is) scan) len are rest_is
-    (not_sent_low pages now.listed sent.count room count ready.list)
+    (not_sent_low pages now.listed sent.count room count listed.list)
 
 -- the list of these numbers, if it is sent so
 abbrev pub list_of : ListNumbers → Sent → List ℕ → SentList
@@ -119,25 +119,26 @@ list_of now sent room =
 pub list_of_is : (now : ListNumbers) (sent : Sent) (room : List ℕ) → IsListOf now sent room (list_of now sent room)
 list_of_is now sent room = record { from_is = refl; to_is = refl; pages_are = refl; sent_is = refl }
 
--- the next list is ready to be sent
-pub ready_next : (pages : ℕ) (touches : List GuestTouch) (now later : ListNumbers) (sent : Sent)
-    (marks room marked new new_room : List ℕ) (next : ℕ) → IsReady pages touches now marks room → now.from ≤ sent.to
-    → ((from upto : ℕ) → upto ≤ sent.to → IsScan pages touches from upto now.next marks
-    → IsScan pages touches from sent.to next marked) → new ≡ replicate (length marked) 0 → length new_room ≡ pages
-    → take later.listed new_room ≡ pages_left pages touches (list_of now sent room)
-    → later.listed ≡ length (pages_left pages touches (list_of now sent room)) → later.from ≡ sent.to
-    → later.next ≡ next → IsReady pages touches later new new_room
-ready_next pages touches now later sent marks room marked new new_room next ready order walked clear len list listed
-    from at =
-    let scan : IsScan pages touches now.from sent.to next marked = walked now.from now.from order
+-- the next list begins where the walk is
+pub ready_next : (pages : ℕ) (touches : List GuestTouch) (now later : ListNumbers) (to : ℕ) (marks marked new : List ℕ)
+    (next : ℕ) → IsReady pages touches now marks → now.from ≤ to
+    → ((from upto : ℕ) → upto ≤ to → IsScan pages touches from upto now.next marks
+    → IsScan pages touches from to next marked) → new ≡ replicate (word_count pages) 0 → later.from ≡ to
+    → later.next ≡ next → IsReady pages touches later new
+ready_next pages touches now later to marks marked new next ready order walked clear from at =
+    let scan : IsScan pages touches now.from to next marked = walked now.from now.from order
     (begun pages touches now.from now.next marks ready.bound ready.point ready.clear) in
-    let test : ℕ → Bool = λ page. is_among page (drop sent.count (take now.listed room))
-    || is_written touches now.from sent.to page in
+    record { clear = clear; bound = rw at scan.bound; point = rw (from, at) scan.point }
+
+-- and its pages are what the look finds
+pub listed_next : (pages : ℕ) (touches : List GuestTouch) (list : SentList) (room : List ℕ) (found : ℕ)
+    → pages ≤ 65_536 → length room ≡ pages → take found room ≡ pages_left pages touches list
+    → found ≡ length (pages_left pages touches list) → IsListed pages found room
+listed_next pages touches list room found few len are count =
+    let test : ℕ → Bool = λ page. is_among page (drop list.sent list.pages)
+    || is_written touches list.from list.to page in
     record {
-      clear = clear ∙ ap (λ n. replicate n 0) scan.met.len;
       room_len = len;
-      bound = rw at scan.bound;
-      point = rw (from, at) scan.point;
-      listed = omega (arith, listed, few_pages test 0 pages);
-      list = record { test = test; few = ready.list.few; list_is = list };
+      few = omega (arith, count, few_pages test 0 pages);
+      list = record { test = test; few = few; list_is = are };
     }

@@ -3,7 +3,7 @@ use Rattle.std.proofs.Common.{◌≡◌, ◌∙◌, ◌+◌, ℕ, List, length, 
 use Rattle.migration_model.specs.Looks.{HypervisorPlan, HypervisorSettings}
 use Rattle.migration_model.specs.Touches.{GuestTouch}
 use Rattle.look_planner.specs.Plans.{AreNumbers, PlanNumbers, end_of, looks_in, numbers_of}
-use Rattle.look_planner.specs.Sums.{AreSums}
+use Rattle.look_planner.specs.Sums.{AreSums, shortens}
 use Rattle.look_planner.specs.declared.parts.PlanEnd.{PlanEnd as EndCode}
 use Rattle.look_planner.specs.declared.parts.PlanEnd.TheVariants.{Few, Looks, Record}
 use Rattle.look_planner.specs.declared.sums.LookSums.{LookSums}
@@ -40,4 +40,13 @@ one_set_of_sums pages touches s a b x y =
     let total = m.total_is ∙ ap (λ (p : PlanNumbers). p.sent + length p.last) same ∙ sym n.total_is in
     let left = m.left_is ∙ ap (λ (p : PlanNumbers). length p.last) same ∙ sym n.left_is in
     let down = m.down_is ∙ ap (λ (p : PlanNumbers). p.down) same ∙ sym n.down_is in
-    λ i. record { end = end i; looks = looks i; stop = stop i; total = total i; left = left i; down = down i }
+    let shorter = m.shortens_is ∙ ap (λ (p : PlanNumbers). shortens p.rows) same ∙ sym n.shortens_is in
+    λ i. record {
+      end = end i;
+      looks = looks i;
+      stop = stop i;
+      total = total i;
+      left = left i;
+      down = down i;
+      shortens = shorter i;
+    }

@@ -1,38 +1,44 @@
 -- A plan list by list, of which only the sums are kept: there are lists that have these numbers.
-use Rattle.std.proofs.Common.{◌≡◌, ℕ, ◌+◌, ◌-◌, ◌≤◌, List, [], ◌∷◌, ◌++◌, None, Some, length, take}
-use Rattle.std.proofs.Common.{min, refl, sym, ap, ◌∙◌, inl, inr, arith}
+use Rattle.std.proofs.Common.{◌≡◌, ℕ, ◌+◌, ◌-◌, ◌≤◌, ◌&&◌, Bool, true, List, [], ◌∷◌, ◌++◌, None, Some, length, ltb, take}
+use Rattle.std.proofs.Common.{min, refl, sym, ap, subst, ◌∙◌, inl, inr, arith}
+use Rattle.std.specs.List.{list_all}
+use Rattle.std.proofs.Math.Bool.{and-true}
 use Rattle.std.proofs.lemmas.Bool.{cases_lt}
-use Rattle.std.proofs.lemmas.List.{length-take-le, length_push}
+use Rattle.std.proofs.lemmas.List.{length-take-le, length_push, take-append-le, take_all}
+use Rattle.std.proofs.lemmas.List.Folds.{list_all-append}
 use Rattle.migration_model.specs.Looks.{HypervisorSettings, end_after}
 use Rattle.migration_model.specs.Rates.{duration_of}
 use Rattle.migration_model.specs.Touches.{GuestTouch}
 use Rattle.look_planner.specs.Plans.{PlanNumbers, end_of, looks_of}
 use Rattle.look_planner.specs.declared.parts.ListRow.{ListRow}
-use Rattle.look_planner.proofs.Ways.{HasFound, IsOnWay, IsWhole, ends, goes, goes_on, starts}
-use Rattle.look_planner.specs.Sums.{AreSums}
-use Rattle.look_planner.specs.Bitmaps.{IsFirst, IsReady}
+use Rattle.look_planner.proofs.Ways.{HasFound, IsOnWay, IsWhole, ends, goes, goes_on, row_with, starts}
+use Rattle.look_planner.specs.Sums.{AreSums, is_shorter, shortens}
+use Rattle.look_planner.specs.Bitmaps.{IsFirst, IsListed}
 use Rattle.look_planner.specs.Pacing.{IsSentSo}
 use Rattle.look_planner.specs.declared.bitmap.ListNumbers.{ListNumbers}
 use Rattle.look_planner.specs.declared.pace.Sent.{Sent}
+use Rattle.look_planner.specs.declared.summing.ListSums.{ListSums}
 use Rattle.look_planner.specs.declared.sums.LookSums.{LookSums}
 
--- the lists so far are so many, and send so many pages; each but the first took a tick
+-- there are lists that have these sums; each but the first took a tick
 pub record IsSummed (pages : ℕ) (touches : List GuestTouch) (s : HypervisorSettings) (now : ListNumbers)
-    (marks room : List ℕ) (lists total : ℕ) : Type 0 where
+    (room : List ℕ) (sums : ListSums) : Type 0 where
   pub rows : List ListRow
-  pub on_way : IsOnWay pages touches s now marks
-      room rows total
-  pub lists_are : lists ≡ length rows
-  pub few : lists + (1 - now.listed) ≤ now.from + 1
+  pub on_way : IsOnWay pages touches s now room rows sums.sent
+  pub lists_are : sums.lists ≡ length rows
+  pub shorter : sums.shortens ≡ list_all is_shorter rows
+  pub few : sums.lists + (1 - now.listed) ≤ now.from + 1
 
-pub sums_start : (pages : ℕ) (touches : List GuestTouch) (s : HypervisorSettings) (now : ListNumbers)
-    (marks room : List ℕ) → IsFirst pages touches s now marks room → IsSummed pages touches s now marks room 0 0
-sums_start pages touches s now marks room first = record {
+pub sums_start : (pages : ℕ) (touches : List GuestTouch) (s : HypervisorSettings) (now : ListNumbers) (room : List ℕ)
+    (sums : ListSums) → IsFirst pages touches s now room → sums.lists ≡ 0 → sums.sent ≡ 0 → sums.shortens ≡ true
+    → IsSummed pages touches s now room sums
+sums_start pages touches s now room sums first none nothing shorter = record {
   rows = [];
-  on_way = starts pages touches s now marks room []
-      first refl;
-  lists_are = refl;
-  few = omega arith;
+  on_way = subst (λ n. IsOnWay pages touches s now room [] n) (sym nothing)
+      (starts pages touches s now room [] first refl);
+  lists_are = none;
+  shorter = shorter;
+  few = omega (arith, none);
 }
 
 -- a list of pages takes a tick, and if another comes it has pages
@@ -46,48 +52,60 @@ later_few from listed later_from later_listed to ticks end threshold lists few w
       | inr none ↦ omega (arith, few, within, more, low, to_is, none, is)
     ]
 
+-- one more list
+shorter_more : (rows : List ListRow) (row : ListRow) (before : Bool) → before ≡ list_all is_shorter rows
+    → (before && is_shorter row) ≡ list_all is_shorter (rows ++ row ∷ [])
+shorter_more rows row before is =
+    ap (λ b. b && is_shorter row) is
+    ∙ sym (list_all-append is_shorter rows (row ∷ [])
+    ∙ ap (λ b. list_all is_shorter rows && b) (and-true (is_shorter row)))
+
+-- all lists but the last
+front_of : (rows : List ListRow) (row : ListRow) → shortens (rows ++ row ∷ []) ≡ list_all is_shorter rows
+front_of rows row =
+    let count : length (rows ++ row ∷ []) - 1 ≡ length rows = omega (arith, length_push rows row) in
+    ap (λ n. list_all is_shorter (take n (rows ++ row ∷ []))) count
+    ∙ ap (list_all is_shorter) (take-append-le (length rows) rows (row ∷ []) (omega arith)
+    ∙ take_all (length rows) rows (omega arith))
+
 pub sums_go_on : (pages : ℕ) (touches : List GuestTouch) (s : HypervisorSettings) (now later : ListNumbers)
-    (sent : Sent) (marks room new_marks new_room : List ℕ) (lists total : ℕ)
-    → IsSummed pages touches s now marks room lists total → (so : IsSentSo s now.from now.listed sent)
-    → HasFound pages touches now sent room new_room later.listed
-    → end_after s (now.from + so.ticks) later.listed (lists + 1) ≡ None → later.from ≡ sent.to
-    → IsReady pages touches later new_marks new_room
-    → IsSummed pages touches s later new_marks new_room (lists + 1) (total + sent.count)
-sums_go_on pages touches s now later sent marks room new_marks new_room lists total before so ran none from ready =
+    (sent : Sent) (room new_room : List ℕ) (sums more : ListSums) → IsSummed pages touches s now room sums
+    → (so : IsSentSo s now.from now.listed sent) → HasFound pages touches now sent room new_room later.listed
+    → end_after s (now.from + so.ticks) later.listed (sums.lists + 1) ≡ None → more.lists ≡ sums.lists + 1
+    → more.sent ≡ sums.sent + sent.count → more.shortens ≡ (sums.shortens && ltb later.listed now.listed)
+    → later.from ≡ sent.to → IsListed pages later.listed new_room → IsSummed pages touches s later new_room more
+sums_go_on pages touches s now later sent room new_room sums more before so ran none lists all shorter from listed =
     let way = before.on_way in
-    let row : ListRow =
-    record { from = now.from; to = sent.to; pages = now.listed; sent = sent.count; left = later.listed } in
+    let row : ListRow = row_with now sent later.listed in
     let new = before.rows ++ row ∷ [] in
-    let count : lists + 1 ≡ length new = omega (arith, before.lists_are, length_push before.rows row) in
+    let count : sums.lists + 1 ≡ length new = omega (arith, before.lists_are, length_push before.rows row) in
     let told : end_after s (now.from + so.ticks) later.listed (length new) ≡ None =
     ap (λ n. end_after s (now.from + so.ticks) later.listed n) (sym count) ∙ none in
-    let after = goes s (now.from + so.ticks) later.listed (lists + 1) none in
+    let after = goes s (now.from + so.ticks) later.listed (sums.lists + 1) none in
+    let few = later_few now.from now.listed later.from later.listed sent.to so.ticks s.end s.threshold sums.lists
+    before.few after.0 after.1 way.in_range.threshold_low so.to_is so.moves from in
     record {
       rows = new;
-      on_way = goes_on pages touches s now
-          later
-          sent marks room new_marks new_room before.rows new row total
-          (total + sent.count) way so ran told refl refl refl from ready;
-      lists_are = count;
-      few = later_few now.from now.listed later.from later.listed sent.to so.ticks s.end s.threshold lists before.few
-          after.0 after.1 way.in_range.threshold_low so.to_is so.moves from;
+      on_way = goes_on pages touches s now later sent room new_room before.rows new row sums.sent more.sent way so ran
+          told refl refl all from listed;
+      lists_are = lists ∙ count;
+      shorter = shorter ∙ shorter_more before.rows row sums.shortens before.shorter;
+      few = omega (arith, lists, few);
     }
 
 pub sums_end : (pages : ℕ) (touches : List GuestTouch) (s : HypervisorSettings) (now : ListNumbers) (sent : Sent)
-    (marks room rest : List ℕ) (lists total left : ℕ) (sums : LookSums)
-    → IsSummed pages touches s now marks room lists total → (so : IsSentSo s now.from now.listed sent)
+    (room rest : List ℕ) (left : ℕ) (before : ListSums) (sums : LookSums)
+    → IsSummed pages touches s now room before → (so : IsSentSo s now.from now.listed sent)
     → HasFound pages touches now sent room rest left → left ≤ length rest
-    → end_after s (now.from + so.ticks) left (lists + 1) ≡ Some (end_of sums.end)
-    → sums.looks ≡ looks_of (end_of sums.end) (lists + 1) → sums.stop ≡ sent.to
-    → sums.total ≡ total + sent.count + left → sums.left ≡ left → sums.down ≡ duration_of left s.rate
-    → AreSums pages touches s sums
-sums_end pages touches s now sent marks room rest lists total left sums before so ran fits some looks stop all left_is
-    down =
-    let way = before.on_way in
-    let row : ListRow =
-    record { from = now.from; to = sent.to; pages = now.listed; sent = sent.count; left = left } in
-    let new = before.rows ++ row ∷ [] in
-    let count : lists + 1 ≡ length new = omega (arith, before.lists_are, length_push before.rows row) in
+    → end_after s (now.from + so.ticks) left (before.lists + 1) ≡ Some (end_of sums.end)
+    → sums.looks ≡ looks_of (end_of sums.end) (before.lists + 1) → sums.stop ≡ sent.to
+    → sums.total ≡ before.sent + sent.count + left → sums.left ≡ left → sums.down ≡ duration_of left s.rate
+    → sums.shortens ≡ before.shortens → AreSums pages touches s sums
+sums_end pages touches s now sent room rest left before sums summed so ran fits some looks stop all left_is down
+    shorter =
+    let row : ListRow = row_with now sent left in
+    let new = summed.rows ++ row ∷ [] in
+    let count : before.lists + 1 ≡ length new = omega (arith, summed.lists_are, length_push summed.rows row) in
     let told : end_after s (now.from + so.ticks) left (length new) ≡ Some (end_of sums.end) =
     ap (λ n. end_after s (now.from + so.ticks) left n) (sym count) ∙ some in
     let numbers : PlanNumbers = record {
@@ -96,12 +114,11 @@ sums_end pages touches s now sent marks room rest lists total left sums before s
       stop = sent.to;
       last = take left rest;
       down = duration_of left s.rate;
-      sent = total + sent.count;
+      sent = before.sent + sent.count;
     } in
-    let whole : IsWhole pages touches s numbers = ends pages touches s now
-    sent marks room rest (take left rest)
-    before.rows new row total (total + sent.count) left (duration_of left s.rate) (end_of sums.end) way so ran told
-    refl refl refl refl refl in
+    let whole : IsWhole pages touches s numbers = ends pages touches s now sent room rest (take left rest) summed.rows
+    new row before.sent (before.sent + sent.count) left (duration_of left s.rate) (end_of sums.end) summed.on_way so
+    ran told refl refl refl refl refl in
     let here : length (take left rest) ≡ left = length-take-le left rest fits in
     record {
       numbers = numbers;
@@ -113,5 +130,6 @@ sums_end pages touches s now sent marks room rest lists total left sums before s
         total_is = omega (arith, all, here);
         left_is = omega (arith, left_is, here);
         down_is = down;
+        shortens_is = shorter ∙ summed.shorter ∙ sym (front_of summed.rows row);
       };
     }

@@ -18,7 +18,7 @@ use Rattle.page_bitmap.proofs.Listed.{few_pages}
 use Rattle.round_planner.specs.Scanning.{IsPageList}
 use Rattle.round_planner.proofs.Skims.{filter_all}
 use Rattle.std.specs.List.{range_with_len}
-use Rattle.look_planner.specs.Bitmaps.{IsFirst, IsListOf, IsReady}
+use Rattle.look_planner.specs.Bitmaps.{IsFirst, IsListOf, IsListed}
 use Rattle.look_planner.specs.Pacing.{IsSentSo}
 use Rattle.look_planner.specs.Plans.{AreNumbers, IsSmall, PlanNumbers, row_of}
 use Rattle.look_planner.specs.declared.bitmap.ListNumbers.{ListNumbers}
@@ -144,12 +144,12 @@ rows_more pages touches lists list row rows new row_is rows_are is =
 
 -- the lists so far, of which the code keeps the numbers, and the one that comes
 pub record IsOnWay (pages : ℕ) (touches : List GuestTouch) (s : HypervisorSettings) (now : ListNumbers)
-    (marks room : List ℕ) (rows : List ListRow) (total : ℕ) : Type 0 where
+    (room : List ℕ) (rows : List ListRow) (total : ℕ) : Type 0 where
   pub coming : NextList
   pub lists : List SentList
   pub follows : Follows pages touches s coming lists
   pub in_range : AreHypervisorSettings s
-  pub ready : IsReady pages touches now marks room
+  pub listed : IsListed pages now.listed room
   pub from_is : coming.from ≡ now.from
   pub pages_are : coming.pages ≡ take now.listed room
   pub done_is : coming.done ≡ length lists
@@ -158,15 +158,14 @@ pub record IsOnWay (pages : ℕ) (touches : List GuestTouch) (s : HypervisorSett
   pub slow : total ≤ 1_000 * now.from
   pub high : now.from ≤ s.end
 
-pub starts : (pages : ℕ) (touches : List GuestTouch) (s : HypervisorSettings) (now : ListNumbers)
-    (marks room : List ℕ) (rows : List ListRow) → IsFirst pages touches s now marks room → rows ≡ []
-    → IsOnWay pages touches s now marks room rows 0
-starts pages touches s now marks room rows first none = record {
+pub starts : (pages : ℕ) (touches : List GuestTouch) (s : HypervisorSettings) (now : ListNumbers) (room : List ℕ)
+    (rows : List ListRow) → IsFirst pages touches s now room → rows ≡ [] → IsOnWay pages touches s now room rows 0
+starts pages touches s now room rows first none = record {
   coming = first_list pages touches s;
   lists = [];
   follows = λ rest plan are. are;
   in_range = first.in_range;
-  ready = first.ready;
+  listed = first.listed;
   from_is = sym first.from_is;
   pages_are = sym first.pages_are;
   done_is = refl;
@@ -193,13 +192,13 @@ has_found pages touches now sent room rest left rest_is left_is =
 
 -- the end test says the same of the numbers
 same_end : (pages : ℕ) (touches : List GuestTouch) (s : HypervisorSettings) (now : ListNumbers) (sent : Sent)
-    (marks room rest : List ℕ) (rows new : List ListRow) (row : ListRow) (total left : ℕ)
-    → (before : IsOnWay pages touches s now marks room rows total)
+    (room rest : List ℕ) (rows new : List ListRow) (row : ListRow) (total left : ℕ)
+    → (before : IsOnWay pages touches s now room rows total)
     → (so : IsSentSo s now.from now.listed sent)
     → HasFound pages touches now sent room rest left → new ≡ rows ++ row ∷ []
     → end_after s (before.coming.from + so.ticks) (length (pages_left pages touches (list_of now sent room)))
     (before.coming.done + 1) ≡ end_after s (now.from + so.ticks) left (length new)
-same_end pages touches s now sent marks room rest rows new row total left before so ran is =
+same_end pages touches s now sent room rest rows new row total left before so ran is =
     let count : before.coming.done + 1 ≡ length new = omega (
       arith,
       before.done_is,
@@ -211,27 +210,26 @@ same_end pages touches s now sent marks room rest rows new row total left before
     λ i. end_after s (before.from_is i + so.ticks) (sym ran.left_is i) (count i)
 
 pub goes_on : (pages : ℕ) (touches : List GuestTouch) (s : HypervisorSettings) (now later : ListNumbers) (sent : Sent)
-    (marks room new_marks new_room : List ℕ) (rows new : List ListRow) (row : ListRow) (total more : ℕ)
-    → IsOnWay pages touches s now marks room rows total
+    (room new_room : List ℕ) (rows new : List ListRow) (row : ListRow) (total more : ℕ)
+    → IsOnWay pages touches s now room rows total
     → (so : IsSentSo s now.from now.listed sent)
     → HasFound pages touches now sent room new_room later.listed
     → end_after s (now.from + so.ticks) later.listed (length new) ≡ None
     → row ≡ row_with now sent later.listed → new ≡ rows ++ row ∷ [] → more ≡ total + sent.count
-    → later.from ≡ sent.to → IsReady pages touches later new_marks new_room
-    → IsOnWay pages touches s later new_marks new_room new more
-goes_on pages touches s now later sent marks room new_marks new_room rows new row total more before so ran none
-    row_is_it is more_is from ready =
+    → later.from ≡ sent.to → IsListed pages later.listed new_room → IsOnWay pages touches s later new_room new more
+goes_on pages touches s now later sent room new_room rows new row total more before so ran none row_is_it is more_is from
+    listed =
     let list = list_of now sent room in
-    let few : now.listed ≤ length room = omega (arith, before.ready.listed, before.ready.room_len) in
+    let few : now.listed ≤ length room = omega (arith, before.listed.few, before.listed.room_len) in
     let c = came s before.coming now sent room so before.from_is before.pages_are few in
-    let told = same_end pages touches s now sent marks room new_room rows new row total later.listed before so ran is in
+    let told = same_end pages touches s now sent room new_room rows new row total later.listed before so ran is in
     let rate = slow s now.listed (sent.to - now.from) before.in_range in
     record {
       coming = list_after pages touches before.coming list;
       lists = before.lists ++ list ∷ [];
       follows = follows_more pages touches s before.coming before.lists list so.ticks c (told ∙ none) before.follows;
       in_range = before.in_range;
-      ready = ready;
+      listed = listed;
       from_is = sym from;
       pages_are = sym ran.rest_is;
       done_is = omega (arith, before.done_is, length_push before.lists list);
@@ -249,20 +247,20 @@ pub record IsWhole (pages : ℕ) (touches : List GuestTouch) (s : HypervisorSett
   pub small : IsSmall numbers.rows numbers.sent numbers.last
 
 pub ends : (pages : ℕ) (touches : List GuestTouch) (s : HypervisorSettings) (now : ListNumbers) (sent : Sent)
-    (marks room rest last : List ℕ) (rows new : List ListRow) (row : ListRow) (total more left down : ℕ) (end : PlanEnd)
-    → IsOnWay pages touches s now marks room rows total → (so : IsSentSo s now.from now.listed sent)
+    (room rest last : List ℕ) (rows new : List ListRow) (row : ListRow) (total more left down : ℕ) (end : PlanEnd)
+    → IsOnWay pages touches s now room rows total → (so : IsSentSo s now.from now.listed sent)
     → HasFound pages touches now sent room rest left
     → end_after s (now.from + so.ticks) left (length new) ≡ Some end → row ≡ row_with now sent left
     → new ≡ rows ++ row ∷ [] → more ≡ total + sent.count → last ≡ take left rest → down ≡ duration_of left s.rate
     → IsWhole pages touches s
     (record { rows = new; end = end; stop = sent.to; last = last; down = down; sent = more })
-ends pages touches s now sent marks room rest last rows new row total more left down end before so ran some row_is_it is
+ends pages touches s now sent room rest last rows new row total more left down end before so ran some row_is_it is
     more_is last_is down_is =
     let list = list_of now sent room in
     let lists = before.lists ++ list ∷ [] in
-    let few : now.listed ≤ length room = omega (arith, before.ready.listed, before.ready.room_len) in
+    let few : now.listed ≤ length room = omega (arith, before.listed.few, before.listed.room_len) in
     let c = came s before.coming now sent room so before.from_is before.pages_are few in
-    let told = same_end pages touches s now sent marks room rest rows new row total left before so ran is in
+    let told = same_end pages touches s now sent room rest rows new row total left before so ran is in
     let found = pages_left pages touches list in
     let plan : HypervisorPlan = record {
       lists = lists;
@@ -308,7 +306,7 @@ ends pages touches s now sent marks room rest last rows new row total more left 
           ap (λ (l : List ℕ). length l) rest_is,
           few_pages (λ page. is_among page (drop sent.count (take now.listed room))
               || is_written touches now.from sent.to page) 0 pages,
-          before.ready.list.few,
+          before.listed.list.few,
         );
       };
     }

@@ -16,19 +16,22 @@ pub record IsListOf (now : ListNumbers) (sent : Sent) (room : List ℕ) (list : 
   pub pages_are : list.pages ≡ take now.listed room
   pub sent_is : list.sent ≡ sent.count
 
--- no page is marked, the list's touches begin at its first tick, and the front of the buffer lists its pages
-pub record IsReady (pages : ℕ) (touches : List GuestTouch) (now : ListNumbers) (marks room : List ℕ) : Type 0 where
-  pub clear : marks ≡ replicate (word_count pages) 0
+-- the front of a buffer with a slot for each page lists so many of a guest's pages
+pub record IsListed (pages listed : ℕ) (room : List ℕ) : Type 0 where
   pub room_len : length room ≡ pages
+  pub few : listed ≤ pages
+  pub list : IsPageList pages (take listed room)
+
+-- no page is marked, and the list's touches begin at its first tick
+pub record IsReady (pages : ℕ) (touches : List GuestTouch) (now : ListNumbers) (marks : List ℕ) : Type 0 where
+  pub clear : marks ≡ replicate (word_count pages) 0
   pub bound : now.next ≤ length touches
   pub point : IsPoint touches now.from now.next
-  pub listed : now.listed ≤ pages
-  pub list : IsPageList pages (take now.listed room)
 
--- the first list is ready
+-- the front of a buffer has the first list
 pub record IsFirst (pages : ℕ) (touches : List GuestTouch) (s : HypervisorSettings) (now : ListNumbers)
-    (marks room : List ℕ) : Type 0 where
+    (room : List ℕ) : Type 0 where
   pub in_range : AreHypervisorSettings s
-  pub ready : IsReady pages touches now marks room
+  pub listed : IsListed pages now.listed room
   pub from_is : now.from ≡ s.start
   pub pages_are : take now.listed room ≡ pages_lacking pages touches s.base s.start

@@ -1,11 +1,13 @@
 -- What laws say of a hypervisor's plan.
-use Rattle.std.specs.Prelude.{◌≡◌, ℕ, ◌+◌, false, List, [], ◌∷◌, ◌++◌, IsTrue, length, map, slice_index_or, take, Some}
+use Rattle.std.specs.Prelude.{◌≡◌, ℕ, ◌+◌, ◌-◌, ◌*◌, ◌≤◌, false, List, [], ◌∷◌, ◌++◌, IsTrue, IfSome, Some, length, map}
+use Rattle.std.specs.Prelude.{slice_index_or, take}
 use Rattle.std.specs.List.{Contains}
 use Rattle.migration_model.specs.Looks.{HypervisorPlan, HypervisorSettings, PlanEnd, SentList, few_left, is_among}
 use Rattle.migration_model.specs.Looks.{looks_done, record_ends}
 use Rattle.migration_model.specs.Rates.{MigrationSettings, StopReason, few_remain, rounds_done, too_fast}
 use Rattle.migration_model.specs.Rounds.{MigrationPlan, PlannedRound}
 use Rattle.migration_model.specs.Touches.{GuestTouch, is_written}
+use Rattle.look_planner.specs.declared.sums.LookSums.{LookSums}
 
 -- a page is sent with one of these lists, and from its first tick on and before a tick it is not written
 pub record IsSentWith (touches : List GuestTouch) (lists : List SentList) (stop page : ℕ) : Type 0 where
@@ -20,6 +22,18 @@ pages_after plan k = slice_index_or (map (λ list. list.pages) plan.lists ++ pla
 
 abbrev pub no_list : SentList
 no_list = record { from = 0; to = 0; pages = []; sent = 0 }
+
+-- the stop is in the record; no more is left than the guest has, nor sent than 1,000 pages a tick and what is left, nor
+-- than a guest's pages in each list and at the stop; and a page takes 1,000 ticks at most
+pub record AreLow (pages : ℕ) (s : HypervisorSettings) (sums : LookSums) : Type 0 where
+  pub stop_low : s.start ≤ sums.stop
+  pub stop_high : sums.stop ≤ s.end
+  pub left : sums.left ≤ pages
+  pub total_low : sums.left ≤ sums.total
+  pub total : sums.total ≤ 1_000 * (sums.stop - s.start) + sums.left
+  pub down : sums.down ≤ 1_000 * sums.left
+  pub lists : sums.total ≤ (sums.looks + 2) * 65_536
+  pub looks : IfSome s.looks (λ most. sums.looks ≤ most)
 
 -- ---- Clark's plan as that of a hypervisor that asks only when all of a list is sent
 

@@ -6,7 +6,7 @@ ghost use Rattle.migration_model.specs.Looks.{SentList, is_among, pages_left};
 ghost use Rattle.migration_model.specs.Rounds.{pages_lacking};
 ghost use Rattle.page_bitmap.specs.Listing.{pages_of, word_count};
 ghost use Rattle.page_bitmap.specs.Pages.{in_words};
-ghost use Rattle.look_planner.specs.Bitmaps.{IsListOf, IsReady};
+ghost use Rattle.look_planner.specs.Bitmaps.{IsListOf, IsListed, IsReady};
 
 use crate::pace::Sent;
 use crate::settings::LookSettings;
@@ -35,7 +35,7 @@ pub(crate) struct Found {
 }
 
 /// Marks these pages.
-fn mark_pages(marks: &mut [u64], pages: &[u32])
+pub(crate) fn mark_pages(marks: &mut [u64], pages: &[u32])
     requires { All (λ page. page / 64 < length marks.old) pages.now }
     ensures pages { (page : ℕ) → in_words marks.new page ≡ (in_words marks.old page || is_among page pages.now) }
     ensures len { length marks.new ≡ length marks.old }
@@ -60,7 +60,7 @@ pub(crate) fn list_marked(marks: &mut [u64], room: &mut [u32]) -> u32
 }
 
 /// Marks all pages of a guest, if none is marked.
-fn mark_all(marks: &mut [u64], pages: u32)
+pub(crate) fn mark_all(marks: &mut [u64], pages: u32)
     requires len { length marks.old ≡ word_count pages }
     requires clear { marks.old ≡ replicate (word_count pages) 0 }
     ensures len { length marks.new ≡ length marks.old }
@@ -109,7 +109,8 @@ pub(crate) fn look<T: Timeline>(
     marks: &mut [u64],
     room: &mut [u32],
 ) -> Found
-    requires ready { IsReady (T.pages timeline.now) (T.touches timeline.now) now marks.old room.old }
+    requires ready { IsReady (T.pages timeline.now) (T.touches timeline.now) now marks.old }
+    requires listed { IsListed (T.pages timeline.now) now.listed room.old }
     requires order { now.from ≤ sent.to }
     requires count { sent.count ≤ now.listed }
     ensures list { (list : SentList) → IsListOf now sent room.old list
@@ -117,9 +118,8 @@ pub(crate) fn look<T: Timeline>(
     ensures count { (list : SentList) → IsListOf now sent room.old list
         → result.pages ≡ length (pages_left (T.pages timeline.now) (T.touches timeline.now) list) }
     ensures ready { (later : ListNumbers) → later.from ≡ sent.to → later.next ≡ result.next
-        → later.listed ≡ result.pages
-        → IsReady (T.pages timeline.now) (T.touches timeline.now) later marks.new room.new }
-    ensures few { result.pages ≤ length room.new }
+        → IsReady (T.pages timeline.now) (T.touches timeline.now) later marks.new }
+    ensures listed { IsListed (T.pages timeline.now) result.pages room.new }
 {
     let next = mark_until(timeline, marks, now.next, sent.to);
     mark_pages(marks, &room[sent.count as usize..now.listed as usize]);

@@ -9,7 +9,7 @@ ghost use Rattle.migration_model.specs.Looks.{IsHypervisorPlan, is_among, sent_o
 ghost use Rattle.migration_model.specs.Rates.{AreSettings, MigrationSettings, too_fast};
 ghost use Rattle.migration_model.specs.Rounds.{IsPlan, MigrationPlan, pages_lacking};
 ghost use Rattle.migration_model.specs.Touches.{GuestTouch, is_written};
-ghost use Rattle.look_planner.specs.Laws.{IsSentWith, no_list, pages_after, plan_like, settings_like};
+ghost use Rattle.look_planner.specs.Laws.{AreLow, IsSentWith, no_list, pages_after, plan_like, settings_like};
 ghost use Rattle.look_planner.specs.Sums.{AreSums};
 ghost use Rattle.look_planner.specs.declared.sums.LookSums.{LookSums};
 
@@ -23,6 +23,12 @@ pub fn one_look_plan()
 pub fn one_set_of_sums()
     ensures { (pages : ℕ) (touches : List GuestTouch) (s : HypervisorSettings) (a b : LookSums)
         → AreSums pages touches s a → AreSums pages touches s b → a ≡ b }
+{}
+
+/// The sums of a plan are low, so that callers can add and multiply them.
+pub fn low_sums()
+    ensures { (pages : ℕ) (touches : List GuestTouch) (s : HypervisorSettings) (sums : LookSums) → pages ≤ 65_536
+        → AreHypervisorSettings s → AreSums pages touches s sums → AreLow pages s sums }
 {}
 
 /// A look finds each page that was written since the last one: it is in the next list, or left at the end.

@@ -1,9 +1,9 @@
 //! The plan of a hypervisor, which sends at one rate and looks at its dirty bitmap again only when few pages are left.
 //!
 //! [`look_plan`] makes the plan of a trace: the numbers of its lists, why and when it ends, what is left then, and the
-//! downtime. [`look_sums`] keeps only the sums, in memory that is lent. The laws say what plans of the definition have
-//! in common: that there is one, that no page is lost, that a look finds what was written, and when such a plan is
-//! Clark's.
+//! downtime. [`look_sums`] keeps only the sums, in memory that is lent, and [`redrawn_sums`] those of the plan of pages
+//! that are drawn again. The laws say what plans of the definition have in common: that there is one, that no page is
+//! lost, that a look finds what was written, and when such a plan is Clark's.
 //!
 //! ```
 //! let settings = LookSettings::new(asked)?;
@@ -11,10 +11,11 @@
 //! println!(rt; "{} at {}, {} pages left, down {} ticks", made.end, made.stop, made.last.len(), made.down)?;
 //! ```
 //!
-//! Tests make these calls: `worked_looks` and `worked_sums` of the crate `planning_rows`.
+//! Tests make these calls: `worked_looks`, `worked_sums` and `worked_redrawn_sums` of the crate `planning_rows`.
 #![tactic(auto)]
 
 mod bitmap;
+mod drawn;
 mod error;
 mod laws;
 mod pace;
@@ -24,10 +25,11 @@ mod settings;
 mod summing;
 mod sums;
 
+pub use drawn::redrawn_sums;
 pub use error::LookSettingsError;
 pub use laws::{
-    a_look_finds_what_was_written, clark_at_one_rate, no_page_is_lost, nothing_left_is_no_window,
-    one_look_plan, one_set_of_sums, sent_at_the_rate,
+    a_look_finds_what_was_written, clark_at_one_rate, low_sums, no_page_is_lost,
+    nothing_left_is_no_window, one_look_plan, one_set_of_sums, sent_at_the_rate,
 };
 pub use parts::{ListRow, LookPlan, PlanEnd};
 pub use planning::look_plan;

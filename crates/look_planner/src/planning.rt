@@ -7,7 +7,7 @@ ghost use Rattle.std.specs.Option.{option_map};
 ghost use Rattle.migration_model.specs.Looks.{end_after, is_most};
 ghost use Rattle.migration_model.specs.Rounds.{pages_lacking};
 ghost use Rattle.page_bitmap.specs.Listing.{pages_of, word_count};
-ghost use Rattle.look_planner.specs.Bitmaps.{IsFirst};
+ghost use Rattle.look_planner.specs.Bitmaps.{IsFirst, IsReady};
 ghost use Rattle.look_planner.specs.Plans.{AreNumbers, end_of};
 
 use crate::bitmap::{ListNumbers, list_marked, look, mark_lacking};
@@ -66,7 +66,8 @@ pub(crate) fn first_list<T: Timeline>(
         settings.now.base settings.now.start }
     requires room { length room.old ≡ T.pages timeline.now }
     requires few { T.pages timeline.now ≤ 65_536 }
-    ensures { IsFirst (T.pages timeline.now) (T.touches timeline.now) settings.now result marks.new room.new }
+    ensures first { IsFirst (T.pages timeline.now) (T.touches timeline.now) settings.now result room.new }
+    ensures ready { IsReady (T.pages timeline.now) (T.touches timeline.now) result marks.new }
 {
     let start = settings.asked().start;
     let listed = list_marked(marks, room);
@@ -86,7 +87,8 @@ fn plan_lists<T: Timeline>(
     marks: &mut [u64],
     room: &mut [u32],
 ) -> Result<LookPlan, AllocError>
-    requires { IsFirst (T.pages timeline.now) (T.touches timeline.now) settings.now first marks.old room.old }
+    requires first { IsFirst (T.pages timeline.now) (T.touches timeline.now) settings.now first room.old }
+    requires ready { IsReady (T.pages timeline.now) (T.touches timeline.now) first marks.old }
     ensures { IfOk result (λ plan. AreNumbers (T.pages timeline.now) (T.touches timeline.now) settings.now plan) }
 {
     let rate = settings.asked().rate;

@@ -2,19 +2,86 @@
 
 // `AreSums` holds of one value alone: `one_set_of_sums`.
 
-ghost use Rattle.std.specs.Prelude.{◌≡◌, length};
+ghost use Rattle.std.specs.Prelude.{◌≡◌, ◌<◌, ◌+◌, ◌^◌, ◌&&◌, length, nat_lt};
+ghost use Rattle.migration_model.specs.Rates.{duration_of};
 ghost use Rattle.page_bitmap.specs.Listing.{word_count};
-ghost use Rattle.look_planner.specs.Bitmaps.{IsFirst};
+ghost use Rattle.look_planner.specs.Bitmaps.{IsFirst, IsReady};
+ghost use Rattle.look_planner.specs.Plans.{end_of, looks_of};
 ghost use Rattle.look_planner.specs.Sums.{AreSums};
 
 use crate::bitmap::{ListNumbers, look, mark_lacking};
-use crate::pace::send_list;
-use crate::parts::looks_of;
+use crate::pace::{Sent, send_list};
+use crate::parts::{PlanEnd, looks_of};
 use crate::planning::{end_with, first_list};
 use crate::settings::LookSettings;
 use crate::sums::LookSums;
 use guest_log::Timeline;
 use rate_limit::duration;
+
+/// The sums of the lists so far.
+#[derive(Clone, Copy)]
+pub(crate) struct ListSums {
+    /// How many there are.
+    pub(crate) lists: usize,
+    /// How many pages they send.
+    pub(crate) sent: u64,
+    /// Whether each leaves fewer pages than it has.
+    pub(crate) shortens: bool,
+}
+
+impl ListSums {
+    /// The sums of no list.
+    pub(crate) const NONE: ListSums = ListSums {
+        lists: 0,
+        sent: 0,
+        shortens: true,
+    };
+
+    /// Returns the sums with one more list, of which so many pages are sent and are left.
+    pub(crate) fn with(self, now: ListNumbers, sent: Sent, left: u32) -> ListSums
+        requires lists { self.lists < 2 ^ 60 }
+        requires sent { self.sent < 2 ^ 60 }
+        ensures lists { result.lists ≡ self.lists + 1 }
+        ensures sent { result.sent ≡ self.sent + sent.count }
+        ensures shortens { result.shortens ≡ (self.shortens && nat_lt left now.listed) }
+    {
+        ListSums {
+            lists: self.lists + 1,
+            sent: self.sent + sent.count as u64,
+            shortens: self.shortens && left < now.listed,
+        }
+    }
+
+    /// Returns the sums of a plan that ends with one more list, of which so many pages are sent and are left.
+    pub(crate) fn ended(
+        self,
+        settings: &LookSettings,
+        end: PlanEnd,
+        sent: Sent,
+        left: u32,
+    ) -> LookSums
+        requires lists { self.lists < 2 ^ 60 }
+        requires sent { self.sent < 2 ^ 60 }
+        requires left { left < 65_537 }
+        ensures end { result.end ≡ end }
+        ensures looks { result.looks ≡ looks_of (end_of end) (self.lists + 1) }
+        ensures stop { result.stop ≡ sent.to }
+        ensures total { result.total ≡ self.sent + sent.count + left }
+        ensures left { result.left ≡ left }
+        ensures down { result.down ≡ duration_of left settings.now.rate }
+        ensures shortens { result.shortens ≡ self.shortens }
+    {
+        LookSums {
+            end,
+            looks: looks_of(end, self.lists + 1) as u64,
+            stop: sent.to,
+            total: self.sent + sent.count as u64 + left as u64,
+            left: left as u64,
+            down: duration(left, settings.asked().rate),
+            shortens: self.shortens,
+        }
+    }
+}
 
 /// Returns the sums of the plan that begins with a list.
 fn sum_lists<T: Timeline>(
@@ -24,28 +91,19 @@ fn sum_lists<T: Timeline>(
     marks: &mut [u64],
     room: &mut [u32],
 ) -> LookSums
-    requires { IsFirst (T.pages timeline.now) (T.touches timeline.now) settings.now first marks.old room.old }
+    requires first { IsFirst (T.pages timeline.now) (T.touches timeline.now) settings.now first room.old }
+    requires ready { IsReady (T.pages timeline.now) (T.touches timeline.now) first marks.old }
     ensures { AreSums (T.pages timeline.now) (T.touches timeline.now) settings.now result }
 {
-    let rate = settings.asked().rate;
-    let mut lists = 0usize;
-    let mut total = 0u64;
+    let mut sums = ListSums::NONE;
     let mut now = first;
     loop {
         let sent = send_list(settings, now.from, now.listed);
         let found = look(timeline, now, sent, marks, room);
-        lists += 1;
-        total += sent.count as u64;
-        if let Some(end) = end_with(settings, sent, found.pages, lists) {
-            return LookSums {
-                end,
-                looks: looks_of(end, lists) as u64,
-                stop: sent.to,
-                total: total + found.pages as u64,
-                left: found.pages as u64,
-                down: duration(found.pages, rate),
-            };
+        if let Some(end) = end_with(settings, sent, found.pages, sums.lists + 1) {
+            return sums.ended(settings, end, sent, found.pages);
         }
+        sums = sums.with(now, sent, found.pages);
         now = ListNumbers {
             from: sent.to,
             next: found.next,

@@ -11,7 +11,7 @@ use Rattle.std.proofs.lemmas.Slice.Zip.{AllZip-long}
 use Rattle.migration_model.specs.Rates.{MigrationSettings}
 use Rattle.migration_model.specs.Sweeps.{IsOutcome, PlanOutcome}
 use Rattle.migration_model.specs.Touches.{GuestTouch}
-use Rattle.predictions.specs.Redrawn.{redrawn_touches}
+use Rattle.look_planner.specs.DrawnPages.{redrawn_touches}
 use Rattle.std.proofs.Math.Nat.{le_of_mul-le-mul_right, mul-sub}
 use Rattle.std.proofs.lemmas.Nat.{mul-le}
 use Rattle.predictions.specs.Redrawn.Errors.{AreRedrawn, IsErrorOf, spread_of, weight_of}

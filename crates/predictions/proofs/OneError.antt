@@ -7,7 +7,7 @@ use Rattle.migration_model.specs.Touches.{GuestTouch}
 use Rattle.predictions.specs.Redrawn.Draws.{draws_of}
 use Rattle.predictions.specs.Redrawn.Errors.{AreErrors, AreErrorsOf, AreRedrawn, IsErrorOf, SampleErrors, pause_of}
 use Rattle.predictions.specs.Redrawn.Errors.{time_of}
-use Rattle.predictions.specs.Redrawn.{redrawn_touches}
+use Rattle.look_planner.specs.DrawnPages.{redrawn_touches}
 use Rattle.predictions.specs.Units.Scales.{TraceScale}
 use Rattle.predictions.proofs.Outcomes.{one_outcome}
 

@@ -8,7 +8,7 @@ use Rattle.migration_model.specs.Rates.{duration_of}
 use Rattle.migration_model.specs.Rounds.{PlannedRound, NextRound, plan_with, first_round, round_after, total_of}
 use Rattle.migration_model.specs.Sweeps.{IsOutcome, PlanOutcome, outcome_with}
 use Rattle.migration_model.specs.Touches.{GuestTouch}
-use Rattle.predictions.specs.Redrawn.{AreDrawn, redrawn_touches}
+use Rattle.look_planner.specs.DrawnPages.{AreDrawn, redrawn_touches}
 use Rattle.predictions.specs.Redrawn.Rounds.{HasRunTo, StandsAt}
 use Rattle.round_planner.specs.Scanning.{IsScan}
 use Rattle.round_planner.specs.Steps.{numbers_after}
@@ -17,7 +17,7 @@ use Rattle.round_planner.specs.declared.numbers.RoundSums.{RoundSums}
 use Rattle.round_planner.specs.declared.step.Step.{Step}
 use Rattle.round_planner.proofs.Outcomes.{all_sent, sent_push}
 use Rattle.round_planner.proofs.Plans.{Follows, follows_start, follows_more, follows_end, can_go_on}
-use Rattle.predictions.proofs.Drawn.{marked_places}
+use Rattle.look_planner.proofs.DrawnPages.{marked_places}
 
 -- the rounds so far, and the one that may come
 pub record IsUnderWay (pages : ℕ) (touches : List GuestTouch) (drawn : List ℕ) (s : MigrationSettings)

@@ -9,7 +9,7 @@ use Rattle.migration_model.specs.Rates.{MigrationSettings}
 use Rattle.migration_model.specs.Sweeps.{PlanOutcome, IsOutcome}
 use Rattle.migration_model.specs.Touches.{GuestTouch}
 use Rattle.predictions.specs.Redrawn.Draws.{draws_of}
-use Rattle.predictions.specs.Redrawn.{redrawn_touches}
+use Rattle.look_planner.specs.DrawnPages.{redrawn_touches}
 
 -- n numbers' sum of squared deviations from their mean, times n
 abbrev pub spread_of : List ℕ → ℕ

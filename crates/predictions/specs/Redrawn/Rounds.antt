@@ -1,19 +1,13 @@
 -- The plan of redrawn pages on its way. No contract of a public call cites it.
-use Rattle.std.specs.Prelude.{◌≡◌, ℕ, ◌+◌, ◌*◌, ◌/◌, ◌&&◌, nat_le, true, List, length, slice_index}
-use Rattle.std.specs.List.{filter, range_with_len}
+use Rattle.std.specs.Prelude.{◌≡◌, ℕ, ◌+◌, ◌*◌, ◌/◌, ◌&&◌, nat_le, true, List, length}
 use Rattle.migration_model.specs.Rates.{MigrationSettings}
 use Rattle.migration_model.specs.Rounds.{NextRound, PlannedRound, IsSent}
 use Rattle.migration_model.specs.Touches.{GuestTouch}
-use Rattle.page_bitmap.specs.Pages.{in_words}
-use Rattle.predictions.specs.Redrawn.{redrawn_touches}
+use Rattle.look_planner.specs.DrawnPages.{places_in, redrawn_touches}
 use Rattle.round_planner.specs.declared.marked.SentPages.{SentPages}
 use Rattle.round_planner.specs.declared.numbers.RoundNumbers.{RoundNumbers}
 use Rattle.round_planner.specs.declared.numbers.RoundSums.{RoundSums}
 use Rattle.round_planner.specs.Scanning.{CanCome, HasRun, IsScan, IsScanWithin}
-
--- the drawn pages that a bitmap has, by their places
-abbrev pub places_in : List ℕ → List ℕ → List ℕ
-places_in drawn set = filter (λ place. in_words set (slice_index drawn place)) (range_with_len 0 (length drawn))
 
 -- A round that may come, by its numbers and the bitmap of its pages. The walk is at its first tick, and no page is
 -- marked.

@@ -10,8 +10,8 @@ ghost use Rattle.migration_model.specs.Sweeps.{IsOutcome};
 ghost use Rattle.migration_model.specs.Touches.{GuestTouch};
 ghost use Rattle.page_bitmap.specs.Pages.{in_words};
 ghost use Rattle.page_bitmap.specs.Listing.{word_count};
-ghost use Rattle.predictions.specs.Redrawn.{AreDrawn, redrawn_touches};
-ghost use Rattle.predictions.specs.Redrawn.Rounds.{HasRunTo, HasSent, IsStanding, StandsAt, places_in};
+ghost use Rattle.look_planner.specs.DrawnPages.{AreDrawn, places_in, redrawn_touches};
+ghost use Rattle.predictions.specs.Redrawn.Rounds.{HasRunTo, HasSent, IsStanding, StandsAt};
 ghost use Rattle.round_planner.specs.Scanning.{IsScan};
 
 use crate::redrawn::walk::{count_in, count_sent};

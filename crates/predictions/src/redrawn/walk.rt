@@ -4,8 +4,8 @@ ghost use Rattle.std.specs.Prelude.{◌≡◌, ◌≤◌, ◌<◌, ◌+◌, ◌*
 ghost use Rattle.std.specs.List.{count_by};
 ghost use Rattle.migration_model.specs.Touches.{is_written};
 ghost use Rattle.page_bitmap.specs.Pages.{in_words};
-ghost use Rattle.predictions.specs.Redrawn.{AreDrawn, redrawn_touches};
-ghost use Rattle.predictions.specs.Redrawn.Rounds.{CountsSent, places_in};
+ghost use Rattle.look_planner.specs.DrawnPages.{AreDrawn, places_in, redrawn_touches};
+ghost use Rattle.predictions.specs.Redrawn.Rounds.{CountsSent};
 ghost use Rattle.round_planner.specs.Scanning.{IsScan, IsScanWithin};
 
 use guest_log::Timeline;

@@ -8,9 +8,11 @@ use Rattle.look_planner.proofs.planning.plan_lists.Given.{Over}
 use Rattle.look_planner.proofs.planning.plan_lists.Goals as goal
 
 pub loop-rows-init : goal.loop-rows-init
-loop-rows-init g c = starts (g.T.Timeline.pages c.args.timeline.now) (g.T.Timeline.touches c.args.timeline.now)
-    c.args.settings.now c.args.first c.args.marks.now c.args.room.now c.new-rows.result.items c.requires
-    c.new-rows.ensures.items
+loop-rows-init g c = record {
+  way = starts (g.T.Timeline.pages c.args.timeline.now) (g.T.Timeline.touches c.args.timeline.now) c.args.settings.now
+      c.args.first c.args.room.now c.new-rows.result.items c.requires.first c.new-rows.ensures.items;
+  ready = c.requires.ready;
+}
 
 pub loop-rows-preserved : goal.loop-rows-preserved
 loop-rows-preserved g c =
@@ -23,13 +25,15 @@ loop-rows-preserved g c =
     let none : end_after s (now.from + so.ticks) found.pages (length c.push.new.self.items) ≡ None =
     ap (λ n. end_after s (now.from + so.ticks) found.pages n) (sym count)
     ∙ sym (c.end_with.ensures (now.from + so.ticks) so.is_look) ∙ ap (option_map end_of) c.in_default.is in
-    goes_on (g.T.Timeline.pages c.args.timeline.now) (g.T.Timeline.touches c.args.timeline.now) s now
-    (record { from = sent.to; next = found.next; listed = found.pages }) sent c.loop-rows.marks c.loop-rows.room
-    c.look-found.new.marks c.look-found.new.room c.loop-rows.rows.items c.push.new.self.items
-    (row_with now sent found.pages) c.loop-rows.total (c.loop-rows.total + sent.count) c.loop-rows.invariant
-    so (has_found _ _ now sent c.loop-rows.room c.look-found.new.room found.pages c.look-found.ensures.list
-    c.look-found.ensures.count)
-    none refl c.in_ok-push.ensures.items refl refl (c.look-found.ensures.ready _ refl refl refl)
+    record {
+      way = goes_on (g.T.Timeline.pages c.args.timeline.now) (g.T.Timeline.touches c.args.timeline.now) s now
+          (record { from = sent.to; next = found.next; listed = found.pages }) sent c.loop-rows.room
+          c.look-found.new.room c.loop-rows.rows.items c.push.new.self.items (row_with now sent found.pages)
+          c.loop-rows.total (c.loop-rows.total + sent.count) c.loop-rows.invariant.way so
+          (has_found _ _ now sent c.loop-rows.room c.look-found.new.room found.pages c.look-found.ensures.list
+          c.look-found.ensures.count) none refl c.in_ok-push.ensures.items refl refl c.look-found.ensures.listed;
+      ready = c.look-found.ensures.ready _ refl refl;
+    }
 
 -- the plan that ends with this list
 whole : (g : Over) → (c : goal.After-duration g) → IsWhole (g.T.Timeline.pages c.args.timeline.now)
@@ -57,9 +61,9 @@ whole g c =
     let last : c.in_ok-last.last.items ≡ take found.pages c.look-found.new.room =
     grind (arith, c.in_ok-last.ensures.items) in
     ends (g.T.Timeline.pages c.args.timeline.now) (g.T.Timeline.touches c.args.timeline.now) s now sent
-    c.loop-rows.marks c.loop-rows.room c.look-found.new.room c.in_ok-last.last.items c.loop-rows.rows.items
+    c.loop-rows.room c.look-found.new.room c.in_ok-last.last.items c.loop-rows.rows.items
     c.push.new.self.items (row_with now sent found.pages) c.loop-rows.total (c.loop-rows.total + sent.count)
-    found.pages c.duration.result (end_of c.in-Some.end) c.loop-rows.invariant
+    found.pages c.duration.result (end_of c.in-Some.end) c.loop-rows.invariant.way
     so (has_found _ _ now sent c.loop-rows.room c.look-found.new.room found.pages c.look-found.ensures.list
     c.look-found.ensures.count) some refl
     c.in_ok-push.ensures.items refl last (c.duration.ensures.value ∙ ap (λ r. duration_of found.pages r) rate)

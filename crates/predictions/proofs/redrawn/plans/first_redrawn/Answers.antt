@@ -1,7 +1,7 @@
 use Rattle.std.proofs.Common.{rules, ◌≡◌, ◌∙◌, length, replicate, refl, sym, ap, subst, ℕ, List}
 use Rattle.migration_model.specs.Rates.{MigrationSettings}
 use Rattle.migration_model.specs.Rounds.{first_round}
-use Rattle.predictions.specs.Redrawn.{redrawn_touches}
+use Rattle.look_planner.specs.DrawnPages.{redrawn_touches}
 use Rattle.round_planner.specs.Indexing.{IsPoint}
 use Rattle.round_planner.proofs.Plans.{can_start}
 use Rattle.round_planner.proofs.Scans.{begun}

@@ -2,9 +2,9 @@ use Rattle.std.proofs.Common.{rules, ◌≡◌, ◌∙◌, ◌≤◌, ℕ, Optio
 use Rattle.std.proofs.Common.{subst}
 use Rattle.migration_model.specs.Rates.{MigrationSettings}
 use Rattle.migration_model.specs.Rounds.{pages_lacking}
-use Rattle.predictions.specs.Redrawn.{redrawn_touches}
+use Rattle.look_planner.specs.DrawnPages.{redrawn_touches}
 use Rattle.round_planner.proofs.Scans.{begun}
-use Rattle.predictions.proofs.Drawn.{all_places, marked_places}
+use Rattle.look_planner.proofs.DrawnPages.{all_places, marked_places}
 use Rattle.predictions.proofs.redrawn.plans.mark_lacking.Goals as goal
 
 pub returns-in-Some : goal.returns-in-Some

@@ -1,7 +1,8 @@
 use Rattle.std.proofs.Common.{◌≡◌, ◌∙◌, ◌+◌, ℕ, List, length, refl, sym, ap}
 use Rattle.migration_model.specs.Touches.{pages_written}
-use Rattle.predictions.specs.Redrawn.{redrawn_touches}
-use Rattle.predictions.proofs.Drawn.{count_places, marked_places}
+use Rattle.look_planner.specs.DrawnPages.{redrawn_touches}
+use Rattle.look_planner.proofs.DrawnPages.{marked_places}
+use Rattle.predictions.proofs.Drawn.{count_places}
 use Rattle.round_planner.proofs.Plans.{ran, round_of}
 use Rattle.round_planner.proofs.Scans.{walked_on}
 use Rattle.predictions.proofs.redrawn.plans.run_round.Goals as goal

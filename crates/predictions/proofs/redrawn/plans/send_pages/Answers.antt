@@ -1,6 +1,6 @@
 use Rattle.std.proofs.Common.{◌≡◌, ◌∙◌, ◌&&◌, true, false, leb, refl, sym, ap, subst, arith}
 use Rattle.migration_model.specs.Rounds.{IsSent}
-use Rattle.predictions.specs.Redrawn.{redrawn_touches}
+use Rattle.look_planner.specs.DrawnPages.{redrawn_touches}
 use Rattle.predictions.specs.Redrawn.Rounds.{CountsSent}
 use Rattle.round_planner.proofs.Skims.{all_is_sent}
 use Rattle.predictions.proofs.redrawn.plans.send_pages.Goals as goal

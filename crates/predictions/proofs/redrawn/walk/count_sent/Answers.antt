@@ -1,8 +1,7 @@
 use Rattle.std.proofs.Common.{ℕ, ◌∙◌, [], ap, arith, get_or, length}
 use Rattle.std.specs.List.{filter, range_with_len}
 use Rattle.page_bitmap.specs.Pages.{in_words}
-use Rattle.predictions.specs.Redrawn.{redrawn_touches}
-use Rattle.predictions.specs.Redrawn.Rounds.{places_in}
+use Rattle.look_planner.specs.DrawnPages.{places_in, redrawn_touches}
 use Rattle.predictions.proofs.Drawn.{one_at_most, place_more}
 use Rattle.round_planner.proofs.Skims.{Rises-pages, skim, skim_is_sent}
 use Rattle.predictions.proofs.redrawn.walk.count_sent.Goals as goal

@@ -1,7 +1,7 @@
 use Rattle.std.proofs.Common.{◌≡◌, ◌≤◌, ◌+◌, ◌*◌, ◌/◌, [], get_or, length}
 use Rattle.std.specs.List.{filter, range_with_len}
 use Rattle.page_bitmap.specs.Pages.{in_words}
-use Rattle.predictions.specs.Redrawn.{redrawn_touches}
+use Rattle.look_planner.specs.DrawnPages.{redrawn_touches}
 use Rattle.round_planner.specs.Scanning.{IsScanWithin}
 use Rattle.round_planner.proofs.Skims.{skim}
 use Rattle.predictions.proofs.redrawn.walk.count_sent.Given as goal
