@@ -1,6 +1,7 @@
 //! Worked examples of settings, working sets, plans, reports, sweeps, times and sizes.
 
 mod agreement;
+mod course;
 mod look;
 mod plan;
 mod quantity;

@@ -8,5 +8,6 @@ pub mod Redrawn
 pub mod Remedies
 pub mod Starts
 pub mod Looks
+pub mod Courses
 pub mod Shares
 pub mod Agreements

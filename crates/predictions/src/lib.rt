@@ -5,6 +5,7 @@
 pub mod agreement;
 mod answer;
 mod cost;
+mod course;
 mod hosts;
 mod laws;
 pub mod looks;
@@ -21,6 +22,7 @@ mod verdict;
 
 pub use answer::{Answer, ErrorNumbers, number_of_reason};
 pub use cost::Cost;
+pub use course::{Course, CourseEnd, Manner, one_course};
 pub use hosts::{link_in_mib, millis_for_pages, push_hosts};
 pub use laws::{
     accepted_starts_are_not_refused, one_agreement, one_best, one_errors, one_link_share,

@@ -3,5 +3,6 @@
 mod forecast;
 mod forecast_text;
 
+pub(crate) use forecast::look_asked;
 pub use forecast::{LookForecast, one_forecast};
 pub use forecast_text::push_forecast;

@@ -3,6 +3,7 @@
 //! A sample has some of a guest's pages. Another draw would have had others, and another plan. The bootstrap of Efron
 //! (1979) takes the sample for the guest: it draws as many pages from it, with replacement, and plans for these.
 
+mod courses;
 mod draws;
 mod errors;
 mod plans;
@@ -11,6 +12,7 @@ mod spread;
 mod sums;
 mod walk;
 
+pub use courses::redrawn_course;
 pub(crate) use draws::draw;
 pub use errors::{Errors, has_errors, sample_errors};
 pub use plans::{are_drawn, redrawn_outcome};

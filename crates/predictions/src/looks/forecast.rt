@@ -65,6 +65,22 @@ impl Model for LookForecast {
     ghost invariant = { λ f. (f.bytes < 2 ^ 110) × (f.left < 2 ^ 110) };
 }
 
+/// Returns what is asked of the hypervisor if the record ends at a tick.
+pub(crate) fn look_asked(scale: &Scale, settings: &Settings, end: u64) -> LookAsked
+    ensures { result ≡ look_settings scale.now settings.now end }
+{
+    let asked = settings.asked();
+    LookAsked {
+        start: asked.start,
+        base: asked.base,
+        rate: asked.max,
+        window: scale.ticks(WINDOW),
+        threshold: asked.threshold,
+        looks: None,
+        end,
+    }
+}
+
 /// Returns the settings of the hypervisor, if the trace does not end before its start.
 fn settings_of(scale: &Scale, settings: &Settings, last: u64) -> Option<LookSettings>
     requires { last < 2 ^ 40 }
@@ -72,20 +88,10 @@ fn settings_of(scale: &Scale, settings: &Settings, last: u64) -> Option<LookSett
     ensures some { IfSome result (λ s. settings.now.start ≤ last) }
     ensures settings { IfSome result (λ s. s ≡ look_settings scale.now settings.now last) }
 {
-    let asked = settings.asked();
-    if asked.start > last {
+    if settings.asked().start > last {
         return None;
     }
-    let looks = LookAsked {
-        start: asked.start,
-        base: asked.base,
-        rate: asked.max,
-        window: scale.ticks(WINDOW),
-        threshold: asked.threshold,
-        looks: None,
-        end: last,
-    };
-    let Ok(settings) = LookSettings::new(looks) else {
+    let Ok(settings) = LookSettings::new(look_asked(scale, settings, last)) else {
         unreachable!()
     };
     Some(settings)

@@ -1,0 +1,223 @@
+//! What a plan comes to, by a hypervisor's looks or by Clark's rounds.
+
+// `IsCourse` holds of one value alone: `one_course`.
+
+ghost use Rattle.std.specs.Prelude.{◌≡◌, ◌≤◌, ◌<◌, ◌^◌, ℕ, IfErr, IfOk, List};
+ghost use Rattle.migration_model.specs.Looks.{AreHypervisorSettings};
+ghost use Rattle.migration_model.specs.Rates.{MigrationSettings};
+ghost use Rattle.migration_model.specs.Touches.{GuestTouch, last_tick_of};
+ghost use Rattle.predictions.specs.Courses.{IsCourse, course_settings, look_ending, record_end, round_ending};
+ghost use Rattle.predictions.specs.Courses.{stop_after};
+ghost use Rattle.predictions.specs.Units.Scales.{TraceScale};
+ghost use Rattle.predictions.specs.declared.course.Manner.TheVariants as manners;
+ghost use Rattle.rate_limit.specs.Pacing.{reason_of};
+
+use crate::looks::look_asked;
+use crate::units::Scale;
+use crate::verdict::Verdict;
+use guest_log::{Timeline, last_tick};
+use look_planner::{LookAsked, LookSettings, LookSums, PlanEnd, look_sums};
+use page_bitmap::word_count;
+use rate_limit::{Reason, Settings};
+use round_planner::{Outcome, PlanError, plan};
+use std::alloc::Global;
+
+/// After so many looks the planner gives up.
+const MOST_LOOKS: u64 = 2_000;
+
+/// How long a record is at most, in ticks. Clark's rounds last no longer than that and one tick more.
+const LONGEST: u64 = 4_194_303_999;
+
+/// By whose plan a migration goes.
+#[derive(Clone, Copy, Debug, PartialEq, Eq)]
+pub enum Manner {
+    /// That of a hypervisor, which looks at its dirty bitmap when few pages are left.
+    Looks,
+    /// Clark's, round by round.
+    Rounds,
+}
+
+/// Why a plan ends.
+#[derive(Clone, Copy, Debug, PartialEq, Eq)]
+pub enum CourseEnd {
+    /// Few pages are left.
+    Few,
+    /// A round dirtied more pages in a time than the link sends.
+    Fast,
+    /// There were as many rounds or looks as there may be.
+    Most,
+    /// The record ends first, and until then each list was shorter than the one before it.
+    Cut,
+    /// The record ends first, and its lists did not get shorter.
+    Level,
+}
+
+/// What a plan comes to.
+#[derive(Clone, Copy, Debug, PartialEq, Eq)]
+pub struct Course {
+    /// Why it ends.
+    pub ending: CourseEnd,
+    /// How many rounds or looks there are.
+    pub steps: u64,
+    /// The tick at which the guest is stopped. If the record ends first and the lists got shorter, the tick after that.
+    pub stop: u64,
+    /// The downtime, in ticks.
+    pub down: u64,
+    /// How many pages are sent in all.
+    pub total: u64,
+}
+
+/// Returns the tick at which the record of a plan of looks ends, of a record with this last tick.
+fn record_end(start: u64, last: u64) -> u64
+    requires { start < 2 ^ 40 }
+    ensures { result ≡ record_end start last }
+{
+    start.max(last.min(start + LONGEST))
+}
+
+/// Returns the settings of a hypervisor that gives up after 2,000 looks, over a record with this last tick.
+pub(crate) fn course_settings(scale: &Scale, settings: &Settings, last: u64) -> LookSettings
+    requires { last < 2 ^ 40 }
+    ensures settings { result ≡ course_settings scale.now settings.now last }
+    ensures in_range { AreHypervisorSettings result }
+{
+    let start = settings.asked().start;
+    let asked = LookAsked {
+        looks: Some(MOST_LOOKS),
+        ..look_asked(scale, settings, record_end(start, last))
+    };
+    let Ok(settings) = LookSettings::new(asked) else {
+        unreachable!()
+    };
+    settings
+}
+
+/// Returns why a plan of rounds ends.
+fn round_ending(reason: Reason) -> CourseEnd
+    ensures { result ≡ round_ending (reason_of reason) }
+{
+    match reason {
+        Reason::Few => CourseEnd::Few,
+        Reason::Fast => CourseEnd::Fast,
+        Reason::Rounds => CourseEnd::Most,
+    }
+}
+
+/// Returns why a plan of looks ends, if its lists get shorter or do not.
+fn look_ending(end: PlanEnd, shortens: bool) -> CourseEnd
+    ensures { result ≡ look_ending end shortens }
+{
+    match end {
+        PlanEnd::Few => CourseEnd::Few,
+        PlanEnd::Looks => CourseEnd::Most,
+        PlanEnd::Record => {
+            if shortens {
+                CourseEnd::Cut
+            } else {
+                CourseEnd::Level
+            }
+        }
+    }
+}
+
+/// Returns when a plan stops that ends so at a tick.
+fn stop_after(ending: CourseEnd, tick: u64) -> u64
+    requires { tick ≤ 2 ^ 40 }
+    ensures { result ≡ stop_after ending tick }
+{
+    match ending {
+        CourseEnd::Cut => tick + 1,
+        CourseEnd::Few => tick,
+        CourseEnd::Fast => tick,
+        CourseEnd::Most => tick,
+        CourseEnd::Level => tick,
+    }
+}
+
+impl Course {
+    ghost use Rattle.std.specs.Prelude.{◌≡◌, ◌≤◌, ◌^◌, IfErr, IfOk};
+    ghost use Rattle.predictions.specs.Courses.{IsCourse, course_of_looks, course_of_rounds, course_verdict};
+    ghost use Rattle.migration_model.specs.Touches.{last_tick_of};
+
+    /// Returns what a plan of rounds with these sums comes to.
+    pub fn of_outcome(outcome: &Outcome) -> Course
+        ensures { result ≡ course_of_rounds outcome.now }
+    {
+        Course {
+            ending: round_ending(outcome.reason),
+            steps: outcome.rounds,
+            stop: outcome.stop,
+            down: outcome.down,
+            total: outcome.total,
+        }
+    }
+
+    /// Returns what a plan of looks with these sums comes to.
+    pub(crate) fn of_sums(sums: &LookSums) -> Course
+        requires { sums.now.stop ≤ 2 ^ 40 }
+        ensures { result ≡ course_of_looks sums.now }
+    {
+        let ending = look_ending(sums.end, sums.shortens);
+        Course {
+            ending,
+            steps: sums.looks,
+            stop: stop_after(ending, sums.stop),
+            down: sums.down,
+            total: sums.total,
+        }
+    }
+
+    /// Returns what the plan of a trace comes to, by a manner. The only error is that memory runs out.
+    pub fn of_trace<T: Timeline>(
+        alloc: Global,
+        timeline: &T,
+        settings: &Settings,
+        scale: &Scale,
+        manner: Manner,
+    ) -> Result<Course, PlanError>
+        ensures made { IfOk result (IsCourse manner (T.pages timeline.now) (T.touches timeline.now) scale.now
+            settings.now (last_tick_of (T.touches timeline.now))) }
+        ensures refused { IfErr result (λ e. e ≡ PlanError.Memory) }
+    {
+        match manner {
+            Manner::Looks => look_course(alloc, timeline, settings, scale),
+            Manner::Rounds => {
+                let plan = plan(alloc, timeline, settings)?;
+                Ok(Course::of_outcome(&plan.outcome()))
+            }
+        }
+    }
+
+    /// Returns whether the migration converges, over a record with this last tick.
+    pub fn verdict(&self, last_tick: u64) -> Verdict
+        ensures { result ≡ course_verdict self.now last_tick }
+    {
+        Verdict::new(last_tick < self.stop, matches!(self.ending, CourseEnd::Few))
+    }
+}
+
+/// Returns what a hypervisor's plan of a trace comes to.
+fn look_course<T: Timeline>(
+    alloc: Global,
+    timeline: &T,
+    settings: &Settings,
+    scale: &Scale,
+) -> Result<Course, PlanError>
+    ensures made { IfOk result (IsCourse manners.Looks (T.pages timeline.now) (T.touches timeline.now) scale.now
+        settings.now (last_tick_of (T.touches timeline.now))) }
+    ensures refused { IfErr result (λ e. e ≡ PlanError.Memory) }
+{
+    let pages = timeline.page_count() as usize;
+    let mut marks = Vec::from_elem(alloc, 0, word_count(pages))?;
+    let mut room = Vec::from_elem(alloc, 0, pages)?;
+    let looks = course_settings(scale, settings, last_tick(timeline));
+    let sums = look_sums(timeline, &looks, &mut marks, &mut room);
+    Ok(Course::of_sums(&sums))
+}
+
+/// The plan of a guest by a manner comes to one thing.
+pub fn one_course()
+    ensures { (manner : Manner) (pages last_tick : ℕ) (touches : List GuestTouch) (scale : TraceScale)
+        (s : MigrationSettings) (a b : Course) → IsCourse manner pages touches scale s last_tick a
+        → IsCourse manner pages touches scale s last_tick b → a ≡ b }
+{}
