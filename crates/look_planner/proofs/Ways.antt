@@ -217,7 +217,8 @@ pub goes_on : (pages : ℕ) (touches : List GuestTouch) (s : HypervisorSettings)
     → end_after s (now.from + so.ticks) later.listed (length new) ≡ None
     → row ≡ row_with now sent later.listed → new ≡ rows ++ row ∷ [] → more ≡ total + sent.count
     → later.from ≡ sent.to → IsListed pages later.listed new_room → IsOnWay pages touches s later new_room new more
-goes_on pages touches s now later sent room new_room rows new row total more before so ran none row_is_it is more_is from
+goes_on pages touches s now later sent room new_room rows new row total more before so ran none row_is_it is more_is
+    from
     listed =
     let list = list_of now sent room in
     let few : now.listed ≤ length room = omega (arith, before.listed.few, before.listed.room_len) in

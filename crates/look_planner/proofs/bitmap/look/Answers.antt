@@ -22,7 +22,8 @@ list_marked-pages-requires-clause-room g c =
     let room = c.args.room.now in
     let found : pages_of c.mark_pages.new.marks ≡ pages_left pages touches (list_of now sent room) =
     found_are pages touches now sent c.args.marks.now room c.mark_until-next.new.marks c.mark_pages.new.marks
-    c.mark_until-next.result (list_of now sent room) c.requires.ready c.requires.listed c.requires.order c.requires.count
+    c.mark_until-next.result (list_of now sent room) c.requires.ready c.requires.listed c.requires.order
+    c.requires.count
     c.mark_until-next.ensures.walked c.mark_pages.ensures.len c.mark_pages.ensures.pages (list_of_is now sent room) in
     omega (
       arith,
@@ -46,7 +47,8 @@ returns-clause-count g c list is =
     c.list_marked-pages.ensures.count
     ∙ ap (λ (l : List ℕ). length l) (found_are (g.T.Timeline.pages c.args.timeline.now)
     (g.T.Timeline.touches c.args.timeline.now) c.args.now c.args.sent c.args.marks.now c.args.room.now
-    c.mark_until-next.new.marks c.mark_pages.new.marks c.mark_until-next.result list c.requires.ready c.requires.listed c.requires.order
+    c.mark_until-next.new.marks c.mark_pages.new.marks c.mark_until-next.result list c.requires.ready c.requires.listed
+    c.requires.order
     c.requires.count c.mark_until-next.ensures.walked c.mark_pages.ensures.len c.mark_pages.ensures.pages is)
 
 pub returns-clause-ready : goal.returns-clause-ready

@@ -27,7 +27,8 @@ list_marked-pages-requires-clause-room g c =
     let are : pages_of c.mark_places.new.places ≡ pages_left (length drawn) all (list_of now sent room) =
     drawn_found (g.T.Timeline.pages c.args.timeline.now) (g.T.Timeline.touches c.args.timeline.now) c.args.drawn.now
     c.args.now c.args.sent c.args.marks.now c.args.places.now c.args.room.now c.mark_until-next.new.marks
-    c.mark_pages.new.marks c.mark_places.new.places c.mark_until-next.result (list_of now sent room) c.requires.drawn c.requires.ready
+    c.mark_pages.new.marks c.mark_places.new.places c.mark_until-next.result (list_of now sent room) c.requires.drawn
+    c.requires.ready
     c.requires.places c.requires.listed c.requires.order c.requires.count c.mark_until-next.ensures.walked
     c.mark_pages.ensures.len c.mark_pages.ensures.pages c.mark_places.ensures.len c.mark_places.ensures.marked
     c.mark_places.ensures.others (list_of_is now sent room) in
@@ -50,7 +51,8 @@ returns-clause-list g c list is = c.list_marked-pages.ensures.list
 
 pub returns-clause-count : goal.returns-clause-count
 returns-clause-count g c list is = c.list_marked-pages.ensures.count
-    ∙ ap (λ (l : List ℕ). length l) (drawn_found (g.T.Timeline.pages c.args.timeline.now) (g.T.Timeline.touches c.args.timeline.now) c.args.drawn.now
+    ∙ ap (λ (l : List ℕ). length l) (drawn_found (g.T.Timeline.pages c.args.timeline.now) (g.T.Timeline.touches
+    c.args.timeline.now) c.args.drawn.now
     c.args.now c.args.sent c.args.marks.now c.args.places.now c.args.room.now c.mark_until-next.new.marks
     c.mark_pages.new.marks c.mark_places.new.places c.mark_until-next.result list c.requires.drawn c.requires.ready
     c.requires.places c.requires.listed c.requires.order c.requires.count c.mark_until-next.ensures.walked
@@ -82,7 +84,8 @@ returns-clause-listed g c =
     let are : pages_of c.mark_places.new.places ≡ pages_left (length drawn) all (list_of now sent room) =
     drawn_found (g.T.Timeline.pages c.args.timeline.now) (g.T.Timeline.touches c.args.timeline.now) c.args.drawn.now
     c.args.now c.args.sent c.args.marks.now c.args.places.now c.args.room.now c.mark_until-next.new.marks
-    c.mark_pages.new.marks c.mark_places.new.places c.mark_until-next.result (list_of now sent room) c.requires.drawn c.requires.ready
+    c.mark_pages.new.marks c.mark_places.new.places c.mark_until-next.result (list_of now sent room) c.requires.drawn
+    c.requires.ready
     c.requires.places c.requires.listed c.requires.order c.requires.count c.mark_until-next.ensures.walked
     c.mark_pages.ensures.len c.mark_pages.ensures.pages c.mark_places.ensures.len c.mark_places.ensures.marked
     c.mark_places.ensures.others (list_of_is now sent room) in
