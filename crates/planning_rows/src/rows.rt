@@ -2,6 +2,7 @@
 
 mod agreement;
 mod course;
+mod links;
 mod look;
 mod plan;
 mod quantity;

@@ -12,10 +12,10 @@ use std::process::Abort;
 use trace_codec::Trace;
 
 /// The writes of the worked guest.
-const TOUCHES: [(u64, u32); 5] = [(0, 0), (5, 1), (1200, 1), (2500, 3), (2500, 1)];
+pub(crate) const TOUCHES: [(u64, u32); 5] = [(0, 0), (5, 1), (1200, 1), (2500, 3), (2500, 1)];
 
 /// Settings of a cold start at tick 0.
-const COLD: LookAsked = LookAsked {
+pub(crate) const COLD: LookAsked = LookAsked {
     start: 0,
     base: None,
     rate: 2,
@@ -27,9 +27,9 @@ const COLD: LookAsked = LookAsked {
 
 /// Sums of a plan: why it ends, how many looks there are, when it stops, how many pages are sent and are left, the
 /// downtime, and whether its lists get shorter.
-type Sums = (PlanEnd, u64, u64, u64, u64, u64, bool);
+pub(crate) type Sums = (PlanEnd, u64, u64, u64, u64, u64, bool);
 
-fn has_sums(sums: &LookSums, expected: &Sums) -> bool {
+pub(crate) fn has_sums(sums: &LookSums, expected: &Sums) -> bool {
     let &(end, looks, stop, total, left, down, shortens) = expected;
     sums.end == end
         && sums.looks == looks
