@@ -37,16 +37,27 @@ class BadLine(Exception):
 
 
 class Shape:
-    """How many pages there are, and how large they are: as asked, or as the writes need. And the version, if given."""
+    """How many pages there are, and how large they are: as asked, or as the writes need. And the version, if given. Of
+    the text the number of the line, or of what `unit` names."""
 
     def __init__(self, pages, size):
         self.pages = pages
         self.size = size
         self.version = None
+        self.tick = 0
         self.most_page = -1
         self.most_end = 0
+        self.unit, self.number = "line", 0
 
-    def hold(self, page, end):
+    def come_to(self, tick):
+        if tick < self.tick:
+            raise BadLine(f"tick {tick} is below {self.tick}")
+        if tick >= traces.TICKS:
+            raise BadLine(f"tick {tick} is not below 2^40")
+        self.tick = tick
+
+    def hold(self, tick, page, end):
+        self.come_to(tick)
         if page >= (self.pages or traces.Limits().pages):
             raise BadLine(f"page {page} is not below {self.pages or traces.Limits().pages}")
         if end > (self.size or 1 << traces.GREATEST_SHIFT):
@@ -61,10 +72,11 @@ class Shape:
     def count(self):
         return self.pages or max(self.most_page + 1, 1)
 
-    def release(self, page):
+    def release(self, tick, page):
+        self.come_to(tick)
         if self.version == traces.PLAIN:
             raise BadLine("a trace of version 1 releases no page")
-        self.hold(page, 0)
+        self.hold(tick, page, 0)
 
     def take_line(self, pages, size, version):
         """The line `pages N size Z`. An option overrides it if they differ."""
@@ -104,10 +116,10 @@ def write_of(words):
     raise BadLine("it is not `tick page offset hexbytes` or `tick page release`")
 
 
-def plain_writes(lines, shape, told):
-    """Yields the writes of text lines; told[0] is the number of the line."""
-    last, begun = 0, False
-    for told[0], line in enumerate(lines, 1):
+def plain_writes(lines, shape):
+    """Yields the writes of text lines."""
+    begun = False
+    for shape.number, line in enumerate(lines, 1):
         if not line.strip() or line.startswith(b"#"):
             continue
         named = SHAPE.fullmatch(line)
@@ -117,15 +129,10 @@ def plain_writes(lines, shape, told):
             continue
         begun = True
         tick, page, offset, data = write_of(line.rstrip().split(b" "))
-        if tick < last:
-            raise BadLine(f"tick {tick} is below {last}")
-        if tick >= traces.TICKS:
-            raise BadLine(f"tick {tick} is not below 2^40")
         if data:
-            shape.hold(page, offset + len(data))
+            shape.hold(tick, page, offset + len(data))
         else:
-            shape.release(page)
-        last = tick
+            shape.release(tick, page)
         yield tick, page, offset, data
 
 
@@ -137,10 +144,10 @@ def made_data(address, number, length):
     return (data * (length // 8 + 1))[:length]
 
 
-def lackey_writes(lines, shape, told, instructions):
+def lackey_writes(lines, shape, instructions):
     """Yields the stores that lackey reports. A tick is a number of instructions."""
     fetched, number, numbers, size = 0, 0, {}, 1 << LACKEY_SHIFT
-    for told[0], line in enumerate(lines, 1):
+    for shape.number, line in enumerate(lines, 1):
         if FETCH.fullmatch(line):
             fetched += 1
             continue
@@ -153,13 +160,11 @@ def lackey_writes(lines, shape, told, instructions):
         if length == 0 or address + length > 1 << 64:
             raise BadLine("no bytes have this place and length")
         tick = fetched // instructions
-        if tick >= traces.TICKS:
-            raise BadLine(f"tick {tick} is not below 2^40")
         while access[1] != b"L" and length:
             offset = address % size
             part = min(length, size - offset)
             page = numbers.setdefault(address // size, len(numbers))
-            shape.hold(page, offset + part)
+            shape.hold(tick, page, offset + part)
             yield tick, page, offset, made_data(address, number, part)
             address, length, number = address + part, length - part, number + 1
 
@@ -207,15 +212,15 @@ def options_of(words):
 
 
 def run(options, source, writer):
-    shape, told = Shape(options.pages, options.size), [0]
+    shape = Shape(options.pages, options.size)
     if options.lackey:
-        writes = lackey_writes(source, shape, told, options.instructions or 64)
+        writes = lackey_writes(source, shape, options.instructions or 64)
     else:
-        writes = plain_writes(source, shape, told)
+        writes = plain_writes(source, shape)
     try:
         write_all(writes, writer, options.first)
     except (BadLine, traces.Full) as fault:
-        version.complain("import", f"line {told[0]}: {fault}")
+        version.complain("import", f"{shape.unit} {shape.number}: {fault}")
         return 1
     writer.finish(shape.shift(), shape.count(), shape.version)
     if options.json:
