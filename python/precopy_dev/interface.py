@@ -104,6 +104,12 @@ class Variable(NamedTuple):
 
 
 class Interface(NamedTuple):
+    """What the header says; of the bound of a report the bytes of a window's line, of a hot page's, of each other, and
+    how many others there are."""
+
+    abi: int
+    text_bound: int
+    report_bound: tuple[int, ...]
     statuses: list[Status]
     structs: dict[str, list[Variable]]
     functions: dict[str, tuple[str, list[Variable]]]
@@ -119,6 +125,10 @@ def variable(text: str) -> Variable:
 
 
 def read_header(text: str) -> Interface:
+    abi, text_bound = (int(re.search(rf"^#define PRECOPY_{it} (\d+)$", text, re.M)[1]) for it in ("ABI", "TEXT_BOUND"))
+    bound = re.search(
+        r"PRECOPY_REPORT_BOUND\(\w+\) .*\n +\((\d+) \*.* (\d+) \*.* (\d+) \* \(size_t\)(\d+)\)$", text, re.M
+    )
     lines = re.findall(r"^    PRECOPY_(\w+) = (\d+),? +/\* (?:([ESF]\d+): )?(.*?)(?: \([^()]*\))? \*/$", text, re.M)
     statuses = [Status(constant, int(number), name or None, said) for constant, number, name, said in lines]
     first, last = text.index("enum precopy_status {"), text.index("const char *precopy_strerror")
@@ -129,7 +139,7 @@ def read_header(text: str) -> Interface:
     functions = {}
     for result, name, words in re.findall(r"^(uint32_t|bool) precopy_(\w+)\(([^)]*)\);", text, re.M):
         functions[name] = (result, [] if words == "void" else [variable(word) for word in words.split(",")])
-    return Interface(statuses, structs, functions)
+    return Interface(abi, text_bound, tuple(map(int, bound.groups())), statuses, structs, functions)
 
 
 # ---- The files, each by its text.
@@ -158,7 +168,9 @@ def type_in_rust(it: Variable) -> str:
 
 def calls_in_rust(interface: Interface) -> str:
     parts = [f"//! The functions and structs of `{HEADER}`, as they are in C. Made by `dev/interface`.\n\n"]
-    parts.append(f"use crate::{{{', '.join(sorted(RUST_BY_HAND))}}};\nuse std::os::raw::c_char;\n")
+    parts.append(f"use crate::{{{', '.join(sorted(RUST_BY_HAND))}}};\nuse std::os::raw::c_char;\n\n")
+    parts.append(f"pub const TEXT_BOUND: usize = {interface.text_bound};\n")
+    parts.append(f"pub const REPORT_BOUND: [usize; 4] = {list(interface.report_bound)};\n")
     for name, fields in interface.structs.items():
         if name not in RUST_BY_HAND:
             lines = "".join(f"    pub {it.name}: {type_in_rust(it)},\n" for it in fields)
@@ -211,7 +223,9 @@ def struct_in_python(name: str, fields: list[Variable]) -> str:
 def calls_in_python(interface: Interface) -> str:
     head = f"The structs, statuses and functions of {HEADER}, for ctypes. Made by dev/interface."
     parts = [f'"""{head}"""\n\nfrom ctypes import POINTER, Structure, c_size_t, c_uint32, c_uint64, c_void_p\n']
-    parts.append("from enum import IntEnum\n")
+    parts.append("from enum import IntEnum\n\n")
+    parts.append(f"ABI, TEXT_BOUND = {interface.abi}, {interface.text_bound}\n")
+    parts.append(f"REPORT_BOUND = {interface.report_bound}\n")
     names = "".join(f"    {it.constant} = {it.number}\n" for it in interface.statuses)
     parts.append(STATUSES_IN_PYTHON.format(names=names))
     parts.append("\n\ndef _of(kind, *names):\n    return [(name, kind) for name in names]\n")

@@ -219,10 +219,11 @@ def rounds(trace: Bytes, settings: Settings) -> List[Round]:
 
 
 def _longest_report(trace_length: int) -> int:
-    """At least as many bytes as a report has: a line for each window with a write and for each hot page, some for the
-    rounds, and three more. A write has at least 16 bytes in a trace. Such lines have at most 72, 11 and 128 bytes."""
+    """At least as many bytes as a report has: a line for each window with a write and for each hot page, and others. A
+    write has at least 16 bytes in a trace."""
     writes = min(1 << 20, max(0, trace_length - 16) // 16)
-    return 72 * writes + 11 * min(writes, 1 << 16) + 128 * (_calls.MOST_ROUNDS + 3)
+    window, hot, other, others = _interface.REPORT_BOUND
+    return window * writes + hot * min(writes, 1 << 16) + other * others
 
 
 def report(trace: Bytes, settings: Settings) -> str:

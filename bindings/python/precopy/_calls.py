@@ -8,10 +8,9 @@ import operator
 import os
 from typing import Any, Iterator, Tuple
 
-from ._interface import CALLS, Status
+from ._interface import ABI, CALLS, Status
 
-ABI_NUMBER = 3
-ABI = f"libprecopy.so.{ABI_NUMBER}"
+NAME = f"libprecopy.so.{ABI}"
 # The statuses of what is wrong in streams.
 NO_FRAME = range(Status.FRAME_SHORT, Status.FRAME_ZEROS + 1)
 WRONG = (*NO_FRAME, Status.PAGE_MISSING, *range(Status.NO_VERSION, Status.PAGE_BEHIND + 1))
@@ -25,16 +24,16 @@ def _place() -> str:
     """Returns the path of the library, or its name alone if the system is to find it."""
     here = os.path.dirname(os.path.abspath(__file__))
     sources = os.path.dirname(os.path.dirname(os.path.dirname(here)))
-    known = [os.path.join(here, ABI), os.path.join(sources, "out", "library", ABI)]
+    known = [os.path.join(here, NAME), os.path.join(sources, "out", "library", NAME)]
     asked = os.environ.get("PRECOPY_LIBRARY")
-    return asked if asked else next((path for path in known if os.path.exists(path)), ABI)
+    return asked if asked else next((path for path in known if os.path.exists(path)), NAME)
 
 
 def _load() -> ctypes.CDLL:
     loaded = ctypes.CDLL(_place())
     loaded.precopy_abi.argtypes, loaded.precopy_abi.restype = [], ctypes.c_uint32
-    if (found := loaded.precopy_abi()) != ABI_NUMBER:
-        raise ImportError(f"{loaded._name} has interface {found}, and this module calls interface {ABI_NUMBER}")
+    if (found := loaded.precopy_abi()) != ABI:
+        raise ImportError(f"{loaded._name} has interface {found}, and this module calls interface {ABI}")
     for name, arguments in CALLS.items():
         call = getattr(loaded, f"precopy_{name}")
         call.argtypes, call.restype = arguments, ctypes.c_uint32

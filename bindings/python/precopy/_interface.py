@@ -3,6 +3,9 @@
 from ctypes import POINTER, Structure, c_size_t, c_uint32, c_uint64, c_void_p
 from enum import IntEnum
 
+ABI, TEXT_BOUND = 3, 320
+REPORT_BOUND = (72, 11, 128, 67)
+
 
 class Status(IntEnum):
     """A status of the library: why a call refuses, or what is wrong in streams."""

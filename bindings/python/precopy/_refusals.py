@@ -8,7 +8,7 @@ from typing import TYPE_CHECKING, Any, Callable, Optional, Tuple, TypeVar
 from . import _calls
 from ._calls import LIBRARY as _LIBRARY
 from ._calls import lent as _lent
-from ._interface import Status
+from ._interface import TEXT_BOUND, Status
 
 if TYPE_CHECKING:
     # Type checkers know this module, which need not be installed.
@@ -23,7 +23,7 @@ Made = TypeVar("Made")
 
 def sentence(call: Any, *words: Any) -> str:
     """The sentence that a call writes into a buffer, which is long enough for each."""
-    text, needed = ctypes.create_string_buffer(320), ctypes.c_size_t()
+    text, needed = ctypes.create_string_buffer(TEXT_BOUND), ctypes.c_size_t()
     call(*words, text, len(text), needed)
     return text.raw[: needed.value].decode("ascii")
 

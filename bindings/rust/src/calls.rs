@@ -3,6 +3,9 @@
 use crate::{Page, Round, Taken, Trace, Write};
 use std::os::raw::c_char;
 
+pub const TEXT_BOUND: usize = 320;
+pub const REPORT_BOUND: [usize; 4] = [72, 11, 128, 67];
+
 #[repr(C)]
 #[derive(Clone, Copy, Default)]
 pub struct Sizes {

@@ -349,11 +349,11 @@ pub fn report_into(trace: &[u8], settings: &Settings, text: &mut [u8]) -> Result
 }
 
 /// At least as many bytes as the report on a trace of this length has: a line for each window with a write and for each
-/// hot page, some for the rounds, and three more. A write has at least 16 bytes in a trace. Such lines have at most 72,
-/// 11 and 128 bytes.
+/// hot page, some for the rounds, and three more. A write has at least 16 bytes in a trace.
 pub fn longest_report(trace_length: usize) -> usize {
     let writes = (trace_length.saturating_sub(16) / 16).min(1 << 20);
-    72 * writes + 11 * writes.min(1 << 16) + 128 * (MOST_ROUNDS + 3)
+    let [window, hot, other, others] = calls::REPORT_BOUND;
+    window * writes + hot * writes.min(1 << 16) + other * others
 }
 
 /// Returns the report on a trace, as `precopy report` writes it.

@@ -90,16 +90,13 @@ impl fmt::Display for Refused {
     }
 }
 
-/// No sentence of the library is longer.
-const LONGEST: usize = 320;
-
 /// Writes a sentence about a status that a call writes into a buffer.
 pub(crate) fn write_sentence(
     f: &mut fmt::Formatter<'_>,
     about: Status,
     call: impl FnOnce(*mut u8, usize, *mut usize) -> u32,
 ) -> fmt::Result {
-    let (mut text, mut needed) = ([0; LONGEST], 0);
+    let (mut text, mut needed) = ([0; calls::TEXT_BOUND], 0);
     let status = call(text.as_mut_ptr(), text.len(), &mut needed);
     match text.get(..needed) {
         Some(sentence) if status == 0 => f.pad(&String::from_utf8_lossy(sentence)),
