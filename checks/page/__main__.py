@@ -82,37 +82,8 @@ def check_sizes(tally, folder, module, page):
 
 
 def node_settings(asked):
-    least, most, increment, threshold = asked.settings()
-    return {
-        "min": least,
-        "max": most,
-        "increment": increment,
-        "threshold": threshold,
-        "rounds": asked.rounds,
-        "start": asked.start,
-        "window": asked.window,
-        "base": asked.base,
-        "skip": bool(asked.skip),
-    }
-
-
-def node_question(asked):
-    link, first, downtime, reserve = asked.limits()
-    return {
-        "link": link,
-        "first": first,
-        "downtime": downtime,
-        "reserve": reserve,
-        "tick": asked.tick,
-        "page": asked.page,
-        "sampled": asked.sampled,
-        "guest": asked.guest,
-        "increment": asked.settings()[2],
-        "rounds": asked.rounds,
-        "start": asked.start,
-        "base": asked.base,
-        "skip": bool(asked.skip),
-    }
+    names = ("min", "max", "increment", "threshold", "rounds", "start", "skip", "base")
+    return {**dict(zip(names, asked.settings())), "window": asked.window}
 
 
 def node_facts(asked, report):
@@ -122,7 +93,7 @@ def node_facts(asked, report):
         "windows": [list(row.values()) for row in report["windows"]],
         "rounds": [list(row.values())[1:] for row in report["rounds"]],
         "stop": list(report["stop"].values()),
-        "settings": list(asked.settings()),
+        "settings": list(asked.settings()[:4]),
         "map": [[row["pages"], row["sent"], row["dirtied"]] for row in report["rounds"]]
         + [[report["stop"]["pages"], report["stop"]["pages"], 0]],
         "isSame": True,
@@ -172,9 +143,7 @@ def check_node(tally, folder, module, precopy):
     check_quantities(tally, command, web)
     for known, some in cases.tries(folder):
         fitting = [asked for asked in some if not asked.refusal()]
-        questions = []
-        for asked in fitting:
-            questions.append({"settings": node_settings(asked), "question": node_question(asked)})
+        questions = [{"settings": node_settings(asked), "question": vars(asked.question())} for asked in fitting]
         words = [*command, "--no-warnings", os.path.join(web, "plans.mjs"), module, known.path]
         ran = subprocess.run(words, input=json.dumps(questions).encode(), capture_output=True, check=False)
         if not tally.add(ran.returncode == 0, f"Node: {ran.stderr.decode()[:300]}"):
@@ -192,9 +161,9 @@ def compare_in_node(case, precopy, asked, found):
     if asked.known.pages <= cases.SMALL:
         wanted = cases.drawn_errors(asked)
         case.add(errors == (wanted and list(wanted)), f"{errors}, {wanted}")
-        wanted = forecasts.line_of(forecasts.question_of(asked), Trace.at(asked.known.path))
+        wanted = forecasts.line_of(asked.question(), Trace.at(asked.known.path))
         case.add((forecast or "") == wanted, f"{forecast!r}, {wanted!r}")
-        wanted = enough.remedies_of(asked, asked.limits()[1], asked.settings()[2])
+        wanted = enough.remedies_of(asked, asked.limits()[1], asked.settings().increment)
         amounts = (*wanted[1:4], *wanted.ending[1:])
         amounts = [None if amount is None else str(amount) for amount in amounts]
         wanted = [wanted.is_kept, wanted.ending.ends, *amounts]
@@ -236,16 +205,13 @@ def check_one(page, precopy, asked):
 def start_prices(asked, line, start):
     """What a migration from a start costs: its price with its standard errors, that without, and what it comes to. The
     errors of a large sample are unknown here."""
-    _, _, limit, reserve = asked.limits()
-    down = line["down"] * asked.tick + reserve
-    time = (line["at"] - start) * asked.tick + down
-    sent = asked.bytes(line["total"])
+    time, down, sent = cases.price(asked, start, line)
     place = copy.copy(asked)
     place.start = start
     drawn = cases.drawn_errors(place) if asked.known.pages <= cases.SMALL else None
     likely = down + (2 * drawn[2] if drawn else 0)
-    prices = [(some if some > limit else 0, sent, time) for some in (likely, down)]
-    return *prices, (time, sent, down, down <= limit)
+    prices = [(some if some > asked.downtime else 0, sent, time) for some in (likely, down)]
+    return *prices, (time, sent, down, down <= asked.downtime)
 
 
 def start_ticks(asked, last):

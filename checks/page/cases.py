@@ -8,14 +8,17 @@ import os
 from checks.lib.amount_texts import error_text, moment_text, size_text, time_text
 from checks.lib.harness import drawn
 from checks.lib.host_words import host_lines, is_command, sentence_of
-from checks.lib.migration_model import report_of
+from checks.lib.migration_model import Question, case_word, live_line, options_of, report_of
 from checks.lib.view_texts import TOP, Failure, parsed, ran, report_facts, sweep_facts, told
 from checks.page import shapes
 from checks.page.tables import round_texts, window_texts
-from checks.view.limit_cases import RATES, Known, redrawn
+from checks.view.limit_cases import RATES, Known
+from precopy_dev.models import redrawn
 
 TRACES = ["a.pcwt", "gzip.pcwt", "released.pcwt", "guests/mid.light.pcwt", "guests/sqlite.light.pcwt"]
 SHAPES, SETTINGS = 15, 20
+# The controls of limits, by the library's numbers of their refusals.
+CONTROLS = {84: "link", 85: "first", 86: "reserve", 87: "downtime"}
 # Of how many pages the standard errors, and what is enough for the limit, are worked out here too.
 SMALL = 2_000
 
@@ -133,48 +136,35 @@ class Asked:
 
     def refusal(self):
         """The control at which the page refuses these settings, or None."""
-        link, first, downtime, reserve = self.limits()
-        most, least = self.rate(link), self.rate(first)
+        limit = self.question().limit_refusal()
         tests = [
             ("sample", self.guest > 1 << 32),
-            ("link", not 1 <= most <= 1_000_000),
-            ("first", least < 1),
-            ("reserve", reserve > downtime),
-            ("downtime", (downtime - reserve) // self.tick * most // 1_000 + 1 > 65_536),
+            (limit and CONTROLS[limit.number], limit),
             ("rounds", not 1 <= self.rounds <= 64),
             ("window", not 1 <= self.window <= 1 << 40),
             ("base", self.base is not None and self.base > self.start),
         ]
         return next((name for name, is_refused in tests if is_refused), None)
 
+    def question(self):
+        """The same as a question of `precopy-view` and the library."""
+        link, first, *times = self.limits()
+        increment = (self.rate(link) - self.rate(first)) * self.increase // 100
+        scale = self.tick, self.page, self.sampled, self.guest
+        return Question(link, first, *times, *scale, increment, self.rounds, self.start, self.base, bool(self.skip))
+
     def settings(self):
-        link, first, downtime, reserve = self.limits()
-        most, least = self.rate(link), self.rate(first)
-        threshold = (downtime - reserve) // self.tick * most // 1_000 + 1
-        return least, most, (most - least) * self.increase // 100, threshold
+        return self.question().settings()
 
     def words(self):
         """The options of `precopy report`."""
-        least, most, increment, threshold = self.settings()
-        return [
-            f"--min={least}",
-            f"--max={most}",
-            f"--inc={increment}",
-            f"--threshold={threshold}",
-            f"--rounds={self.rounds}",
-            f"--window={self.window}",
-            *self.place(),
-            *["--skip"] * self.skip,
-        ]
+        return [*options_of(self.settings()), f"--window={self.window}"]
 
     def place(self):
         return [f"--start={self.start}", *([] if self.base is None else [f"--base={self.base}"])]
 
     def case(self):
-        return ",".join(map(str, [*self.settings(), self.rounds, self.skip]))
-
-    def bytes(self, pages):
-        return pages * self.page * self.guest // self.sampled
+        return case_word(self.settings())
 
 
 # ---- What the page says of a plan.
@@ -187,8 +177,7 @@ def plural(count, noun):
 def hosts(asked):
     """What the page gives QEMU and libvirt: commands, and sentences on what they do not take, as `precopy-view` has
     them."""
-    link, _, downtime, reserve = asked.limits()
-    lines = host_lines(link, (downtime - reserve) // 1_000)
+    lines = host_lines(asked.link[0], asked.question().millis_for_pages())
     words, sentences = {}, {}
     for name in ("QEMU", "libvirt"):
         own = [line for line in lines if line.startswith(f"{name}: ")]
@@ -199,10 +188,7 @@ def hosts(asked):
 
 def commands(asked):
     """The words that the page gives for `precopy live`, QEMU and libvirt."""
-    least, most, increment, threshold = asked.settings()
-    live = f"precopy live --min {least} --max {most} --inc {increment} --threshold {threshold} --rounds {asked.rounds} "
-    live += " ".join([*(word.replace("=", " ") for word in asked.place()), *["--skip"] * asked.skip]) + " < TRACE"
-    return {"live": live, **hosts(asked)[0]}
+    return {"live": f"{live_line(asked.settings())} < TRACE", **hosts(asked)[0]}
 
 
 def check_notes(asked, notes):
@@ -224,23 +210,22 @@ def reported(precopy, asked):
     words = str(asked.draw), asked.known.path, *asked.words()
     if words not in REPORTS:
         found = report_facts(told(precopy, ["report", *asked.words()], asked.known.path))
-        wanted = report_of(asked.known, settings_of(asked), asked.window)
+        wanted = report_of(asked.known, asked.settings(), asked.window)
         if found != wanted:
             raise Failure(f"a report that is not that of the model: {found} in place of {wanted}")
         REPORTS[words] = found
     return REPORTS[words]
 
 
-def settings_of(asked):
-    """Settings as the model has them."""
-    return redrawn.Settings(*asked.settings(), asked.rounds, asked.start, bool(asked.skip), asked.base)
+def price(asked, start, line):
+    """The time, the downtime and the bytes of a plan by its line of `stop` or of a sweep, from a start on."""
+    return asked.question().cost(start, redrawn.Outcome(0, "", line["at"], line["down"], line["total"], 0))
 
 
 def figures(asked, report):
     """What a migration comes to by the lines of a report: its answers, and its prices if it ends within the trace."""
     stop, known = report["stop"], asked.known
-    _, _, limit, reserve = asked.limits()
-    down = stop["down"] * asked.tick + reserve
+    time, down, sent = price(asked, asked.start, stop)
     is_known = stop["at"] <= known.last
 
     def answer(holds):
@@ -248,10 +233,10 @@ def figures(asked, report):
 
     return {
         "converges": answer(stop["why"] == "few"),
-        "kept": answer(down <= limit),
+        "kept": answer(down <= asked.downtime),
         "recorded": max(0, known.last - asked.start) * asked.tick,
-        "time": (stop["at"] - asked.start) * asked.tick + down,
-        "sent": asked.bytes(stop["total"]),
+        "time": time,
+        "sent": sent,
         "down": down,
     }
 
@@ -260,8 +245,7 @@ def drawn_errors(asked):
     """The standard errors of bytes, time and downtime by `python/precopy_dev/models/redrawn.py`, if there are any."""
     if not 2 <= asked.sampled < asked.guest:
         return None
-    scale = redrawn.Scale(asked.tick, asked.page, asked.sampled, asked.guest)
-    return redrawn.errors(asked.known.guest, settings_of(asked), scale)
+    return redrawn.errors(asked.known.guest, asked.settings(), asked.question().scale())
 
 
 def micros(value):
@@ -305,7 +289,7 @@ def check_forecast(line, document):
 
 
 def reason(asked, report):
-    threshold, of_sample = asked.settings()[3], " of the sample" * (asked.guest > asked.sampled)
+    threshold, of_sample = asked.settings().threshold, " of the sample" * (asked.guest > asked.sampled)
     few = "no page was left" if threshold == 1 else f"fewer than {threshold:,} pages{of_sample} were left"
     return {
         "few": few,
@@ -333,7 +317,7 @@ def comparison(asked, report, document):
         return [words] * asked.ticks
 
     of_sample = " of the sample" * (asked.guest > asked.sampled)
-    threshold = asked.settings()[3]
+    threshold = asked.settings().threshold
     few = "none left ends pre-copy" if threshold == 1 else f"fewer than {threshold:,} end pre-copy"
     guest = [f"{plural(stop['total'] * asked.guest // asked.sampled, 'page')} of the guest"] * bool(of_sample)
     pages = f"{plural(stop['total'], 'page')}{of_sample}"

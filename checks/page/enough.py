@@ -1,6 +1,7 @@
 """What the planner's page says to be enough for a limit: the amounts that the search found, in few digits, and what a
 click takes of them."""
 
+import dataclasses
 import math
 import re
 from fractions import Fraction
@@ -9,8 +10,8 @@ from typing import NamedTuple
 from checks.lib.amount_texts import moment_text
 from checks.lib.view_texts import Failure, sweep_facts, told
 from checks.page.cases import SMALL, micros
-from checks.view.limit_cases import RATES, TIMES, redrawn
-from precopy_dev.models.remedies import Ending, Limits, Others, Remedies, Trial, remedies
+from checks.view.limit_cases import RATES, TIMES
+from precopy_dev.models.remedies import Ending, Remedies, remedies
 
 UNKNOWN = "Enough for the limit: unknown, since the trace ends before the migration does."
 # The page takes smaller amounts than this.
@@ -30,10 +31,8 @@ class Shown(NamedTuple):
 
 def remedies_of(asked, first, increment):
     """What keeps the limit by the model, links in bytes a second. `first` and `increment` may be None."""
-    link, _, downtime, reserve = asked.limits()
-    others = Others(asked.rounds, asked.start, bool(asked.skip), asked.base, increment)
-    scale = redrawn.Scale(asked.tick, asked.page, asked.sampled, asked.guest)
-    found = remedies(asked.known.guest, Trial(scale, Limits(link, downtime, first, reserve), others))
+    trial = dataclasses.replace(asked.question(), first=first, increment=increment).trial()
+    found = remedies(asked.known.guest, trial)
     ending = found.ending._replace(link=found.ending.link and found.ending.link * 125)
     return found._replace(link=found.link and found.link * 125, ending=ending)
 
@@ -111,7 +110,7 @@ def check_enough(asked, page, found, document):
     shown, wanted = enough_in(exact), [enough_of(document)]
     if asked.known.pages <= SMALL:
         first = None if asked.first == 100 else asked.limits()[1]
-        wanted.append(remedies_of(asked, first, None if asked.increase == 10 else asked.settings()[2]))
+        wanted.append(remedies_of(asked, first, None if asked.increase == 10 else asked.settings().increment))
     wanted = list(filter(None, wanted))
     if any(max(some.link or 0, some.downtime or 0) >= MOST_OF_PAGE for some in wanted or [shown]):
         return

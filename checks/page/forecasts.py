@@ -23,13 +23,6 @@ def line_of(question: Question, trace: Trace) -> str:
     return "".join(line[0].upper() + line[1:] for line in look_lines(question, trace))
 
 
-def question_of(asked) -> Question:
-    """The question of random settings of the page."""
-    link, first, downtime, reserve = asked.limits()
-    place = (asked.settings()[2], asked.rounds, asked.start, asked.base, bool(asked.skip))
-    return Question(link, first, downtime, reserve, asked.tick, asked.page, asked.sampled, asked.guest, *place)
-
-
 def told(page) -> str:
     page.browser.wait("isTold('like-qemu')", 20)
     return page.browser.value("textOf('like-qemu')").replace("\u00a0", " ")

@@ -12,7 +12,6 @@ from checks.lib.tally import expect
 from checks.lib.traces import Trace
 from checks.lib.view_texts import parsed, ran
 from checks.predictions.questions import in_range
-from precopy_dev.models import redrawn  # noqa: F401, checks/page takes it from here
 
 TIMES = {"us": 1, "ms": 1_000, "s": 1_000_000}
 RATES = {
