@@ -36,6 +36,7 @@ from checks.lib.view_texts import TOP, Failure, ran, sweep_facts, told
 from checks.page import addresses, cases, enough, forecasts, loads
 from checks.page import looks as page_looks
 from checks.page import pictures, records, states, uses, worker
+from checks.page.acts import plan_starts
 from checks.page.browser import Browser
 from checks.page.firefox import Firefox
 from checks.page.node import node_command, put_web
@@ -229,9 +230,7 @@ def check_starts(page, precopy, name, draw):
     page.ask(asked.fragment())
     ticks = start_ticks(asked, known.last)
     words = page.browser.value("textOf('ask')")
-    page.browser.value("document.getElementById('ask').click()")
-    done = "!document.getElementById('starts-answer').hidden && document.getElementById('starts-progress').hidden"
-    page.browser.wait(done)
+    plan_starts(page)
     page.browser.wait("isTold('starts-choice')")
     found = page.browser.value(
         "[...document.querySelectorAll('#starts-choice p:not(#saving, .hint)')]"

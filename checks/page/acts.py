@@ -2,7 +2,7 @@
 
 import json
 
-from checks.lib.view_texts import Failure
+from checks.page.browser import SECONDS
 from checks.view.limit_cases import RATES
 
 PLAIN = {
@@ -24,11 +24,6 @@ def read(path):
         return file.read()
 
 
-def require(holds, words):
-    if not holds:
-        raise Failure(words)
-
-
 def asked(page, **more):
     """Asks for plain settings with some others."""
     return page.ask("&".join(f"{name}={word}" for name, word in {**PLAIN, **more}.items()))
@@ -40,6 +35,12 @@ def typed(page, name, text):
         f"const field = document.getElementById('control-{name}'); field.value = {json.dumps(text)};"
         "field.dispatchEvent(new Event('input'));"
     )
+
+
+def plan_starts(page, seconds=SECONDS):
+    page.browser.value("document.getElementById('ask').click()")
+    done = "!document.getElementById('starts-answer').hidden && document.getElementById('starts-progress').hidden"
+    page.browser.wait(done, seconds)
 
 
 def spelled(amount, unit):

@@ -3,34 +3,11 @@
 import itertools
 import urllib.parse
 
-from checks.page.acts import require
+from checks.lib.tally import expect
 from checks.page.cases import example
 
-PROTOTYPES = [
-    "constructor",
-    "__proto__",
-    "prototype",
-    "toString",
-    "valueOf",
-    "hasOwnProperty",
-    "isPrototypeOf",
-    "__defineGetter__",
-]
-KEYS = [
-    "skip",
-    "ticks",
-    "link",
-    "first",
-    "increase",
-    "downtime",
-    "reserve",
-    "start",
-    "rounds",
-    "base",
-    "tick",
-    "sample",
-    "window",
-]
+PROTOTYPES = "constructor __proto__ prototype toString valueOf hasOwnProperty isPrototypeOf __defineGetter__".split()
+KEYS = "skip ticks link first increase downtime reserve start rounds base tick sample window".split()
 UNITS = {"link": "Gbit", "downtime": "s", "reserve": "ms", "tick": "us"}
 ODD = ["", "-1", "1e9", "NaN", "0x10", "%", "%00", "%F0%9F%98%80", "1" * 400, "<script>", "null", "1/0", "0/1", "0/0"]
 OTHERS = [
@@ -78,11 +55,11 @@ def check_address(page, number, address):
         shown = page.shown()
     else:
         shown = page.ask(f"trace=gzip&{address}")
-    require(shown["refused"] or (shown["rounds"] and not shown["stale"]), f"neither a plan nor a refusal: {shown}")
-    require(not shown["refused"] or shown["fault"], f"{shown['refused']} is refused without a word at its control")
+    expect(shown["refused"] or (shown["rounds"] and not shown["stale"]), f"neither a plan nor a refusal: {shown}")
+    expect(not shown["refused"] or shown["fault"], f"{shown['refused']} is refused without a word at its control")
     page.browser.value("document.getElementById('keep').click()")
     faults = page.browser.value("atRest().then(() => faults)")
-    require(not faults, f"the page's code fails: {faults}")
+    expect(not faults, f"the page's code fails: {faults}")
 
 
 def check_addresses(tally, page, tried):

@@ -2,7 +2,8 @@
 
 import re
 
-from checks.page.acts import read, require, typed
+from checks.lib.tally import expect
+from checks.page.acts import read, typed
 from checks.page.cases import example
 
 MOST_WORDS, FIRST_PICTURE, LEAST_LINE = 120, 500, 24
@@ -43,7 +44,7 @@ def check_own_trace(page):
     page.rest()
     words = page.browser.value(WORDS)
     page.browser.dress(1400, 900)
-    require(len(words) <= MOST_WORDS, f"{len(words)} words above the fold: {' '.join(words)}")
+    expect(len(words) <= MOST_WORDS, f"{len(words)} words above the fold: {' '.join(words)}")
 
 
 # Settings whose limit is missed, and of which nothing is known; with what is said to be enough.
@@ -63,11 +64,11 @@ def check_missed(page):
         page.rest()
         words, (top, _, _, line) = page.browser.value(WORDS), page.browser.value(FIRST)
         page.browser.dress(1400, 900)
-        require(len(words) <= MOST_WORDS, f"{len(words)} words above the fold: {' '.join(words)}")
+        expect(len(words) <= MOST_WORDS, f"{len(words)} words above the fold: {' '.join(words)}")
         said = page.browser.value("textOf('enough-words')").replace("\u00a0", " ")
-        require(top < FIRST_PICTURE and re.fullmatch(enough, said), f"{fragment}: {line}, {said!r}")
+        expect(top < FIRST_PICTURE and re.fullmatch(enough, said), f"{fragment}: {line}, {said!r}")
         marks = page.browser.value("textOf('rounds-plot-this').includes('trace ends here')")
-        require(marks == ("Unknown" in line), f"{fragment}: {line}, the end of the trace is marked: {marks}")
+        expect(marks == ("Unknown" in line), f"{fragment}: {line}, the end of the trace is marked: {marks}")
 
 
 def check_first_look(page):
@@ -84,11 +85,11 @@ def check_first_look(page):
     )
     state = page.browser.value("document.getElementById('trace-state').getClientRects()[0].height")
     page.browser.dress(1400, 900)
-    require(len(words) <= MOST_WORDS, f"{len(words)} words above the fold: {' '.join(words)}")
-    require(top < FIRST_PICTURE and is_whole, f"the first picture begins at {top}, seen whole: {is_whole}")
-    require(size >= LEAST_LINE and line == "Pause 144 ms of 300, 19.3 s, 622 MiB: Keeps the limit", f"{size}: {line!r}")
-    require(bar == ["limit 300 ms", "144 ms \u00b1 42 ms"], f"the bar of the limit says {bar}")
-    require(state < 40, f"the trace is told in {state} pixels")
+    expect(len(words) <= MOST_WORDS, f"{len(words)} words above the fold: {' '.join(words)}")
+    expect(top < FIRST_PICTURE and is_whole, f"the first picture begins at {top}, seen whole: {is_whole}")
+    expect(size >= LEAST_LINE and line == "Pause 144 ms of 300, 19.3 s, 622 MiB: Keeps the limit", f"{size}: {line!r}")
+    expect(bar == ["limit 300 ms", "144 ms \u00b1 42 ms"], f"the bar of the limit says {bar}")
+    expect(state < 40, f"the trace is told in {state} pixels")
 
 
 def check_past(page):
@@ -98,7 +99,7 @@ def check_past(page):
     page.wait_for_plan()
     page.browser.wait("location.hash.includes('window=')", 5)
     states = "['undo', 'redo'].map((id) => document.getElementById(id).getAttribute('aria-disabled'))"
-    require(page.browser.value(states) == ["true", "true"], f"at first {page.browser.value(states)}")
+    expect(page.browser.value(states) == ["true", "true"], f"at first {page.browser.value(states)}")
     for rounds in ("7", "8"):
         typed(page, "rounds", rounds)
         page.browser.wait(f"location.hash.includes('rounds={rounds}&')", 5)
@@ -110,12 +111,12 @@ def check_past(page):
         ("redo", "8", ["false", "true"]),
     ):
         page.after(f"document.getElementById('{button}').focus(); document.getElementById('{button}').click()")
-        require(page.browser.value(value) == wanted, f"{button}: {page.browser.value(value)} in place of {wanted}")
-        require(page.browser.value(states) == disabled, f"after {button}: {page.browser.value(states)}")
-        require(page.browser.value("document.activeElement.id") == button, f"{button} has lost the focus")
+        expect(page.browser.value(value) == wanted, f"{button}: {page.browser.value(value)} in place of {wanted}")
+        expect(page.browser.value(states) == disabled, f"after {button}: {page.browser.value(states)}")
+        expect(page.browser.value("document.activeElement.id") == button, f"{button} has lost the focus")
     typed(page, "rounds", "9")
     page.after("document.getElementById('undo').click()")
-    require(page.browser.value(value) == "8", "a change that was not settled yet cannot be undone")
+    expect(page.browser.value(value) == "8", "a change that was not settled yet cannot be undone")
     page.after("location.hash = location.hash.replace('rounds=8&', 'rounds=12&')")
     page.after("document.getElementById('undo').click()")
-    require(page.browser.value(value) == "8", "an address that the user wrote cannot be undone")
+    expect(page.browser.value(value) == "8", "an address that the user wrote cannot be undone")

@@ -2,7 +2,8 @@
 
 import json
 
-from checks.page.acts import asked, require, typed
+from checks.lib.tally import expect
+from checks.page.acts import asked, typed
 
 LEAST_PRESSED = 24
 FOCUSED = """(() => {
@@ -48,7 +49,7 @@ def require_focus(page, wanted, what):
     """Waits until nothing is still to come, and tests where the focus is."""
     page.rest()
     found, is_seen = page.browser.value(FOCUSED)
-    require(found == wanted and is_seen, f"after {what} the focus is on {found!r}, seen: {is_seen}")
+    expect(found == wanted and is_seen, f"after {what} the focus is on {found!r}, seen: {is_seen}")
 
 
 def pressed(page, selector):
@@ -89,7 +90,7 @@ def check_focus(page):
     page.browser.wait("document.getElementById('trace').getBoundingClientRect().bottom < 0", 5)
     page.drop(("bad.txt", b"no trace"))
     page.browser.value("['focus', 'click'].forEach((name) => document.getElementById('close-notice')[name]())")
-    require(page.browser.value("document.activeElement.id") == "file", "a notice that is closed takes the focus along")
+    expect(page.browser.value("document.activeElement.id") == "file", "a notice that is closed takes the focus along")
 
 
 def check_commands(page):
@@ -104,10 +105,10 @@ def check_commands(page):
           !document.getElementById(id).dispatchEvent(new KeyboardEvent("keydown",
             { key, bubbles: true, cancelable: true, [other]: true }))).map((key) => `${other} ${key} in ${id}`)))"""
     )
-    require(not sent, f"keys that the page takes from the browser: {sent}")
+    expect(not sent, f"keys that the page takes from the browser: {sent}")
     page.rest()
     still = "['zoom-out', 'all-pages'].every((id) => document.getElementById(id).disabled)"
-    require(page.browser.value(still), "a picture was zoomed with the page")
+    expect(page.browser.value(still), "a picture was zoomed with the page")
 
 
 def check_fingers(page):
@@ -120,7 +121,7 @@ def check_fingers(page):
     page.enough()
     small = page.browser.value(SMALL.replace("BOUND", str(LEAST_PRESSED)))
     page.browser.dress(1400, 900)
-    require(not small, f"too small: {small}")
+    expect(not small, f"too small: {small}")
 
 
 def check_forced_colours(page):
@@ -130,4 +131,4 @@ def check_forced_colours(page):
     page.browser.call("Emulation.setEmulatedMedia", features=[{"name": "forced-colors", "value": "active"}])
     found = page.browser.value(KEYS)
     page.browser.dress(1400, 900)
-    require(found == before and len(set(found)) > 4, f"keys are {found} in place of {before}")
+    expect(found == before and len(set(found)) > 4, f"keys are {found} in place of {before}")

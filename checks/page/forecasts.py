@@ -2,8 +2,8 @@
 
 from checks.lib.look_model import look_lines
 from checks.lib.migration_model import Question
+from checks.lib.tally import expect
 from checks.lib.traces import Trace
-from checks.page.acts import require
 from checks.page.cases import example
 
 # Settings of the example of gzip: the link as a word and in bytes a second, the share of its first round, the limit in
@@ -37,6 +37,6 @@ def check_forecasts(page):
         scale = (1_000, trace.size, trace.pages, trace.pages)
         asked = Question(link, None, downtime, 0, *scale, None, 30, start, base, False)
         wanted, found = line_of(asked, trace), told(page)
-        require(found == wanted, f"{fragment}: {found!r} in place of {wanted!r}")
+        expect(found == wanted, f"{fragment}: {found!r} in place of {wanted!r}")
         ends.add("none" if not wanted else "cut" if "ends first" in wanted else "few")
-    require(ends == {"none", "cut", "few"}, f"only {ends}")
+    expect(ends == {"none", "cut", "few"}, f"only {ends}")

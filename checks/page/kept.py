@@ -2,7 +2,8 @@
 
 from checks.lib.amount_texts import time_text
 from checks.lib.host_words import LONGEST_MILLIS, host_lines, sentence_of
-from checks.page.acts import asked, read, require, typed
+from checks.lib.tally import expect
+from checks.page.acts import asked, read, typed
 from checks.page.cases import example
 
 
@@ -20,20 +21,20 @@ def check_comparison(page):
     asked_rounds(page, "1")
     page.rest()
     heads = "[...document.querySelectorAll('#comparison thead th')].map((cell) => cell.firstChild.textContent.trim())"
-    require(page.browser.value(heads) == ["This plan", "Kept plan 1", "Kept plan 2"], page.browser.value(heads))
+    expect(page.browser.value(heads) == ["This plan", "Kept plan 1", "Kept plan 2"], page.browser.value(heads))
     marks = page.browser.value(
         "['better', 'worse'].map((name) => " "document.querySelectorAll(`#comparison .${name}`).length)"
     )
-    require(min(marks) > 0, f"better and worse: {marks}")
+    expect(min(marks) > 0, f"better and worse: {marks}")
     page.after("document.querySelector('[data-exchanges=\"1\"]').click()")
     page.rest()
     found = page.shown()
-    require(found["comparison"] == first["comparison"], f"{found['comparison']} in place of {first['comparison']}")
+    expect(found["comparison"] == first["comparison"], f"{found['comparison']} in place of {first['comparison']}")
     page.after("const drop = document.querySelector('[data-drops=\"0\"]'); drop.focus(); drop.click()")
     focused = page.browser.value("document.activeElement.getAttribute('aria-label')")
-    require(focused == "Kept plan 1: drop", f"after a drop the focus is on {focused!r}")
+    expect(focused == "Kept plan 1: drop", f"after a drop the focus is on {focused!r}")
     page.after("document.activeElement.click()")
-    require(page.browser.value(heads) == ["This plan"], page.browser.value(heads))
+    expect(page.browser.value(heads) == ["This plan"], page.browser.value(heads))
 
 
 HEADS = "[...document.querySelectorAll('#comparison thead th')].map((cell) => cell.textContent.replace(/\\s+/g, ' '))"
@@ -56,26 +57,26 @@ def check_second_trace(page):
     page.drop(("mid.pcwt", read(example("guests/mid.light.pcwt"))))
     page.rest()
     heads = page.browser.value(HEADS)
-    require(heads == ["This plan", "Kept plan 1 Drop sqlite.light.pcwt"], f"heads: {heads}")
+    expect(heads == ["This plan", "Kept plan 1 Drop sqlite.light.pcwt"], f"heads: {heads}")
     limits = page.browser.value("['link', 'downtime'].map((name) => document.getElementById(`control-${name}`).value)")
-    require(limits == ["64", "300"], f"the limits are {limits}, and were 64 MiB/s and 300 ms")
+    expect(limits == ["64", "300"], f"the limits are {limits}, and were 64 MiB/s and 300 ms")
     numbers = page.browser.value(
         "[...document.querySelectorAll('#comparison tbody tr')].map((row) =>"
         "row.children[2].querySelector('b').textContent)"
     )
-    require(numbers == [words for words, _ in before.values()], f"{numbers} in place of {before}")
-    require(page.shown()["comparison"] != before, "the plan over another trace is the same")
+    expect(numbers == [words for words, _ in before.values()], f"{numbers} in place of {before}")
+    expect(page.shown()["comparison"] != before, "the plan over another trace is the same")
     typed(page, "link", "100")
     differing = page.browser.value(DIFFERENCES)
-    require(differing == ["downtime", "time", "sent", "rounds"], f"compared over two traces: {differing}")
+    expect(differing == ["downtime", "time", "sent", "rounds"], f"compared over two traces: {differing}")
     typed(page, "link", "64")
     tops = page.browser.value(TOPS)
-    require(tops == ["129,819", "4,154"], f"as much memory is not as high: {tops} pages are at the top")
+    expect(tops == ["129,819", "4,154"], f"as much memory is not as high: {tops} pages are at the top")
     page.after("document.getElementById('keep').click()")
-    require(len(page.browser.value(HEADS)) == 3, f"{page.browser.value(HEADS)}")
+    expect(len(page.browser.value(HEADS)) == 3, f"{page.browser.value(HEADS)}")
     page.after("document.querySelector('[data-drops=\"0\"]').click()")
     heads = page.browser.value(HEADS)
-    require(heads == ["This plan", "Kept plan 1 Exchange Drop"], f"heads after a drop: {heads}")
+    expect(heads == ["This plan", "Kept plan 1 Exchange Drop"], f"heads after a drop: {heads}")
     page.after("document.querySelector('[data-drops]').click()")
 
 
@@ -128,8 +129,8 @@ def check_axes(page):
     typed(page, "tick", "2")
     page.rest()
     (words, stop, seconds), (others, far, long) = page.browser.value(ROUNDS)
-    require(words == others and any("MiB/s" in text for text in words), f"{words} beside {others}")
-    require(
+    expect(words == others and any("MiB/s" in text for text in words), f"{words} beside {others}")
+    expect(
         seconds > 0 and abs((far - LEFT_OF_PLOT) / (stop - LEFT_OF_PLOT) * seconds / long - 1) < 0.02,
         f"{seconds} s at {stop}, and {long} s at {far}",
     )
@@ -180,11 +181,11 @@ def check_hosts(page):
     """A hypervisor is told no limit that it does not take: a sentence says why."""
     for fragment, commands, notes in HOSTS:
         found = page.ask(f"trace=gzip&first=100&start=400&{fragment}")
-        require(not found["refused"], f"{fragment}: {found['fault']}")
+        expect(not found["refused"], f"{fragment}: {found['fault']}")
         for name, words in commands.items():
-            require(found["commands"][name] == words, f"{fragment}: {found['commands'][name]!r} in place of {words!r}")
+            expect(found["commands"][name] == words, f"{fragment}: {found['commands'][name]!r} in place of {words!r}")
             can = page.browser.value(f"!document.querySelector('[data-copies=command-{name}]').disabled")
-            require(can == bool(words), f"{fragment}: {name} can be copied: {can}")
+            expect(can == bool(words), f"{fragment}: {name} can be copied: {can}")
         for name in ("qemu", "libvirt"):
             said = found["notes"][name]
-            require(notes.get(name, "") in said and bool(said) == (name in notes), f"{fragment}: {name}: {said!r}")
+            expect(notes.get(name, "") in said and bool(said) == (name in notes), f"{fragment}: {name}: {said!r}")

@@ -1,7 +1,8 @@
 """What the planner's page does with answers of its worker that come late: when something else is asked meanwhile, or
 another trace is open."""
 
-from checks.page.acts import read, require
+from checks.lib.tally import expect
+from checks.page.acts import read
 from checks.page.cases import example
 
 # How long a message to a worker is on its way here, in milliseconds.
@@ -75,7 +76,7 @@ def check_other_map(page):
     page.rest()
     over_gzip = page.browser.value("textOf('map-most')")
     said = set(page.browser.value("[...said]"))
-    require(over_gzip in said and said <= {over_mid, over_gzip}, f"the map said {said - {over_mid, over_gzip}}")
+    expect(over_gzip in said and said <= {over_mid, over_gzip}, f"the map said {said - {over_mid, over_gzip}}")
 
 
 LATE = {

@@ -4,7 +4,8 @@ trace, and starts."""
 import re
 from fractions import Fraction
 
-from checks.page.acts import asked, require, typed
+from checks.lib.tally import expect
+from checks.page.acts import asked, typed
 from checks.view.limit_cases import TIMES
 
 # Settings whose limit is kept, missed, missed by a first round and an increment of their own, missed whatever the link
@@ -27,15 +28,15 @@ def check_limits(page):
     for fragment, head, names in ENOUGH:
         page.ask(fragment)
         said = page.enough()
-        require(said[0] == head, f"{fragment}: {said}")
+        expect(said[0] == head, f"{fragment}: {said}")
         offered = page.browser.value("[...document.querySelectorAll('[data-takes]')].map((each) => each.dataset.takes)")
-        require(offered == names, f"{fragment}: {said} can be taken by {offered}")
+        expect(offered == names, f"{fragment}: {said} can be taken by {offered}")
         for name in names:
             page.ask(fragment)
             said, before = page.enough(), page.shown()
             found = page.after(f"document.querySelector('[data-takes={name}]').click()")
-            require("Keeps the limit" in found["verdict"] and found != before, f"{said}, {name}: {found['verdict']}")
-            require(page.enough()[0] == ALSO, f"{said}, {name}: {page.enough()}")
+            expect("Keeps the limit" in found["verdict"] and found != before, f"{said}, {name}: {found['verdict']}")
+            expect(page.enough()[0] == ALSO, f"{said}, {name}: {page.enough()}")
 
 
 # Plans that end after their trace, and what leads to one that does not: what keeps the limit, and what ends it within
@@ -57,7 +58,7 @@ def check_ways(page):
         page.ask(fragment)
         said = page.enough()
         offered = page.browser.value("[...document.querySelectorAll('[data-takes]')].map((each) => each.dataset.takes)")
-        require(said[0].startswith(LATE) and offered == names, f"{fragment}: {said} can be taken by {offered}")
+        expect(said[0].startswith(LATE) and offered == names, f"{fragment}: {said} can be taken by {offered}")
         for name in names:
             page.ask(fragment)
             button = f"document.querySelector('[data-takes={name}]')"
@@ -65,13 +66,13 @@ def check_ways(page):
             line = page.browser.value(f"{button}.closest('li').textContent.replace(/ Take it$/, '')")
             found = page.after(f"{button}.click()")
             is_kept = "is kept." in found["verdict"]
-            require("Unknown" not in found["verdict"] and found["refused"] is None, f"{line}: {found['verdict']}")
+            expect("Unknown" not in found["verdict"] and found["refused"] is None, f"{line}: {found['verdict']}")
             said_kept = not line.endswith("the limit is not kept")
-            require(said_kept == is_kept, f"{line}: {is_kept}")
+            expect(said_kept == is_kept, f"{line}: {is_kept}")
             if name == "ending-start":
                 last = int(re.search(r"in ([\d.]+)", page.browser.value("textOf('trace-state')"))[1].replace(".", ""))
                 start = page.browser.value("ticksOf('start')") + -(-last // 200)
-                require(
+                expect(
                     "Unknown" in typed(page, "start", f"{start} ticks")["verdict"], f"{line}: {start} ends in it too"
                 )
 
@@ -89,10 +90,10 @@ def check_doubtful(page):
         )
         said = page.browser.value("textOf('starts-choice')").replace("\u00a0", " ")
         found = re.search(r"Best start: .*? downtime ([\d.]+ m?s) \u00b1 ([\d.]+ m?s), kept", said)
-        require(found, f"{limit}: {said}")
+        expect(found, f"{limit}: {said}")
         least = micros_in(found[1]) + 2 * micros_in(found[2])
-        require((least > micros_in(limit.replace("ms", " ms") if "ms" in limit else "2 s")) == is_doubtful, said)
-        require(("it may well miss it" in said) == is_doubtful, f"{limit}: {said}")
+        expect((least > micros_in(limit.replace("ms", " ms") if "ms" in limit else "2 s")) == is_doubtful, said)
+        expect(("it may well miss it" in said) == is_doubtful, f"{limit}: {said}")
 
 
 def micros_in(text):
@@ -100,7 +101,7 @@ def micros_in(text):
     if text == "same":
         return 0
     found = re.fullmatch("([-\u2212+]?)([\\d.,]+) (s|ms|us)", text)
-    require(found, f"{text!r} is no time")
+    expect(found, f"{text!r} is no time")
     sign, number, unit = found.groups()
     size = TIMES[unit]
     return round(Fraction(number.replace(",", "")) * size) * (1 if sign in ("", "+") else -1)
@@ -115,7 +116,7 @@ def check_saving(page):
     after = page.after("document.getElementById('take-best').click()")
     for name in ("time", "downtime"):
         told = re.search(rf"(?<!\w){name} (same|\S+ \S?s)[,.]", said)
-        require(told, f"{said}: no {name}")
+        expect(told, f"{said}: no {name}")
         wanted = micros_in(after["comparison"][name][0]) - micros_in(before["comparison"][name][0])
-        require(micros_in(told[1]) == wanted, f"{said}: {name} in place of {wanted} us")
+        expect(micros_in(told[1]) == wanted, f"{said}: {name} in place of {wanted} us")
     page.becomes("textOf('saving')", "This plan starts there.", "at the best start")

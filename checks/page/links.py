@@ -4,8 +4,9 @@ import math
 import re
 
 from checks.lib.amount_texts import time_text
+from checks.lib.tally import expect
 from checks.page import saves
-from checks.page.acts import require, spelled
+from checks.page.acts import spelled
 from checks.view.limit_cases import RATES, TIMES
 
 # How far from its place a point may be drawn, in pixels.
@@ -57,17 +58,17 @@ def check_links(page):
         "['known', 'limit', 'stop', 'late'].map((name) => document.querySelectorAll("
         "`#links-plot svg .${name}`).length)"
     )
-    require(min(marks) > 0, f"curves, limit, this plan, and what is unknown: {marks}")
+    expect(min(marks) > 0, f"curves, limit, this plan, and what is unknown: {marks}")
     rows = rows_saved(page)
     links = [int(row["link_bytes_per_second"]) for row in rows]
-    require(len(rows) == 41 and 7.9 < links[20] / links[0] < 8.1 and links[40] == 8 * links[20], f"links: {links}")
+    expect(len(rows) == 41 and 7.9 < links[20] / links[0] < 8.1 and links[40] == 8 * links[20], f"links: {links}")
     for row in rows[::8]:
         found = page.ask(fragment + spelled(int(row["link_bytes_per_second"]), "KB"))
         if row["kept"] == "unknown":
-            require("Unknown" in found["verdict"], f"{row}: {found['verdict']}")
+            expect("Unknown" in found["verdict"], f"{row}: {found['verdict']}")
             continue
         for name, key in (("downtime", "downtime_us"), ("time", "time_us")):
-            require(found["comparison"][name][0] == time_text(int(row[key])), f"{row}: {found['comparison'][name]}")
+            expect(found["comparison"][name][0] == time_text(int(row[key])), f"{row}: {found['comparison'][name]}")
     page.ask(f"{fragment}64MiB")
     page.rest()
     found = page.after(
@@ -78,7 +79,7 @@ def check_links(page):
         plot.dispatchEvent(new KeyboardEvent("keydown", { key, bubbles: true }));
       }"""
     )
-    require("--link 512MiB" in found["predict"], f"the last link is not taken: {found['predict']}")
+    expect("--link 512MiB" in found["predict"], f"the last link is not taken: {found['predict']}")
 
 
 def place_of_links(labels):
@@ -88,7 +89,7 @@ def place_of_links(labels):
     (left, slow), (right, fast) = marks[0], marks[-1]
     width = (right - left) / math.log(fast / slow)
     for place, link in marks:
-        require(abs(left + width * math.log(link / slow) - place) < NEAR, f"labels of links: {labels}")
+        expect(abs(left + width * math.log(link / slow) - place) < NEAR, f"labels of links: {labels}")
     return lambda link: left + width * math.log(link / unit / slow)
 
 
@@ -105,11 +106,11 @@ def level_of(panel):
 def require_drawn(panel, place, numbers, words):
     """Requires that a panel has a point for each of some numbers, by their links."""
     level, points = level_of(panel), panel["points"]
-    require(len(points) == len(numbers) > 3, f"{words}: {len(points)} points for {len(numbers)} links")
+    expect(len(points) == len(numbers) > 3, f"{words}: {len(points)} points for {len(numbers)} links")
     for (x, y), (link, number) in zip(points, numbers):
         wanted, far = level(number)
         is_there = abs(x - place(link)) < NEAR and abs(y - wanted) < far
-        require(is_there, f"{words}: {number} us over {link} bytes/s is drawn at {x}, {y}, not {place(link)}, {wanted}")
+        expect(is_there, f"{words}: {number} us over {link} bytes/s is drawn at {x}, {y}, not {place(link)}, {wanted}")
 
 
 def check_curves(page):
@@ -120,10 +121,10 @@ def check_curves(page):
         rows = [row for row in rows_saved(page) if row["kept"] != "unknown"]
         panels, labels = page.browser.value(CURVES)
         place = place_of_links(labels)
-        require([panel["title"].split(" by ")[0] for panel in panels] == ["Downtime", "Total time"], f"{panels}")
+        expect([panel["title"].split(" by ")[0] for panel in panels] == ["Downtime", "Total time"], f"{panels}")
         for panel, name in zip(panels, ("downtime_us", "time_us")):
             numbers = [(int(row["link_bytes_per_second"]), int(row[name])) for row in rows]
             require_drawn(panel, place, numbers, f"{fragment}: {panel['title']}")
         limit = int(re.search(r"downtime=(\d+)ms", fragment)[1]) * TIMES["ms"]
         wanted, far = level_of(panels[0])(limit)
-        require(abs(panels[0]["limit"] - wanted) < far, f"{fragment}: the limit at {panels[0]['limit']}, not {wanted}")
+        expect(abs(panels[0]["limit"] - wanted) < far, f"{fragment}: the limit at {panels[0]['limit']}, not {wanted}")

@@ -8,6 +8,7 @@ import struct
 import time
 
 from checks.lib.tally import Failure, Late
+from checks.page.acts import plan_starts, typed
 from checks.page.shown import tried
 
 MOST_BYTES = 1 << 28
@@ -128,20 +129,6 @@ def require_free(page, words, act):
     print(f"  {words}: the longest task of the page's thread works for {longest:.0f} ms")
     if longest > most:
         raise Late(f"{words}: a task works for {longest:.0f} ms")
-
-
-def change(page, name, text):
-    page.after(
-        f"const field = document.getElementById('control-{name}'); field.value = '{text}';"
-        "field.dispatchEvent(new Event('input'))"
-    )
-
-
-def plan_starts(page):
-    page.browser.value("document.getElementById('ask').click()")
-    page.browser.wait(
-        "!document.getElementById('starts-answer').hidden && " "document.getElementById('starts-progress').hidden", 120
-    )
 
 
 def cancel_starts(page):
@@ -291,7 +278,7 @@ def check_map(page):
 
 def tell_starts(page, more_memory):
     begun = page.browser.value("performance.now()")
-    require_free(page, "all starts", lambda: plan_starts(page))
+    require_free(page, "all starts", lambda: plan_starts(page, 120))
     seconds, memory = (page.browser.value("performance.now()") - begun) / 1_000, more_memory()
     print(f"  all starts take {seconds:.1f} s; the browser has {memory / 1e6:.0f} MB more than before")
     if memory > MOST_MEMORY:
@@ -329,7 +316,7 @@ def check_many_windows(page, folder):
     page.open()
     page.wait_for_plan()
     page.load(path)
-    require_free(page, "2^20 windows", lambda: (change(page, "window", "2 ticks"), change(page, "window", "1 tick")))
+    require_free(page, "2^20 windows", lambda: (typed(page, "window", "2 ticks"), typed(page, "window", "1 tick")))
     bars, room = page.browser.value(
         """(() => {
       const lefts = [...document.querySelectorAll("#windows-plot path")].flatMap((path) =>
@@ -349,7 +336,7 @@ def check_many_windows(page, folder):
     require_free(
         page,
         "2^20 windows and their table",
-        lambda: (change(page, "window", "2 ticks"), change(page, "window", "1 tick")),
+        lambda: (typed(page, "window", "2 ticks"), typed(page, "window", "1 tick")),
     )
     page.browser.value("document.getElementById('windows-details').open = false")
     require_free(

@@ -1,6 +1,7 @@
 """Looking at the pictures of the planner's page with a mouse or a finger, at one and at all together."""
 
-from checks.page.acts import asked, require
+from checks.lib.tally import expect
+from checks.page.acts import asked
 
 
 def check_looking(page):
@@ -22,13 +23,13 @@ def check_looking(page):
       return tip;
     })()"""
     )
-    require(tip.startswith("Window 18, 9.000 s to 9.500 s: "), f"at a quarter of 37.5 s: {tip}")
+    expect(tip.startswith("Window 18, 9.000 s to 9.500 s: "), f"at a quarter of 37.5 s: {tip}")
     labels = page.browser.value(
         "[...document.querySelectorAll('#windows-plot text.middle:not(.title)')]"
         ".map((text) => parseFloat(text.textContent))"
     )
-    require(len(labels) > 3 and 9 <= min(labels) and max(labels) <= 19, f"of 9.4 to 18.8 s: {labels}")
-    require(page.browser.value("ticksOf('start')") == start, "the brush takes a start")
+    expect(len(labels) > 3 and 9 <= min(labels) and max(labels) <= 19, f"of 9.4 to 18.8 s: {labels}")
+    expect(page.browser.value("ticksOf('start')") == start, "the brush takes a start")
     page.browser.value(
         """(() => {
       const plot = document.getElementById("rounds-plot-this");
@@ -38,7 +39,7 @@ def check_looking(page):
     })()"""
     )
     said = page.browser.value("textOf('plan-this')")
-    require("Round 0, 0.000 s to " in said, f"a finger on a round reads nothing: {said}")
+    expect("Round 0, 0.000 s to " in said, f"a finger on a round reads nothing: {said}")
     page.browser.value("document.getElementById('zoom-out').click()")
 
 
@@ -71,13 +72,13 @@ def check_together(page):
     # The plan takes 19.297 s from 1 s on, and the windows end at 37.5 s.
     found = page.browser.value(f"{POINTED}('rounds-plot-this', 0.5, ['pointermove'])")
     second = 1 + 0.5 * 19.297
-    require(found["rounds-plot-this"] is None, "the moment is marked where it is pointed at")
+    expect(found["rounds-plot-this"] is None, "the moment is marked where it is pointed at")
     for name in ("windows-plot", "starts-plot"):
-        require(found[name] and abs(found[name] * 37.5 - second) < 0.2, f"{name}: {found[name]}, {second} s")
+        expect(found[name] and abs(found[name] * 37.5 - second) < 0.2, f"{name}: {found[name]}, {second} s")
     halo = page.browser.value("getComputedStyle(document.querySelector('.moment')).stroke")
-    require(halo == "rgb(255, 255, 255)", f"the mark of a moment has {halo!r} round it, on bars as blue as it is")
+    expect(halo == "rgb(255, 255, 255)", f"the mark of a moment has {halo!r} round it, on bars as blue as it is")
     found = page.browser.value(f"{POINTED}('windows-plot', 0.9, ['pointermove'])")
-    require(found["rounds-plot-this"] is None and found["starts-plot"] is not None, f"after the plan: {found}")
+    expect(found["rounds-plot-this"] is None and found["starts-plot"] is not None, f"after the plan: {found}")
     page.browser.value(f"{POINTED}('rounds-plot-this', 0.4, ['pointerdown', 'pointermove', 'pointerup'])")
     page.rest()
     begin, end = 0.4 * 19.297, 0.6 * 19.297
@@ -87,7 +88,7 @@ def check_together(page):
         ("starts-plot", begin + 1, end + 1),
     ):
         labels = page.browser.value(f"{LABELS}('{name}')")
-        require(
+        expect(
             len(labels) > 2 and min(labels) >= first - 0.1 and max(labels) <= last + 0.1,
             f"{name} shows {labels} in place of {first:.1f} to {last:.1f} s",
         )
@@ -95,4 +96,4 @@ def check_together(page):
         "document.getElementById('rounds-plot-this').dispatchEvent(new KeyboardEvent('keydown', "
         "{ key: '0', bubbles: true }))"
     )
-    require(page.browser.value("document.getElementById('zoom-out').disabled"), "0 does not show the whole trace")
+    expect(page.browser.value("document.getElementById('zoom-out').disabled"), "0 does not show the whole trace")

@@ -7,8 +7,9 @@ import os
 import threading
 
 from checks.lib.harness import drawn
-from checks.lib.view_texts import Failure
+from checks.lib.tally import expect
 from checks.page import first, focus, shapes
+from checks.page.acts import typed
 from checks.page.browser import WIDER_THAN_PHONES
 from checks.page.cases import example
 
@@ -140,24 +141,8 @@ MARKS = """
 })()
 """
 STARTS_MARKS = [[name, None] for name in ("known", "limit", "best", "worst")]
-ALL_MARKS = [
-    [name, None]
-    for name in (
-        "sent",
-        "skipped",
-        "dirtied",
-        "rate",
-        "link",
-        "stop",
-        "down",
-        "again",
-        "earlier",
-        "fresh",
-        "span.top",
-        "late",
-        "halo",
-    )
-]
+PLAIN_MARKS = "sent skipped dirtied rate link stop down again earlier fresh span.top late halo"
+ALL_MARKS = [[name, None] for name in PLAIN_MARKS.split()]
 ALL_MARKS += [*STARTS_MARKS, ["dirtied", "sent"], ["again", "earlier"], ["earlier", "fresh"], ["link", "rate"]]
 
 
@@ -171,11 +156,6 @@ TOUCHING = """
     .filter(([, box]) => box.height > 0 && box.left < right && left < box.right && box.bottom > top - 2);
   return above.map(([other]) => `${part.id || part.className} and ${other.id || other.className}`);
 })"""
-
-
-def require(holds, words):
-    if not holds:
-        raise Failure(words)
 
 
 def open_example(page, more=""):
@@ -194,25 +174,25 @@ def check_look(page, name, is_long=False):
     width = browser.value("innerWidth")
     is_phone = width < WIDER_THAN_PHONES
     is_touched, is_pointed = browser.value(TOUCHED)
-    require(is_touched == is_phone and not (is_phone and is_pointed), f"{name}: touched {is_touched}, {is_pointed}")
+    expect(is_touched == is_phone and not (is_phone and is_pointed), f"{name}: touched {is_touched}, {is_pointed}")
     wide = browser.value("document.documentElement.scrollWidth")
-    require(wide <= width, f"{wide} pixels in a width of {width}, {name}")
+    expect(wide <= width, f"{wide} pixels in a width of {width}, {name}")
     poor = browser.value(CONTRAST.replace("BOUND", str(LEAST_CONTRAST)))
-    require(not poor, f"contrast, {name}: {poor}")
+    expect(not poor, f"contrast, {name}: {poor}")
     over = browser.value(OVERLAPS)
-    require(not over, f"texts, {name}: {over}")
+    expect(not over, f"texts, {name}: {over}")
     ragged = browser.value(RAGGED)
-    require(not ragged, f"columns, {name}: {ragged}")
+    expect(not ragged, f"columns, {name}: {ragged}")
     gaps = browser.value(GAPS.replace("PLACES", ".pair"))
-    require(not gaps, f"gaps, {name}: {gaps}")
+    expect(not gaps, f"gaps, {name}: {gaps}")
     touching = browser.value(TOUCHING)
-    require(not touching, f"touching, {name}: {touching}")
+    expect(not touching, f"touching, {name}: {touching}")
     parts = "#comparison, #controls, pre" + ", .scrolls" * (not is_long)
     cut = browser.value(
         f"[...document.querySelectorAll('{parts}')]"
         ".filter((part) => part.scrollWidth > part.clientWidth).map((part) => part.id)"
     )
-    require(not cut, f"wider than their places, {name}: {cut}")
+    expect(not cut, f"wider than their places, {name}: {cut}")
 
 
 def check_shapes(page, folder):
@@ -231,10 +211,7 @@ def check_shapes(page, folder):
         if number % 3 == 0:
             browser.value("document.getElementById('zoom-plan').click()")
         if number % 4 == 0:
-            page.after(
-                "document.getElementById('control-rounds').value = '99';"
-                "document.getElementById('control-rounds').dispatchEvent(new Event('input'))"
-            )
+            typed(page, "rounds", "99")
         page.rest()
         check_look(page, f"shape {number} at {width}", is_long=True)
         if folder:
@@ -256,17 +233,17 @@ def check_names(page):
     roles = {"button", "slider", "textbox", "combobox", "checkbox", "progressbar", "DisclosureTriangle", "link"}
     found = [node for node in read_nodes(page) if node["role"]["value"] in roles]
     nameless = [node["role"]["value"] for node in found if not node.get("name", {}).get("value")]
-    require(len(found) > 40 and not nameless, f"{len(found)} controls; without a name: {nameless}")
+    expect(len(found) > 40 and not nameless, f"{len(found)} controls; without a name: {nameless}")
     names = collections.Counter((node["role"]["value"], node["name"]["value"]) for node in found)
     twice = [name for name, count in names.items() if count > 1]
-    require(not twice, f"names of two controls: {twice}")
+    expect(not twice, f"names of two controls: {twice}")
     dangling = page.browser.value(
         """
       [...document.querySelectorAll("[aria-describedby], [aria-labelledby], label[for]")].flatMap((element) =>
         ["aria-describedby", "aria-labelledby", "for"].flatMap((name) => (element.getAttribute(name) ?? "").split(" ")))
         .filter((id) => id && !document.getElementById(id))"""
     )
-    require(not dangling, f"there is no {dangling}")
+    expect(not dangling, f"there is no {dangling}")
     page.browser.value("document.body.focus(); document.getElementById('past-settings').focus()")
     page.browser.press("Enter", 13)
     page.browser.wait("document.activeElement.id === 'outcome'", 5)
@@ -283,7 +260,7 @@ def check_keyboard(page):
         browser.value(f"document.querySelector('{selector}').closest('.control').querySelector('[type=range]').focus()")
         browser.press("ArrowRight", 39)
         browser.wait(f"Number(document.querySelector('{selector}').{number}) === {before + 1}", 5)
-        require(browser.value(f"location.hash.includes('{name}=')"), f"{name} is not in the address")
+        expect(browser.value(f"location.hash.includes('{name}=')"), f"{name} is not in the address")
     for selector in ("#control-link", "#control-downtime", "#control-tick"):
         browser.value(f"document.querySelector('{selector}').closest('.control').querySelector('[type=range]').focus()")
         before = browser.value("Number(document.activeElement.value)")
@@ -305,7 +282,7 @@ def check_keyboard(page):
         "[...document.querySelectorAll('input, select, button, summary, .plot')]"
         ".filter((element) => element.tabIndex < 0).map((element) => element.id)"
     )
-    require(not lost, f"not reached by the keyboard: {lost}")
+    expect(not lost, f"not reached by the keyboard: {lost}")
 
 
 def check_address(page):
@@ -327,7 +304,7 @@ def check_address(page):
     address = browser.value("location.hash")
     with open(path, "rb") as file:
         print_of = hashlib.sha256(file.read()).hexdigest()[:12]
-    require("mid" not in address and f"of={print_of}" in address, address)
+    expect("mid" not in address and f"of={print_of}" in address, address)
     page.open(address)
     page.load(path)
     page.becomes("document.getElementById('trace-other').hidden", True, "the address is said to be another's")
@@ -343,7 +320,7 @@ def check_old_browser(page):
     page.becomes("textOf('trace-state').includes('64-bit')", True, "an old browser is not told")
     said = page.browser.value("textOf('trace-state')")
     page.browser.call("Page.removeScriptToEvaluateOnNewDocument", identifier=script["identifier"])
-    require(said.endswith("."), said)
+    expect(said.endswith("."), said)
 
 
 def check_stillness(page):
@@ -352,7 +329,7 @@ def check_stillness(page):
     for is_still in (True, False):
         browser.dress(1400, HEIGHT, is_still=is_still)
         seconds = browser.value("parseFloat(getComputedStyle(document.getElementById('keep')).transitionDuration)")
-        require((seconds == 0) == is_still, f"{seconds} s of a transition, still {is_still}")
+        expect((seconds == 0) == is_still, f"{seconds} s of a transition, still {is_still}")
 
 
 LOOKS = {

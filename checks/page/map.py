@@ -7,8 +7,9 @@ import struct
 import xml.etree.ElementTree
 from typing import NamedTuple
 
+from checks.lib.tally import expect
 from checks.page import shapes
-from checks.page.acts import read, require
+from checks.page.acts import read
 from checks.page.cases import example
 from checks.page.round_pages import Asked, RoundPages, map_rows, rounds_by_page
 from checks.page.saves import saved_files
@@ -100,15 +101,15 @@ def check_counts(page, writes):
     for across, down in POINTS:
         said, is_marked = page.browser.value(f"{POINT}({json.dumps([across, down])})")
         found = PLACE.match(said)
-        require(found and is_marked, f"{said!r}, marked in the working set: {is_marked}")
+        expect(found and is_marked, f"{said!r}, marked in the working set: {is_marked}")
         *windows, begin, end, count = (number_in(text) if text else None for text in found.groups())
         pages = range(begin, (begin if end is None else end) + 1)
-        require({number * ROWS // PAGES for number in pages} == {int(down * ROWS)}, f"{said!r} at {down}")
+        expect({number * ROWS // PAGES for number in pages} == {int(down * ROWS)}, f"{said!r} at {down}")
         first, last = ticks_in(said)
         wanted = counted(writes, first, last, pages)
-        require(count == wanted, f"{said!r} in place of {wanted}")
+        expect(count == wanted, f"{said!r} in place of {wanted}")
         known = sorted({first // 500, (last - 1) // 500})
-        require([some for some in windows if some is not None] == known, f"{said!r}: windows {known}")
+        expect([some for some in windows if some is not None] == known, f"{said!r}: windows {known}")
 
 
 # ---- The rounds.
@@ -127,8 +128,8 @@ class Seen(NamedTuple):
     files: dict[str, bytes]
     shown: dict
 
-    def require(self, holds, words):
-        require(holds, f"{self.fragment}: {words}")
+    def expect(self, holds, words):
+        expect(holds, f"{self.fragment}: {words}")
 
 
 def rounds_in(files):
@@ -153,14 +154,14 @@ def check_file(seen):
     """The file has what rounds do with the pages of each row, and its sums are the numbers of the planner."""
     lines, wanted = seen.files["map.csv"].decode().splitlines()[1:], map_rows(seen.found, PAGES, ROWS)
     differing = [pair for pair in zip(lines, wanted) if pair[0] != pair[1]]
-    seen.require(len(lines) == len(wanted) and not differing, f"{len(lines)} lines, {differing[:2]}")
+    seen.expect(len(lines) == len(wanted) and not differing, f"{len(lines)} lines, {differing[:2]}")
     sums = [[0, 0, 0] for _ in seen.found]
     for cells in (line.split(",") for line in lines):
         place = len(seen.rounds) if cells[0] == "stop" else int(cells[0])
         sums[place] = [total + int(cells[at]) for total, at in zip(sums[place], (3, 4, 7))]
     left = number_in(seen.shown["comparison"]["left"][0].split()[0])
     planned = [[number_in(cell) for cell in row[4:]] for row in seen.shown["rounds"]] + [[left, left, 0]]
-    seen.require(sums == planned, f"the map has {sums}, and the plan {planned}")
+    seen.expect(sums == planned, f"the map has {sums}, and the plan {planned}")
 
 
 def check_table(page, seen):
@@ -171,7 +172,7 @@ def check_table(page, seen):
         again = sum(number in dirtied for number in sent)
         wanted.append([name, *(f"{count:,}" for count in (len(sent), again, len(turns) - len(sent), len(dirtied)))])
     table = [row[:5] for row in page.browser.value("rowsOf('map-table')")]
-    seen.require(table == wanted, f"the table has {table} in place of {wanted}")
+    seen.expect(table == wanted, f"the table has {table} in place of {wanted}")
 
 
 def check_colours(page, seen):
@@ -180,10 +181,10 @@ def check_colours(page, seen):
     colours = json.loads(page.browser.value(f"{PAINTED}({json.dumps(TURNS)})")[0])
     for kind, colour in zip(((True, False), (True, True), (False, True)), page.browser.value(KEYS)):
         is_there = colours.get(colour, 0) > 3
-        seen.require(is_there == (kind in kinds), f"sent and dirtied {kind}: {colour}, of {colours}")
+        seen.expect(is_there == (kind in kinds), f"sent and dirtied {kind}: {colour}, of {colours}")
     root = xml.etree.ElementTree.fromstring(seen.files["map.svg"])
     images = [part for part in root.iter() if part.tag.endswith("image") and len(part.get("href", "")) > 1_000]
-    seen.require(len(images) == 2, f"the picture that is saved has {len(images)} of 2 layers")
+    seen.expect(len(images) == 2, f"the picture that is saved has {len(images)} of 2 layers")
 
 
 def words_of(found, row):
@@ -209,9 +210,9 @@ def check_said(page, seen):
             begin, last = ticks_in(said)
             if first <= begin and last <= end:
                 words = words_of(seen.found[number], row)
-                seen.require(said.endswith(f"; {words}"), f"{said!r} in place of {words!r}")
+                seen.expect(said.endswith(f"; {words}"), f"{said!r} in place of {words!r}")
                 heard.add(re.sub("[0-9]+", "", words))
-    seen.require(len(heard) > 2, f"too little is said of rounds: {heard}")
+    seen.expect(len(heard) > 2, f"too little is said of rounds: {heard}")
 
 
 # ---- The trials.
@@ -229,18 +230,18 @@ def check_map(page):
     colours = json.loads(colours)
     wanted = {(tick * columns // LAST, number * ROWS // PAGES) for tick, number in writes}
     cells = sum(colours.values())
-    require((cells, rows) == (len(wanted), ROWS) and len(colours) == 5, f"{cells} cells in {colours}: {len(wanted)}")
+    expect((cells, rows) == (len(wanted), ROWS) and len(colours) == 5, f"{cells} cells in {colours}: {len(wanted)}")
     words, mark = page.browser.value(f"[textOf('map-most'), {MARKED}]")
-    require(f"The {len(writes):,} writes that are shown are densest in " in words, words)
-    require(mark and abs(mark - 0.5) < 0.01, f"a moment of the working set is marked at {mark} of the map")
+    expect(f"The {len(writes):,} writes that are shown are densest in " in words, words)
+    expect(mark and abs(mark - 0.5) < 0.01, f"a moment of the working set is marked at {mark} of the map")
     page.browser.value("document.getElementById('zoom-plan').click()")
     page.browser.wait("!textOf('map-most').includes('16,294')", 5)
     page.rest()
     check_counts(page, writes)
     said = page.browser.value(f"{PRESS}(['Home', 'ArrowDown', 'ArrowDown', 'ArrowRight'])")
-    require(", pages 17 to 32: " in said, f"down to the second row: {said!r}")
+    expect(", pages 17 to 32: " in said, f"down to the second row: {said!r}")
     said = page.browser.value(f"{PRESS}(['End', 'ArrowDown', 'ArrowUp', 'ArrowUp'])")
-    require(", all pages: " in said, f"above the first row: {said!r}")
+    expect(", all pages: " in said, f"above the first row: {said!r}")
     page.browser.value(f"{PRESS}(['0'])")
     page.browser.wait("textOf('map-most').includes('16,294')", 5)
     page.drop(("one.pcwt", shapes.trace(12, 1, [(5, 0, 1)])))
@@ -279,12 +280,12 @@ def require_pages(page, first, last):
     found = [
         number_in(number) for text in said for number in re.findall(r"pages? ([\d,]+)|to ([\d,]+):", text)[0] if number
     ]
-    require(found[0] == first and f" {last:,}: " in said[1], f"{said} in place of pages {first} to {last}")
+    expect(found[0] == first and f" {last:,}: " in said[1], f"{said} in place of pages {first} to {last}")
     caption = page.browser.value("document.querySelector('#map-table caption').textContent")
     is_all = (first, last) == (0, PAGES - 1)
-    require((f"Of pages {first:,} to {last:,} " in caption) != is_all, f"{caption!r}: pages {first} to {last}")
+    expect((f"Of pages {first:,} to {last:,} " in caption) != is_all, f"{caption!r}: pages {first} to {last}")
     sent = sum(number_in(row[1]) for row in page.browser.value("rowsOf('map-table')")[:1])
-    require(sent == last + 1 - first, f"the first round sends {sent} of pages {first} to {last}")
+    expect(sent == last + 1 - first, f"the first round sends {sent} of pages {first} to {last}")
 
 
 def check_map_pages(page):
@@ -294,15 +295,15 @@ def check_map_pages(page):
     require_pages(page, 0, PAGES - 1)
     page.browser.value(f"{DRAW}([0.2, 0.5, 0.2, 0.75])")
     require_pages(page, 2_077, 3_115)
-    require(page.browser.value("document.getElementById('zoom-out').disabled"), "time is taken nearer with the pages")
+    expect(page.browser.value("document.getElementById('zoom-out').disabled"), "time is taken nearer with the pages")
     page.browser.value(f"{DRAW}([0.2, 0.25, 0.4, 0.5])")
     require_pages(page, 2_337, 2_596)
-    require(not page.browser.value("document.getElementById('zoom-out').disabled"), "time stays")
+    expect(not page.browser.value("document.getElementById('zoom-out').disabled"), "time stays")
     said = page.browser.value(f"{PRESS}(['End', 'ArrowDown', 'ArrowDown'])")
-    require(", page 2,339: " in said, f"the second row: {said!r}")
+    expect(", page 2,339: " in said, f"the second row: {said!r}")
     page.browser.value(f"{PRESS}(['ArrowDown', 'ArrowDown', '*'])")
     require_pages(page, 2_274, 2_403)
     page.browser.value("document.getElementById('all-pages').click()")
     require_pages(page, 0, PAGES - 1)
-    require(page.browser.value("document.getElementById('all-pages').disabled"), "all pages are shown, and offered")
+    expect(page.browser.value("document.getElementById('all-pages').disabled"), "all pages are shown, and offered")
     page.browser.value("document.getElementById('zoom-out').click()")

@@ -5,7 +5,8 @@ cent, and on paper."""
 import base64
 import os
 
-from checks.page.acts import read, require
+from checks.lib.tally import expect
+from checks.page.acts import read
 from checks.page.browser import Browser
 from checks.page.cases import example
 from checks.page.firefox import Firefox
@@ -123,7 +124,7 @@ def take(page, part, path):
       return [left + scrollX, top + scrollY, width, height];
     }})()"""
     )
-    require(min(box[2:]) > 100, f"{part} is seen in {box}")
+    expect(min(box[2:]) > 100, f"{part} is seen in {box}")
     # What stands at the window's bottom would be in the midst of the part.
     page.browser.value("document.getElementById('summary').style.setProperty('visibility', 'hidden')")
     page.browser.picture_of(path, *box)

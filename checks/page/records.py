@@ -3,8 +3,9 @@
 import hashlib
 import json
 
+from checks.lib.tally import expect
 from checks.page import shapes
-from checks.page.acts import read, require
+from checks.page.acts import read
 from checks.page.cases import example
 from checks.page.shown import tried
 
@@ -47,18 +48,18 @@ def check_records(page):
         page.open()
         page.wait_for_plan()
         page.drop(*files)
-        require(page.browser.value(VALUES) == wanted, f"{page.browser.value(VALUES)} in place of {wanted}")
+        expect(page.browser.value(VALUES) == wanted, f"{page.browser.value(VALUES)} in place of {wanted}")
     page.open()
     page.wait_for_plan()
     page.drop(("a.pcwt", trace))
-    require(page.browser.value(VALUES) == ["0", "1", "1"], f"{page.browser.value(VALUES)} without a record")
+    expect(page.browser.value(VALUES) == ["0", "1", "1"], f"{page.browser.value(VALUES)} without a record")
     said = page.drop(("a.json", record))
-    require(page.browser.value(VALUES) == wanted and "as a.json says" in said, said)
-    require(not page.shown()["refused"], said)
+    expect(page.browser.value(VALUES) == wanted and "as a.json says" in said, said)
+    expect(not page.shown()["refused"], said)
     for name, value in (("trace_writes", 3), ("tick_seconds", 7), ("sampled_pages", 1), ("trace_sha256", "0" * 64)):
         said = page.drop(("b.json", json.dumps({**json.loads(record), name: value}).encode()))
-        require("b.json is not used: " in said and name in said, said)
-        require(page.browser.value(VALUES) == wanted, f"{name} has changed {page.browser.value(VALUES)}")
+        expect("b.json is not used: " in said and name in said, said)
+        expect(page.browser.value(VALUES) == wanted, f"{name} has changed {page.browser.value(VALUES)}")
 
 
 def suggestion(page, name):
@@ -78,17 +79,17 @@ def check_addressed(page):
         page.open("#link=1Gbit&downtime=100ms")
         files = guest_with_record()
         said = page.drop(*files) if at_once else [page.drop(files[0]), page.drop(files[1])][-1]
-        require(page.browser.value(VALUES) == ["1000", "31.25156", "1"], f"{page.browser.value(VALUES)}: {said}")
-        require(limits(page) == [["1", "Gbit"], ["100", "ms"]], f"the limits of the address are {limits(page)}")
-        require("as a.json says" in said and "507.10\u00a0MiB" in said, said)
+        expect(page.browser.value(VALUES) == ["1000", "31.25156", "1"], f"{page.browser.value(VALUES)}: {said}")
+        expect(limits(page) == [["1", "Gbit"], ["100", "ms"]], f"the limits of the address are {limits(page)}")
+        expect("as a.json says" in said and "507.10\u00a0MiB" in said, said)
     page.ask("link=10Gbit&downtime=50ms")
-    require(page.browser.value(VALUES) == ["1000", "31.25156", "1"], f"{page.browser.value(VALUES)} by an address")
-    require(limits(page) == [["10", "Gbit"], ["50", "ms"]], f"the limits of another address are {limits(page)}")
-    require("as a.json says" in page.browser.value("textOf('trace-state')"), "the record is left by an address")
+    expect(page.browser.value(VALUES) == ["1000", "31.25156", "1"], f"{page.browser.value(VALUES)} by an address")
+    expect(limits(page) == [["10", "Gbit"], ["50", "ms"]], f"the limits of another address are {limits(page)}")
+    expect("as a.json says" in page.browser.value("textOf('trace-state')"), "the record is left by an address")
     trace = shapes.trace(12, 100, [(tick, tick % 50, 1) for tick in range(10_000)])
     page.open("#link=1Mbit&downtime=60s")
     said = page.drop(("b.pcwt", trace), ("b.json", record_of(trace, tick_seconds=1)))
-    require("2\u00a0h\u00a046\u00a0min" in said and "as b.json says" in said, said)
+    expect("2\u00a0h\u00a046\u00a0min" in said and "as b.json says" in said, said)
 
 
 def check_own_address(page):
@@ -98,14 +99,14 @@ def check_own_address(page):
     address = f"#link=1Gbit&downtime=100ms&tick=2ms&sample=all&of={hashlib.sha256(trace).hexdigest()[:12]}"
     page.open(address)
     said = page.drop(("a.pcwt", trace), ("a.json", record))
-    require(page.browser.value(VALUES) == ["0", "1", "2"], f"{page.browser.value(VALUES)} in place of the address's")
-    require(", not as a.json says" in said, said)
+    expect(page.browser.value(VALUES) == ["0", "1", "2"], f"{page.browser.value(VALUES)} in place of the address's")
+    expect(", not as a.json says" in said, said)
     for name, value in (("tick", "1"), ("sample", "31.25156"), ("start", "1")):
-        require(suggestion(page, name).startswith("a.json says otherwise. "), f"{name}: {suggestion(page, name)!r}")
+        expect(suggestion(page, name).startswith("a.json says otherwise. "), f"{name}: {suggestion(page, name)!r}")
         page.after(f"document.querySelector('[data-suggested={name}]').click()")
         taken = page.browser.value(f"document.getElementById('control-{name}').value")
-        require(taken == value and not suggestion(page, name), f"{name}: {taken}, {suggestion(page, name)!r}")
-    require(", as a.json says" in page.browser.value("textOf('trace-state')"), "what was taken is not told")
+        expect(taken == value and not suggestion(page, name), f"{name}: {taken}, {suggestion(page, name)!r}")
+    expect(", as a.json says" in page.browser.value("textOf('trace-state')"), "what was taken is not told")
 
 
 OFFERED = "[...document.querySelectorAll('[data-suggested=link]')].map((each) => each.innerText)"
@@ -117,18 +118,18 @@ def check_fitted(page):
     page.wait_for_plan()
     page.drop(("own.pcwt", read(example("gzip.pcwt"))))
     offered = page.browser.value(OFFERED)
-    require(offered == ["1 Gbit/s", "10 Gbit/s", "25 Gbit/s"], f"links that are offered: {offered}")
+    expect(offered == ["1 Gbit/s", "10 Gbit/s", "25 Gbit/s"], f"links that are offered: {offered}")
     page.drop(*guest_with_record())
     for name, words in (("link", "Fitted to this trace."), ("downtime", "Fitted, too.")):
-        require(suggestion(page, name).startswith(words), f"{name}: {suggestion(page, name)!r}")
+        expect(suggestion(page, name).startswith(words), f"{name}: {suggestion(page, name)!r}")
     offered = page.browser.value(OFFERED)
-    require(offered[-2:] == ["10 Gbit/s", "25 Gbit/s"], f"links that are offered: {offered}")
+    expect(offered[-2:] == ["10 Gbit/s", "25 Gbit/s"], f"links that are offered: {offered}")
     found = page.after("[...document.querySelectorAll('[data-suggested=link]')].at(-2).click()")
-    require(limits(page)[0] == ["10", "Gbit"] and not found["refused"], f"{limits(page)}, {found['fault']}")
-    require(not suggestion(page, "link"), f"a link that was chosen: {suggestion(page, 'link')!r}")
+    expect(limits(page)[0] == ["10", "Gbit"] and not found["refused"], f"{limits(page)}, {found['fault']}")
+    expect(not suggestion(page, "link"), f"a link that was chosen: {suggestion(page, 'link')!r}")
     page.open("#link=1Gbit&downtime=100ms")
     page.drop(*guest_with_record())
-    require(not suggestion(page, "link"), f"a link of the address: {suggestion(page, 'link')!r}")
+    expect(not suggestion(page, "link"), f"a link of the address: {suggestion(page, 'link')!r}")
 
 
 def check_doubts(page):
@@ -145,17 +146,17 @@ def check_doubts(page):
     page.open()
     page.wait_for_plan()
     said = page.drop(("a.pcwt", trace), ("a.json", record_of(trace, **counts)))
-    require("a.json: 1 page of 16,384 in the sample" in said and "which is unlikely." in said, said)
-    require("1,000 pages sampled of 256,000 " in said, said)
+    expect("a.json: 1 page of 16,384 in the sample" in said and "which is unlikely." in said, said)
+    expect("1,000 pages sampled of 256,000 " in said, said)
     said = page.drop(("a.pcwt", trace), ("a.json", record_of(trace, **{**counts, "sampled_nonzero": 1 << 14})))
-    require("a.json is not used: sampled_nonzero is 16384" in said, said)
+    expect("a.json is not used: sampled_nonzero is 16384" in said, said)
     said = page.drop(("a.json", record_of(trace, taken_of="x" * (1 << 16))))
-    require("a.json is not used: It is too long" in said, said)
+    expect("a.json is not used: It is too long" in said, said)
     page.drop(*guest_with_record())
-    require("unlikely" not in page.browser.value("textOf('trace-notes')"), "the example's record is doubted")
+    expect("unlikely" not in page.browser.value("textOf('trace-notes')"), "the example's record is doubted")
     trace = shapes.trace(12, 10, [(tick, tick % 10, 1) for tick in (0, 86_399_000)])
     said = page.drop(("day.pcwt", trace))
-    require("2 writes in 23\u00a0h\u00a059\u00a0min" in said, said)
+    expect("2 writes in 23\u00a0h\u00a059\u00a0min" in said, said)
 
 
 RECORDS = {

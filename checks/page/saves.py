@@ -6,7 +6,8 @@ import struct
 import xml.etree.ElementTree
 from fractions import Fraction
 
-from checks.page.acts import PLAIN, asked, require
+from checks.lib.tally import expect
+from checks.page.acts import PLAIN, asked
 from checks.page.tables import moment_texts, rate_texts
 from checks.view.limit_cases import RATES
 
@@ -60,29 +61,29 @@ def check_rounds(rows, shown):
     """The file of rounds has the numbers of the table, whose ticks are milliseconds, and the same in ticks."""
     start, weight = int(PLAIN["start"]), 4096 * Fraction(129_819, 4_154)
     for _, begin, end, size, *_, first, last, rate in rows:
-        require((begin, end) == ((first - start) * 1_000, (last - start) * 1_000), f"{begin}, {end}: {first}, {last}")
-        require(size == math.floor(rate * weight), f"{size} bytes a second for a rate of {rate}")
+        expect((begin, end) == ((first - start) * 1_000, (last - start) * 1_000), f"{begin}, {end}: {first}, {last}")
+        expect(size == math.floor(rate * weight), f"{size} bytes a second for a rate of {rate}")
     columns = [list(column) for column in zip(*rows)]
     rates = rate_texts([rate * weight / RATES["Gbit"] for rate in columns[-1]])
     texts = [columns[0], moment_texts(columns[1]), moment_texts(columns[2]), rates, *columns[4:7]]
     found = [[text if isinstance(text, str) else f"{text:,}" for text in row] for row in zip(*texts)]
-    require(found == shown["rounds"], f"{found} in place of {shown['rounds']}")
+    expect(found == shown["rounds"], f"{found} in place of {shown['rounds']}")
 
 
 def check_table(name, text, shown):
     """A table has the heads and the rows that it should."""
     head, *lines = text.splitlines()
-    require(head == HEADS[name], f"{name}: {head}")
-    require({line.count(",") for line in lines} == {head.count(",")}, f"{name}: {lines[:3]}")
+    expect(head == HEADS[name], f"{name}: {head}")
+    expect({line.count(",") for line in lines} == {head.count(",")}, f"{name}: {lines[:3]}")
     rows = [line.split(",") for line in lines]
     if name == "rounds-this":
         check_rounds([[int(cell) for cell in row] for row in rows], shown)
     elif name == "working-set":
         tick, length = 1_000, int(PLAIN["window"])
         times = [[int(row[0]) * length * tick, (int(row[0]) + 1) * length * tick] for row in rows]
-        require([list(map(int, row[1:3])) for row in rows] == times, f"{name}: {rows[:3]}")
+        expect([list(map(int, row[1:3])) for row in rows] == times, f"{name}: {rows[:3]}")
     elif name == "prediction":
-        require([row[0] for row in rows] == ["This plan"], f"{name}: {rows}")
+        expect([row[0] for row in rows] == ["This plan"], f"{name}: {rows}")
 
 
 def check_files_saved(page):
@@ -93,7 +94,7 @@ def check_files_saved(page):
     page.rest()
     wanted = 5 * 3 + 1
     files = saved_files(page, wanted)
-    require(len(files) == wanted, f"files: {sorted(files)}")
+    expect(len(files) == wanted, f"files: {sorted(files)}")
     shown = page.shown()
     for file, data in files.items():
         name, _, kind = file.rpartition(".")
@@ -101,10 +102,10 @@ def check_files_saved(page):
             root = xml.etree.ElementTree.fromstring(data)
             parts = list(root.iter())
             texts = [part.text for part in parts if part.tag.endswith("text")]
-            require(root.tag.endswith("svg") and len(parts) > 20, f"{file} has {len(parts)} parts")
-            require(texts[0] == LEGENDS[name][0] and set(LEGENDS[name]) <= set(texts), f"{file} says {texts}")
+            expect(root.tag.endswith("svg") and len(parts) > 20, f"{file} has {len(parts)} parts")
+            expect(texts[0] == LEGENDS[name][0] and set(LEGENDS[name]) <= set(texts), f"{file} says {texts}")
         elif kind == "png":
             pixels = struct.unpack(">II", data[16:24])
-            require(data.startswith(b"\x89PNG") and min(pixels) > 300, f"{file}: {pixels} pixels")
+            expect(data.startswith(b"\x89PNG") and min(pixels) > 300, f"{file}: {pixels} pixels")
         else:
             check_table(name, data.decode(), shown)

@@ -7,10 +7,11 @@ import json
 import os
 import re
 
+from checks.lib.tally import expect
 from checks.page import shapes
-from checks.page.acts import read
+from checks.page.acts import plan_starts, read, typed
 from checks.page.cases import example
-from checks.page.looks import ALL_MARKS, GAPS, HEIGHT, MARKS, STARTS_MARKS, check_look, check_names, read_nodes, require
+from checks.page.looks import ALL_MARKS, GAPS, HEIGHT, MARKS, STARTS_MARKS, check_look, check_names, read_nodes
 from checks.page.saves import saved_files
 from checks.page.worker import end_worker
 
@@ -31,20 +32,6 @@ def open_with(page, fragment):
     page.wait_for_plan()
 
 
-def typed(page, name, text):
-    return page.after(
-        f"const field = document.getElementById('control-{name}'); field.value = '{text}';"
-        "field.dispatchEvent(new Event('input'))"
-    )
-
-
-def plan_starts(page):
-    page.browser.value("document.getElementById('ask').click()")
-    page.browser.wait(
-        "!document.getElementById('starts-answer').hidden && " "document.getElementById('starts-progress').hidden"
-    )
-
-
 # ---- The states.
 
 
@@ -57,13 +44,13 @@ def first_look(page):
     """The page with nothing said to it. What is enough for the limit can be taken."""
     open_with(page, "")
     found = page.enough(), page.browser.value("document.querySelectorAll('[data-takes]').length")
-    require(found[1] == 2, f"{found[0]} with {found[1]} to take")
+    expect(found[1] == 2, f"{found[0]} with {found[1]} to take")
 
 
 def with_starts(page):
     open_with(page, "#trace=sqlite")
     plan_starts(page)
-    require(len(page.enough()) > 1, f"enough: {page.enough()}")
+    expect(len(page.enough()) > 1, f"enough: {page.enough()}")
 
 
 def kept_plans(page):
@@ -108,13 +95,13 @@ def own_record(page):
     page.drop(*((f"store.{kind}", read(example(f"guests/sqlite.light.{kind}"))) for kind in ("pcwt", "json")))
     keep(page)
     typed(page, "rounds", "2")
-    require(page.enough(), "nothing is said of what is enough")
+    expect(page.enough(), "nothing is said of what is enough")
 
 
 def refused_control(page):
     open_with(page, "#trace=sqlite")
     plan_starts(page)
-    require(typed(page, "downtime", "90000000")["stale"], "a plan of 90,000 seconds of downtime")
+    expect(typed(page, "downtime", "90000000")["stale"], "a plan of 90,000 seconds of downtime")
 
 
 def refused_files(page):
@@ -140,13 +127,13 @@ def missed_limit(page):
     )
     typed(page, "downtime", "2")
     plan_starts(page)
-    require(typed(page, "reserve", "2x")["stale"], "a plan of no number")
+    expect(typed(page, "reserve", "2x")["stale"], "a plan of no number")
 
 
 def what_is_enough(page):
     """A limit that is missed: what would keep it, a slower guest too."""
     open_with(page, "#trace=gzip&link=2MB&downtime=4ms&first=40&increase=25&start=400")
-    require(len(page.enough()) == 4, f"enough: {page.enough()}")
+    expect(len(page.enough()) == 4, f"enough: {page.enough()}")
 
 
 def warm_start(page):
@@ -183,7 +170,7 @@ def ended_worker(page):
     page.browser.value("window.isDeadly = true; 0")
     end_worker(page)
     found = typed(page, "rounds", "7")
-    require("the planner ended" in found["verdict"] and found["stale"], found["verdict"])
+    expect("the planner ended" in found["verdict"] and found["stale"], found["verdict"])
 
 
 def looked_at(page):
@@ -256,14 +243,14 @@ def check_state(page, name, folder):
             look = f"{name}-{width}-{'dark' if is_dark else 'light'}"
             check_look(page, look)
             faults = browser.value("faults")
-            require(not faults, f"{look}: the page's code fails: {faults}")
+            expect(not faults, f"{look}: the page's code fails: {faults}")
             if folder:
                 browser.value("scrollTo(0, 0)")
                 page.rest()
                 browser.picture(os.path.join(folder, f"{look}.png"))
         asked = MARKS.replace("PAIRS", json.dumps(MARKED.get(name, []))).replace("BOUND", str(LEAST_MARK_CONTRAST))
         marks = browser.value(asked) if name in MARKED else []
-        require(not marks, f"marks of {name}, dark {is_dark}: {marks}")
+        expect(not marks, f"marks of {name}, dark {is_dark}: {marks}")
     browser.dress(1400, HEIGHT)
     if is_full:
         check_names(page)
@@ -283,18 +270,18 @@ def check_stacked(page):
       }))"""
     )
     numbers = [number for row in places for number in row]
-    require(len(places) == 6 and all(len(row) == 4 for row in places), f"{places} are not six rows of four plans")
-    require(len({left for left, _, _ in numbers}) == 1 and all(is_seen for _, _, is_seen in numbers), f"{places}")
-    require(numbers[0][0] > ROOM_OF_NAME, f"{places}: numbers over the names of their plans")
+    expect(len(places) == 6 and all(len(row) == 4 for row in places), f"{places} are not six rows of four plans")
+    expect(len({left for left, _, _ in numbers}) == 1 and all(is_seen for _, _, is_seen in numbers), f"{places}")
+    expect(numbers[0][0] > ROOM_OF_NAME, f"{places}: numbers over the names of their plans")
     tops = [top for _, top, _ in numbers]
-    require(tops == sorted(set(tops)), f"{places} are not below each other")
+    expect(tops == sorted(set(tops)), f"{places} are not below each other")
     names = page.browser.value(
         "[...document.querySelectorAll('#comparison tbody tr:first-child td')]"
         ".map((cell) => getComputedStyle(cell, '::before').content)"
     )
-    require(names == ['"This plan"', '"Kept plan 1"', '"Kept plan 2"', '"Kept plan 3"'], f"the plans' names: {names}")
+    expect(names == ['"This plan"', '"Kept plan 1"', '"Kept plan 2"', '"Kept plan 3"'], f"the plans' names: {names}")
     roles = collections.Counter(node["role"]["value"] for node in read_nodes(page))
-    require(roles["cell"] >= 24 and roles["rowheader"] >= 6, f"a screen reader is told {roles}")
+    expect(roles["cell"] >= 24 and roles["rowheader"] >= 6, f"a screen reader is told {roles}")
     page.browser.dress(1400, HEIGHT)
 
 
@@ -311,14 +298,14 @@ def check_paper(page, folder):
         gaps = browser.value(GAPS.replace("PLACES", ".pair, #results"))
         browser.value("dispatchEvent(new Event('afterprint'))")
         browser.call("Emulation.setEmulatedMedia", media="")
-        require(not gaps, f"{name} on paper: {gaps}")
+        expect(not gaps, f"{name} on paper: {gaps}")
         printed = base64.b64decode(
             browser.call("Page.printToPDF", printBackground=True, paperWidth=8.27, paperHeight=11.69)["data"]
         )
         put(folder, f"paper-{name}.pdf", printed)
         count = len(re.findall(rb"/Type\s*/Page\b", printed))
-        require(ROUNDS_ON_PAPER in printed, f"{name}: the map lacks its rounds on paper")
-        require(count <= (1 if name == "enough" else 2), f"{name} takes {count} pages of paper")
+        expect(ROUNDS_ON_PAPER in printed, f"{name}: the map lacks its rounds on paper")
+        expect(count <= (1 if name == "enough" else 2), f"{name} takes {count} pages of paper")
     browser.dress(1400, HEIGHT)
 
 
@@ -331,7 +318,7 @@ def check_files(page, folder):
         plan_starts(page)
         page.rest()
         files = saved_files(page, SAVED)
-        require(len(files) == SAVED, f"files: {sorted(files)}")
+        expect(len(files) == SAVED, f"files: {sorted(files)}")
         for name, data in files.items():
             put(folder, f"saved-{theme}-{name}", data)
     page.browser.dress(1400, HEIGHT)

@@ -1,6 +1,7 @@
 """What the planner's page announces: a plan once it is drawn, and never that of another trace or of other settings."""
 
-from checks.page.acts import read, require, typed
+from checks.lib.tally import expect
+from checks.page.acts import read, typed
 from checks.page.cases import example
 
 # What is announced, and what the verdict says.
@@ -14,7 +15,7 @@ def require_told(page, what):
         page.browser.wait(f"textOf('told') !== '' && {VERDICT}.includes({TOLD}.replaceAll('\\u00a0', ' '))", 3)
     except Exception as error:
         told, verdict = page.browser.value(TOLD), page.browser.value(VERDICT)
-        require(False, f"after {what} {told!r} is announced, and the verdict is {verdict!r}: {error}")
+        expect(False, f"after {what} {told!r} is announced, and the verdict is {verdict!r}: {error}")
 
 
 def check_told(page):
@@ -36,6 +37,6 @@ def check_told(page):
     for act in ("back", "forward", "back"):
         page.after(f"history.{act}()")
         require_told(page, act)
-        require((page.browser.value(TOLD) == slow) == (act == "forward"), f"{act}: {page.browser.value(TOLD)!r}")
+        expect((page.browser.value(TOLD) == slow) == (act == "forward"), f"{act}: {page.browser.value(TOLD)!r}")
     page.browser.value("document.getElementById('ask').click()")
     page.browser.wait("textOf('told').startsWith('Best start: ')", 20)

@@ -10,8 +10,9 @@ import tempfile
 from fractions import Fraction
 
 from checks.lib.harness import drawn
+from checks.lib.tally import expect
 from checks.page import forecasts, kept, late, limits, links, looking, map, records, saves, shapes, told, worker
-from checks.page.acts import asked, read, require, spelled, typed
+from checks.page.acts import asked, read, spelled, typed
 from checks.page.cases import example
 from checks.page.shown import tried
 from checks.view.limit_cases import RATES, TIMES
@@ -38,10 +39,10 @@ def check_shape(page, number, text):
     page.wait_for_plan()
     said = page.drop((f"shape-{number}.pcwt", text))
     found = page.shown()
-    require(f"shape-{number}.pcwt: " in said, said)
-    require(found["refused"] is None and not found["stale"] and found["rounds"], f"{said}: {found['refused']}")
+    expect(f"shape-{number}.pcwt: " in said, said)
+    expect(found["refused"] is None and not found["stale"] and found["rounds"], f"{said}: {found['refused']}")
     read_out = page.browser.value("textOf('windows-readout')")
-    require((" 0 writes " in said) == read_out.startswith("The trace writes no page"), f"{said}: {read_out!r}")
+    expect((" 0 writes " in said) == read_out.startswith("The trace writes no page"), f"{said}: {read_out!r}")
 
 
 def check_refused_below(page):
@@ -58,7 +59,7 @@ def check_refused_below(page):
       return height > 0 && top >= 0 && bottom <= innerHeight;
     }).map((part) => part.textContent)"""
     )
-    require(len(seen) == 1 and seen[0].startswith("bad.txt is refused: E1 "), f"in sight: {seen}")
+    expect(len(seen) == 1 and seen[0].startswith("bad.txt is refused: E1 "), f"in sight: {seen}")
     page.browser.value("document.getElementById('close-notice').click()")
     page.becomes("document.getElementById('notice').hidden", True, "a notice that was closed")
 
@@ -71,7 +72,7 @@ def check_names(page):
     page.drop(("\u05d0-1.pcwt", trace), ("\u05d0-1.json", record), ("\u05d0-2.pcwt", trace))
     page.drop(("\u05d0-3.txt", b"text"))
     named = page.browser.value("[...document.querySelectorAll('#trace bdi')].map((name) => name.textContent)")
-    require(named == ["\u05d0-1.pcwt", "\u05d0-1.json", "\u05d0-3.txt", "\u05d0-1.pcwt"], f"names apart: {named}")
+    expect(named == ["\u05d0-1.pcwt", "\u05d0-1.json", "\u05d0-3.txt", "\u05d0-1.pcwt"], f"names apart: {named}")
 
 
 def check_files(page):
@@ -80,24 +81,21 @@ def check_files(page):
     page.open()
     page.wait_for_plan()
     said = page.drop(("one.pcwt", good), ("two.pcwt", good), ("a.txt", b"text"))
-    require("Not opened: two.pcwt, a.txt." in said and "one.pcwt: " in said, said)
+    expect("Not opened: two.pcwt, a.txt." in said and "one.pcwt: " in said, said)
     first = page.browser.value("document.getElementById('control-first').value")
-    require(first == "100", f"the example's first round of {first} % stays over another trace")
+    expect(first == "100", f"the example's first round of {first} % stays over another trace")
     before = page.shown()
     said = page.drop(("bad.pcwt", good[:-1]))
-    require("bad.pcwt is refused: E8 record" in said and "one.pcwt is still open." in said, said)
-    require(page.shown() == before, "a bad file has changed the plan")
-    require(page.browser.value("textOf('trace-state')").startswith("one.pcwt: 26,715 pages"), said)
-    require(
-        not page.after(
-            "document.getElementById('control-rounds').value = '7';"
-            "document.getElementById('control-rounds').dispatchEvent(new Event('input'))"
-        )["refused"],
+    expect("bad.pcwt is refused: E8 record" in said and "one.pcwt is still open." in said, said)
+    expect(page.shown() == before, "a bad file has changed the plan")
+    expect(page.browser.value("textOf('trace-state')").startswith("one.pcwt: 26,715 pages"), said)
+    expect(
+        not typed(page, "rounds", "7")["refused"],
         "no plan after a bad file",
     )
     said = page.drop(("bad.pcwt", good[:-1]), ("good.pcwt", read(example("gzip.pcwt"))), ("more.pcwt", good))
-    require("bad.pcwt is refused: E8 record" in said and "good.pcwt: 25 pages" in said, said)
-    require("Not opened: more.pcwt." in said and "still open" not in said, said)
+    expect("bad.pcwt is refused: E8 record" in said and "good.pcwt: 25 pages" in said, said)
+    expect("Not opened: more.pcwt." in said and "still open" not in said, said)
     page.drop(("one.pcwt", good))
     # One after another, without waiting: the worker and the page have the same trace open then.
     before = page.browser.value("opened")
@@ -105,14 +103,14 @@ def check_files(page):
         page.browser.value(f"drop([[{json.dumps(name)}, {json.dumps(base64.b64encode(text).decode())}]])")
     page.browser.wait(f"opened === {before + 2} && isDrawn()")
     said = page.browser.value("textOf('trace-notes') + ' | ' + textOf('trace-state')")
-    require("three.pcwt is still open." in said and "three.pcwt: 25 pages" in said, said)
-    require(page.shown()["rounds"][0][4] == "25", f"rounds of another trace: {page.shown()['rounds'][0]}")
+    expect("three.pcwt is still open." in said and "three.pcwt: 25 pages" in said, said)
+    expect(page.shown()["rounds"][0][4] == "25", f"rounds of another trace: {page.shown()['rounds'][0]}")
     with tempfile.TemporaryDirectory() as folder:
         path = os.path.join(folder, "chosen.pcwt")
         with open(path, "wb") as file:
             file.write(good)
         said = page.load(path, example("guests/sqlite.light.json"))
-    require("chosen.pcwt: " in said and "sqlite.light.json is not used: " in said, said)
+    expect("chosen.pcwt: " in said and "sqlite.light.json is not used: " in said, said)
 
 
 # ---- Settings that make no plan.
@@ -147,13 +145,13 @@ def amount_in(word):
 def check_said(text, unit, fault):
     """A refusal says what was typed, in the unit of its control. Rates are whole bytes a second."""
     if unit == "ticks":
-        require(f"{float(text):.3f}\u00a0s" in fault, f"{text} s: {fault!r}")
+        expect(f"{float(text):.3f}\u00a0s" in fault, f"{text} s: {fault!r}")
     elif unit:
         word = unit + "/s" * (unit in RATES)
         said = re.search(rf"(\d[\d.]*)\u00a0{word}(?!\w)", fault)
-        require(said and amount_in(said[1] + unit) == amount_in(text + unit), f"{text} {unit}: {fault!r}")
+        expect(said and amount_in(said[1] + unit) == amount_in(text + unit), f"{text} {unit}: {fault!r}")
     else:
-        require(re.search(rf"(?<![\d.]){text}(?![\d.])", fault), f"{text}: {fault!r}")
+        expect(re.search(rf"(?<![\d.]){text}(?![\d.])", fault), f"{text}: {fault!r}")
 
 
 # Where the fault of a control is seen, and the top and the bottom of what of it could be seen.
@@ -175,30 +173,30 @@ def check_refused(page, name, text, unit, grain):
         )
     page.browser.value(f"document.getElementById('control-{name}').focus()")
     found = typed(page, name, text)
-    require(found["refused"] == name and found["stale"], f"{name} {text} {unit}: {found['refused']}, {found['fault']}")
+    expect(found["refused"] == name and found["stale"], f"{name} {text} {unit}: {found['refused']}, {found['fault']}")
     box = page.browser.value(FAULT_BOX.replace("NAME", name))
-    require(box["least"] <= box["top"] and box["bottom"] <= box["most"], f"{name}: the fault is cut: {box}")
-    require(found["rounds"] == before["rounds"], "the last plan does not stay")
+    expect(box["least"] <= box["top"] and box["bottom"] <= box["most"], f"{name}: the fault is cut: {box}")
+    expect(found["rounds"] == before["rounds"], "the last plan does not stay")
     enabled = page.browser.value(
         "['#keep', '#ask', '[data-copies=command-predict]', '#zoom-plan',"
         "'#outcome .saves button', '#plan-this .saves button']"
         ".filter((each) => !document.querySelector(each).disabled)"
     )
-    require(not page.enough(), f"enough without a plan: {page.enough()}")
-    require(not enabled, f"enabled without a plan: {enabled}")
+    expect(not page.enough(), f"enough without a plan: {page.enough()}")
+    expect(not enabled, f"enabled without a plan: {enabled}")
     label = page.browser.value(f"document.querySelector('label[for=control-{name}]').textContent")
-    require(label in found["verdict"] and "Take " in found["fault"], f"{found['verdict']}, {found['fault']}")
+    expect(label in found["verdict"] and "Take " in found["fault"], f"{found['verdict']}, {found['fault']}")
     if name != "sample":
         check_said(text, unit, found["fault"])
     wrong = int(Fraction(text) * 1_000) if unit == "ticks" else amount_in(f"{text}{unit or ''}")
     taken = page.after(f"document.querySelector('#control-{name}-fault button').click()")
-    require(taken["refused"] is None and not taken["stale"], f"{name}: {taken['refused']}, {taken['fault']}")
+    expect(taken["refused"] is None and not taken["stale"], f"{name}: {taken['refused']}, {taken['fault']}")
     settled(page)
     if grain:
         value = amount_in(word_of(page, name))
         step = grain if value < wrong else -grain
         nearer = asked(page, **{name: spelled(value + step, unit)})
-        require(nearer["refused"], f"{name}: {value + step} plans too, and is nearer to {wrong} than {value}")
+        expect(nearer["refused"], f"{name}: {value + step} plans too, and is nearer to {wrong} than {value}")
 
 
 def check_unread(page):
@@ -206,10 +204,10 @@ def check_unread(page):
     page.ask("trace=sqlite&link=1Gbit&downtime=300ms")
     for text in ("", "-1", "1e3", "12x", "1.2.3"):
         found = typed(page, "downtime", text)
-        require(found["refused"] == "downtime" and found["stale"], f"{text!r}: {found['refused']}")
+        expect(found["refused"] == "downtime" and found["stale"], f"{text!r}: {found['refused']}")
         found = page.after("document.querySelector('#control-downtime-fault button').click()")
         value = page.browser.value("document.getElementById('control-downtime').value")
-        require(not found["refused"] and value == "300", f"after {text!r}: {found['refused']}, {value}")
+        expect(not found["refused"] and value == "300", f"after {text!r}: {found['refused']}, {value}")
 
 
 # What a person types, and what it is in the control that it is typed into.
@@ -243,15 +241,15 @@ def check_typed(page):
         page.ask("trace=sqlite&link=100Mbit&downtime=300ms&start=2000&tick=1ms")
         found = typed(page, name, text)
         if value is None:
-            require(found["refused"] == name, f"{text!r} is taken as {name}")
+            expect(found["refused"] == name, f"{text!r} is taken as {name}")
             continue
-        require(found["refused"] is None, f"{name} {text!r}: {found['fault']}")
+        expect(found["refused"] is None, f"{name} {text!r}: {found['fault']}")
         page.browser.value(f"document.getElementById('control-{name}').dispatchEvent(new Event('change'))")
         shown = page.browser.value(
             f"[document.getElementById('control-{name}').value, "
             f"document.querySelector('[data-control={name}] select')?.value ?? null]"
         )
-        require(shown == [value, unit], f"{name} {text!r} is shown as {shown}")
+        expect(shown == [value, unit], f"{name} {text!r} is shown as {shown}")
 
 
 # ---- Units.
@@ -281,9 +279,9 @@ def check_same_amounts(page, draw):
                 )
             )
             differing = [key for key in found if found[key] != before[key]]
-            require(not differing, f"{name} {some} in {unit}: other {differing}")
+            expect(not differing, f"{name} {some} in {unit}: other {differing}")
         settled(page)
-        require(amount_in(word_of(page, name)) == amount_in(some), word_of(page, name))
+        expect(amount_in(word_of(page, name)) == amount_in(some), word_of(page, name))
 
 
 def check_units(page):
@@ -291,9 +289,9 @@ def check_units(page):
     for draw in drawn("units", range(1)):
         check_same_amounts(page, draw)
     page.ask("trace=sqlite&link=1Gbit&downtime=300ms")
-    require("--link 1.5Gbit" in typed(page, "link", "1.5")["predict"], "1.5 Gbit/s")
-    require("--downtime 0.5ms" in typed(page, "downtime", "0.5")["predict"], "0.5 ms")
-    require("--first 187500Kbit" in typed(page, "first", "12.5")["predict"], "12.5 %")
+    expect("--link 1.5Gbit" in typed(page, "link", "1.5")["predict"], "1.5 Gbit/s")
+    expect("--downtime 0.5ms" in typed(page, "downtime", "0.5")["predict"], "0.5 ms")
+    expect("--first 187500Kbit" in typed(page, "first", "12.5")["predict"], "12.5 %")
 
 
 # ---- Back, and away from a start.
@@ -322,9 +320,9 @@ def check_back(page):
     """
     )
     moved = page.browser.value("ticksOf('start')")
-    require(moved != start and "The start is moved" in page.browser.value("textOf('moved')"), f"{start}, {moved}")
+    expect(moved != start and "The start is moved" in page.browser.value("textOf('moved')"), f"{start}, {moved}")
     page.after("document.getElementById('undo-start').click()")
-    require(page.browser.value("ticksOf('start')") == start, "Undo keeps the start")
+    expect(page.browser.value("ticksOf('start')") == start, "Undo keeps the start")
     page.browser.value(
         """(() => {
       const plot = document.getElementById("windows-plot");
@@ -333,9 +331,9 @@ def check_back(page):
       plot.dispatchEvent(new PointerEvent("click", { ...place, pointerType: "touch" }));
     })()"""
     )
-    require(page.browser.value("ticksOf('start')") == start, "a finger takes a start")
+    expect(page.browser.value("ticksOf('start')") == start, "a finger takes a start")
     page.after("document.getElementById('windows-take').click()")
-    require(page.browser.value("ticksOf('start')") != start, "a finger cannot take one")
+    expect(page.browser.value("ticksOf('start')") != start, "a finger cannot take one")
 
 
 def check_warm(page):
@@ -344,7 +342,7 @@ def check_warm(page):
         page.ask(f"trace=sqlite&link=1Gbit&start={start}&base=none")
         found = page.after("document.getElementById('control-warm').click()")
         base, at = page.browser.value("['base', 'start'].map(ticksOf)")
-        require(base < at and found["rounds"][0][4] != "0", f"start {start}: copy {base}, start {at}")
+        expect(base < at and found["rounds"][0][4] != "0", f"start {start}: copy {base}, start {at}")
     page.browser.value("document.getElementById('ask').click()")
     page.browser.wait(
         "document.querySelector('#starts-choice p') !== null && !document.getElementById("
@@ -352,9 +350,9 @@ def check_warm(page):
     )
     page.after("document.getElementById('take-best').click()")
     best = page.browser.value("ticksOf('start')")
-    require(best > base, f"the best start is {best}, the copy {base}")
+    expect(best > base, f"the best start is {best}, the copy {base}")
     found = page.ask(f"trace=sqlite&link=1Gbit&start={base}&base={base}")
-    require(
+    expect(
         "Nothing to send" in found["verdict"]
         and not page.browser.value("document.querySelector('#verdict .good') !== null"),
         found["verdict"],

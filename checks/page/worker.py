@@ -1,6 +1,7 @@
 """The workers of the planner's page, which may end."""
 
-from checks.page.acts import require, typed
+from checks.lib.tally import expect
+from checks.page.acts import typed
 
 # A worker that ends is heard of at once; the next one takes a second, and more on a busy machine.
 SECONDS_OF_END = 5
@@ -17,23 +18,23 @@ def check_worker(page):
     page.wait_for_plan()
     before = page.shown()
     end_worker(page)
-    require(typed(page, "rounds", "7")["refused"] is None, "no plan by another worker")
-    require(typed(page, "rounds", "30") == before, "another plan by another worker")
+    expect(typed(page, "rounds", "7")["refused"] is None, "no plan by another worker")
+    expect(typed(page, "rounds", "30") == before, "another plan by another worker")
     page.browser.wait("textOf('trace-state').startsWith('sqlite.light.pcwt: ')", 5)
     page.browser.value("window.isDeadly = true; 0")
     end_worker(page)
     found = typed(page, "rounds", "7")
-    require("the planner ended" in found["verdict"] and found["stale"], f"after three ends: {found['verdict']}")
+    expect("the planner ended" in found["verdict"] and found["stale"], f"after three ends: {found['verdict']}")
     page.browser.value("window.isDeadly = false; 0")
     found = page.after("document.getElementById('try-again').click()")
-    require(found["refused"] is None and not found["stale"], f"tried again: {found['verdict']}")
-    require(typed(page, "rounds", "30") == before, "no plan after three ends")
+    expect(found["refused"] is None and not found["stale"], f"tried again: {found['verdict']}")
+    expect(typed(page, "rounds", "30") == before, "no plan after three ends")
     page.browser.value("document.getElementById('ask').click()")
-    require(page.browser.value("textOf('ask')") == "Cancel", page.browser.value("textOf('ask')"))
+    expect(page.browser.value("textOf('ask')") == "Cancel", page.browser.value("textOf('ask')"))
     page.browser.value("document.getElementById('ask').click()")
     page.browser.wait("textOf('ask').startsWith('Plan ')", 5)
-    require(page.browser.value("document.getElementById('starts-answer').hidden"), "an answer that was cancelled")
-    require(typed(page, "rounds", "30") == before, "no plan after a cancel")
+    expect(page.browser.value("document.getElementById('starts-answer').hidden"), "an answer that was cancelled")
+    expect(typed(page, "rounds", "30") == before, "no plan after a cancel")
 
 
 # Has the next workers end themselves when they are told so.
@@ -67,6 +68,6 @@ def check_ended(page):
         )
         # A clock that ticks in whole milliseconds may say the same of both.
         page.browser.wait("begun >= sinceEnd", SECONDS_OF_END)
-        require(not page.shown()["refused"], f"no plan after a worker {words}")
-        require(page.browser.value("workers.length") == 3 + number, f"no other worker after one {words}")
-        require(typed(page, "rounds", "29") == before, f"another plan after a worker {words}")
+        expect(not page.shown()["refused"], f"no plan after a worker {words}")
+        expect(page.browser.value("workers.length") == 3 + number, f"no other worker after one {words}")
+        expect(typed(page, "rounds", "29") == before, f"another plan after a worker {words}")
