@@ -16,39 +16,11 @@ from functools import partial
 from checks.lib.harness import run as run_plainly
 from checks.lib.harness import run_main
 from checks.lib.worked import A
-from checks.refusals.refusal_jobs import (
-    AT_STOP,
-    EARLY,
-    HELPS,
-    IMAGE,
-    JOBS,
-    LARGE,
-    LARGE_IMAGE,
-    LARGE_LIVE,
-    LIVE,
-    LIVE_MEMORY,
-    LIVE_THREAD,
-    MANY,
-    MEMORY,
-    MISUSES,
-    NO_ROOM_FOR_TRACE,
-    READ_FAILED,
-    REPORT,
-    SWEEP,
-    WARM,
-    WIDE_REPORT,
-    WIDE_SWEEP,
-    WRITE_FAILED,
-)
-from checks.refusals.refusal_runs import LAST_RUNS, SECONDS, Part, run_parts
+from checks.refusals import refusal_jobs as jobs
+from checks.refusals.refusal_runs import MOST, SECONDS, Part, count_up, run_parts
 from checks.refusals.refused_growths import SAVED, Harmless, is_for_pieces, told_of_live
 from checks.refusals.threads import PIECES, is_needed, saver_of
 
-# All growths up to this one are refused, each in a run of its own; after it only some.
-ALL_UP_TO = 2000
-STRIDE = 7
-# A program that asks so often has run away.
-MOST = 20000
 # Which thread starts as the Nth may differ from run to run, so N counts up again if one was never the Nth.
 TURNS = 8
 
@@ -98,20 +70,13 @@ def try_one(runner, tally, job, refused, lines, output=b"", may_answer=None):
     return True
 
 
-def count_up(runner, tally, job, variable, lines, may_answer=None, **more):
-    """Refuses the first, the second and so on, until runs end without a refusal."""
-    number, without, refused = 1, 0, 0
-    while without < LAST_RUNS and not runner.gives_up(tally):
-        if number > MOST:
-            tally.add(False, f"{job.name}: {variable}={number} is refused still")
-            break
-        if try_one(runner, tally, job, {variable: number, **more}, lines, may_answer=may_answer):
-            without, refused, tally.last = 0, refused + 1, number
-        else:
-            without += 1
-        number += 1 if number < ALL_UP_TO or without else STRIDE
-    if not refused:
-        tally.add(False, f"{job.name}: {variable} refused nothing, so nothing was tried")
+def count_refused(runner, tally, job, variable, lines, may_answer=None, **more):
+    """Refuses a job the first, the second and so on."""
+
+    def is_refused(number):
+        return try_one(runner, tally, job, {variable: number, **more}, lines, may_answer=may_answer)
+
+    count_up(runner, tally, job, variable, is_refused)
 
 
 # ---- The parts.
@@ -119,7 +84,7 @@ def count_up(runner, tally, job, variable, lines, may_answer=None, **more):
 
 def lines_of_live(run):
     """What a live run may tell of one refused growth."""
-    return told_of_live(run, [MEMORY, NO_ROOM_FOR_TRACE, LIVE_MEMORY], [LIVE_THREAD])
+    return told_of_live(run, [jobs.MEMORY, jobs.NO_ROOM_FOR_TRACE, jobs.LIVE_MEMORY], [jobs.LIVE_THREAD])
 
 
 def saved_by_caller(job, run):
@@ -128,18 +93,18 @@ def saved_by_caller(job, run):
 
 def growths(runner, job, refuse_on):
     # A job without a trace has no room to ask for one.
-    lines = [MEMORY, NO_ROOM_FOR_TRACE] if job.reads else [MEMORY]
+    lines = [jobs.MEMORY, jobs.NO_ROOM_FOR_TRACE] if job.reads else [jobs.MEMORY]
     if job.is_live:
-        lines = [*lines, LIVE_MEMORY, LIVE_THREAD] if refuse_on else lines_of_live
+        lines = [*lines, jobs.LIVE_MEMORY, jobs.LIVE_THREAD] if refuse_on else lines_of_live
     # This run tells which places ask for room for threads.
     runner.run(job, REFUSE_GROWTH=1 << 62)
     if refuse_on:
         tally = Part(f"{job.name}: the Nth growth and all after it refused")
-        count_up(runner, tally, job, "REFUSE_GROWTH", lines, may_answer=partial(saved_by_caller, job), REFUSE_ON=1)
+        count_refused(runner, tally, job, "REFUSE_GROWTH", lines, may_answer=partial(saved_by_caller, job), REFUSE_ON=1)
     else:
         tally = Part(f"{job.name}: the Nth growth refused")
         harmless = Harmless(job)
-        count_up(runner, tally, job, "REFUSE_GROWTH", lines, may_answer=harmless.kind)
+        count_refused(runner, tally, job, "REFUSE_GROWTH", lines, may_answer=harmless.kind)
         tally.told = harmless.told()
     tally.title += f", N to {tally.last}"
     return tally
@@ -154,14 +119,14 @@ def threads(runner, job, variable, title):
     wanted, needs = ({*job.savers}, job.needs) if is_start else ({*job.savers} - {PIECES}, 0)
 
     def lines(run):
-        return [LIVE_THREAD] if job.is_live and is_needed(run.function) else []
+        return [jobs.LIVE_THREAD] if job.is_live and is_needed(run.function) else []
 
     def kind(run):
         met.add(saver_of(run.function) or run.function)
         return SAVED if saver_of(run.function) in job.savers else None
 
     for _ in range(TURNS):
-        count_up(runner, tally, job, variable, lines, may_answer=kind)
+        count_refused(runner, tally, job, variable, lines, may_answer=kind)
         missed = *sorted(wanted - met), *["one that is needed"] * (needs - sum(map(is_needed, met)))
         if not missed:
             break
@@ -188,7 +153,10 @@ def of_migration(runner, job):
 def named(runner, job):
     """A refused growth of a live run is L1, and a refused start of its first thread, which it needs, is L2."""
     tally = Part(f"{job.name}: L1 for a growth of its own, L2 for a thread that is needed")
-    for run, line in [(of_migration(runner, job), LIVE_MEMORY), (runner.run(job, REFUSE_THREAD=1), LIVE_THREAD)]:
+    for run, line in [
+        (of_migration(runner, job), jobs.LIVE_MEMORY),
+        (runner.run(job, REFUSE_THREAD=1), jobs.LIVE_THREAD),
+    ]:
         good = run.counts["refused"] == 1 and is_refusal(run, [line])
         tally.seen(good, name_of(run), f"{job.name}, {line!r} is due: {run}")
     return tally
@@ -200,7 +168,7 @@ def reads(runner, job):
     for number in range(1, len(A) + 2):
         if runner.gives_up(tally):
             break
-        if not try_one(runner, tally, job, {"REFUSE_READ": number, "ONE_BYTE": 1}, [READ_FAILED]):
+        if not try_one(runner, tally, job, {"REFUSE_READ": number, "ONE_BYTE": 1}, [jobs.READ_FAILED]):
             tally.add(False, f"{job.name}: read {number} was not refused")
     return tally
 
@@ -211,7 +179,7 @@ def writes(runner, job, variable, title):
         if runner.gives_up(tally):
             return tally
         refused = {variable: number, "ONE_BYTE": 1}
-        if not try_one(runner, tally, job, refused, [WRITE_FAILED], job.output[: number - 1]):
+        if not try_one(runner, tally, job, refused, [jobs.WRITE_FAILED], job.output[: number - 1]):
             tally.add(False, f"{job.name}: write {number} was not refused")
     try_one(runner, tally, job, {variable: len(job.output) + 1, "ONE_BYTE": 1}, [])
     return tally
@@ -262,7 +230,7 @@ def plainly(runner, job):
         tally.seen(is_refusal(run, [line]), name_of(run), f"{job.name}, {line!r} is due: {run}")
 
     with open(runner.trace(job.trace), "rb") as trace, open("/dev/full", "wb") as full:
-        ended(trace, full, WRITE_FAILED)
+        ended(trace, full, jobs.WRITE_FAILED)
     with open(runner.trace(job.trace), "rb") as trace:
         reader, writer = os.pipe()
         os.close(reader)
@@ -270,42 +238,42 @@ def plainly(runner, job):
         poll = select.poll()
         poll.register(writer, 0)
         poll.poll(1000 * SECONDS)
-        ended(trace, writer, WRITE_FAILED)
+        ended(trace, writer, jobs.WRITE_FAILED)
         os.close(writer)
     folder = os.open(runner.folder, os.O_RDONLY)
-    ended(folder, subprocess.PIPE, READ_FAILED)
+    ended(folder, subprocess.PIPE, jobs.READ_FAILED)
     os.close(folder)
     return tally
 
 
 def parts(runner):
     start, inner = "the Nth thread start refused", "the Nth growth of the C library itself refused"
-    for job in [WIDE_SWEEP, WIDE_REPORT, LARGE_IMAGE, *JOBS[::-1], *HELPS, *MISUSES]:
+    for job in [jobs.WIDE_SWEEP, jobs.WIDE_REPORT, jobs.LARGE_IMAGE, *jobs.JOBS[::-1], *jobs.HELPS, *jobs.MISUSES]:
         yield growths, job, False
         yield growths, job, True
-    for job in [REPORT, SWEEP, WARM, EARLY, AT_STOP, LIVE, IMAGE, HELPS[0]]:
+    for job in [jobs.REPORT, jobs.SWEEP, jobs.WARM, jobs.EARLY, jobs.AT_STOP, jobs.LIVE, jobs.IMAGE, jobs.HELPS[0]]:
         yield writes, job, "REFUSE_WRITE", "the Nth write of one byte refused"
         yield writes, job, "ZERO_WRITE", "the Nth write takes no byte"
-    for job in JOBS:
+    for job in jobs.JOBS:
         yield reads, job
-    for job in [LARGE_LIVE, WIDE_REPORT, WIDE_SWEEP, LIVE, AT_STOP, EARLY, WARM]:
+    for job in [jobs.LARGE_LIVE, jobs.WIDE_REPORT, jobs.WIDE_SWEEP, jobs.LIVE, jobs.AT_STOP, jobs.EARLY, jobs.WARM]:
         yield threads, job, "REFUSE_THREAD", start
         yield threads, job, "REFUSE_INNER", inner
-    for job in [LIVE, WARM]:
+    for job in [jobs.LIVE, jobs.WARM]:
         yield named, job
-    for job in MISUSES:
+    for job in jobs.MISUSES:
         yield unsaid, job
-    for job in JOBS:
+    for job in jobs.JOBS:
         yield broken, job
         yield untold, job
         yield plainly, job
 
 
 def prepare(runner):
-    for name, trace in [("a", A), ("many", MANY), ("large", LARGE)]:
+    for name, trace in [("a", A), ("many", jobs.MANY), ("large", jobs.LARGE)]:
         with open(runner.trace(name), "wb") as file:
             file.write(trace)
-    for job in HELPS:
+    for job in jobs.HELPS:
         job.output = runner.run(job).output
 
 

@@ -21,7 +21,11 @@ MOST_FAILURES = 20
 MOST_HANGS = 4
 # If threads run side by side, the number of growths varies. This many runs in a row must end without a refusal.
 LAST_RUNS = 3
-
+# A program that asks so often has run away.
+MOST = 20000
+# All up to this one are refused, each in a run of its own; after it only some.
+ALL_UP_TO = 2000
+STRIDE = 7
 
 COUNTS = "growths threads inner reads writes faults refused".split()
 GROWTH = 1 + COUNTS.index("growths")
@@ -136,6 +140,23 @@ class Part(Tally):
     def __str__(self):
         kinds = ", ".join(f"{kind} {count}" for kind, count in sorted(self.kinds.items()))
         return f"{self.title}: {self.passed} passed, {self.failed} failed ({kinds})"
+
+
+def count_up(runner, tally, job, variable, is_refused):
+    """Refuses the first, the second and so on, each by a run that says whether it was refused something, until runs end
+    without a refusal."""
+    number, without, refused = 1, 0, 0
+    while without < LAST_RUNS and not runner.gives_up(tally):
+        if number > MOST:
+            tally.add(False, f"{job.name}: {variable}={number} is refused still")
+            break
+        if is_refused(number):
+            without, refused, tally.last = 0, refused + 1, number
+        else:
+            without += 1
+        number += 1 if number < ALL_UP_TO or without else STRIDE
+    if not refused:
+        tally.add(False, f"{job.name}: {variable} refused nothing, so nothing was tried")
 
 
 def compile_shim(folder):

@@ -11,12 +11,10 @@ tried. A run that is refused something is a case.
 import re
 
 from checks.lib.harness import run_main
-from checks.refusals.refusal_runs import LAST_RUNS, Part, run_parts
+from checks.refusals.refusal_runs import Part, count_up, run_parts
 from checks.refusals.refused_growths import FOUR, GROWING
 from checks.refused_calls.jobs import CALLS
 
-# A call that asks so often has run away.
-MOST = 20000
 # Once a thread runs, its own growths come between those of the caller in another order in each run. So all is tried
 # again if one that only starts threads was never met.
 TURNS = 8
@@ -57,23 +55,19 @@ def refuse_each(runner, tally, call, variable, refuse_on):
     start threads, and was refused."""
     on = {"REFUSE_ON": 1} if refuse_on else {}
     whole = runner.run(call, REFUSE_WITHIN=1)
-    number, without, met = 1, 0, set()
-    while without < LAST_RUNS and not runner.gives_up(tally):
-        if number > MOST:
-            tally.add(False, f"{call.name}: {variable}={number} is refused still")
-            break
+    met = set()
+
+    def is_refused(number):
         run = runner.run(call, REFUSE_WITHIN=1, **{variable: number}, **on)
+        good, kind = is_whole(call, run), "nothing refused"
         if run.counts["refused"]:
-            without, tally.last = 0, number
             kind = refusal(call, run, variable, refuse_on, whole)
+            good = kind is not None
             met.add(for_threads(run))
-            tally.seen(kind is not None, kind, f"{call.name}, {variable}={number}: {run}")
-        else:
-            without += 1
-            tally.seen(is_whole(call, run), "nothing refused", f"{call.name}, {variable}={number}: {run}")
-        number += 1
-    if not tally.last:
-        tally.add(False, f"{call.name}: {variable} refused nothing, so nothing was tried")
+        tally.seen(good, kind, f"{call.name}, {variable}={number}: {run}")
+        return run.counts["refused"]
+
+    count_up(runner, tally, call, variable, is_refused)
     return met
 
 
