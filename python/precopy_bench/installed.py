@@ -15,7 +15,7 @@ import sys
 import tempfile
 
 from precopy_bench import jobs as work
-from precopy_bench.measuring import Fault, Nowhere, Others, run
+from precopy_bench.measuring import Fault, Nowhere, Others, run, write_json
 from precopy_bench.programs import built, made, timing_parser
 from precopy_dev.packaging import compilers, launcher
 from precopy_dev.tree import TOP
@@ -52,9 +52,10 @@ def install(program, folder):
     return called
 
 
-def cell(runs):
-    figures = (1000 * min(it.wall for it in runs), 1000 * min(it.processor for it in runs))
-    return ", ".join(f"{it:,.0f}" for it in (*figures, max(it.memory for it in runs) / 1e6))
+def figures_of(runs):
+    """The least wall ms and processor ms, and the most MB."""
+    least = (min(getattr(it, name) for it in runs) for name in ("wall", "processor"))
+    return [*(1000 * it for it in least), max(it.memory for it in runs) / 1e6]
 
 
 def main():
@@ -70,6 +71,7 @@ def main():
         subprocess.run([script, "--help"], stdout=subprocess.DEVNULL, check=True)
         programs = {"`./precopy`": script, "Installed": called, "Bare": asked.program, "Fast": built()["fast"]}
         print(f"| Trace, command | {' | '.join(programs)} |\n|---|---|---|---|---|")
+        found = []
         for trace, name, words in rows:
             taken = {program: [] for program in programs}
             for _ in range(asked.n):
@@ -79,7 +81,11 @@ def main():
                     if once.status:
                         raise Fault(f"{program} over {trace} ends with status {once.status}: {once.message}")
                     runs.append(once)
-            print(f"| {trace} {name} | {' | '.join(cell(runs) for runs in taken.values())} |", flush=True)
+            figures = [figures_of(runs) for runs in taken.values()]
+            cells = " | ".join(", ".join(f"{it:,.0f}" for it in each) for each in figures)
+            print(f"| {trace} {name} | {cells} |", flush=True)
+            found.append([trace, name.replace("`", ""), figures[1], figures[3]])
+    write_json(asked.json, installed=found)
     busy = others.average()
     print(f"\nOthers kept {busy:.2f} processors busy on average." if busy is not None else "")
 

@@ -1,5 +1,6 @@
 """Runs of programs: what one takes, whether its output equals another's, and how busy the machine is otherwise."""
 
+import json
 import os
 import signal
 import statistics
@@ -7,7 +8,7 @@ import sys
 import tempfile
 import threading
 import time
-from dataclasses import dataclass, field
+from dataclasses import dataclass
 
 PIECE = 1 << 20
 TICKS = os.sysconf("SC_CLK_TCK")
@@ -102,23 +103,21 @@ def least_memory():
         return run(["/bin/sh", "-c", ":"], {}, os.devnull, output, 10).memory
 
 
-@dataclass
-class Taken:
-    """The measured runs of one program over one trace."""
+def figures_of(runs):
+    """What the measured runs of one program over one trace took."""
+    return {
+        "least": min(it.wall for it in runs),
+        "median": statistics.median(it.wall for it in runs),
+        "processor": min(it.processor for it in runs),
+        "memory": max(it.memory for it in runs),
+    }
 
-    runs: list = field(default_factory=list)
 
-    def least(self):
-        return min(it.wall for it in self.runs)
-
-    def median(self):
-        return statistics.median(it.wall for it in self.runs)
-
-    def processor(self):
-        return min(it.processor for it in self.runs)
-
-    def memory(self):
-        return max(it.memory for it in self.runs)
+def write_json(path, **figures):
+    """Writes what was measured for bench/summary, if a file is named."""
+    if path:
+        with open(path, "w", encoding="utf-8") as file:
+            json.dump(figures, file, indent=1)
 
 
 class Others:

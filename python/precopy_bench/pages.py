@@ -15,7 +15,7 @@ import re
 import sys
 
 from precopy_bench import jobs as work
-from precopy_bench.measuring import Fault, Nowhere, Others, run
+from precopy_bench.measuring import Fault, Nowhere, Others, run, write_json
 from precopy_bench.programs import built, large_pages, made, timing_parser
 
 TRACES = ("uniform", "zipf", "seq", "phase", "big", "full", "tiny")
@@ -51,16 +51,11 @@ class Programs:
         return taken, int(told[1])
 
 
-def cell(runs):
+def figures_of(runs):
     """Least wall ms; processor ms, pages sent and processor ns a page of the run with the least of these; most MB."""
     taken, sent = min(runs, key=lambda it: it[0].processor / it[1])
     wall, most = min(it[0].wall for it in runs), max(it[0].memory for it in runs)
-    figures = 1000 * wall, 1000 * taken.processor, sent, 1e9 * taken.processor / sent, most / 1e6
-    return ", ".join(f"{it:,.0f}" for it in figures)
-
-
-def by_page(runs):
-    return min(it[0].processor / it[1] for it in runs)
+    return 1000 * wall, 1000 * taken.processor, sent, 1e9 * taken.processor / sent, most / 1e6
 
 
 def main():
@@ -70,14 +65,18 @@ def main():
     traces = made(sorted({trace for trace, _ in pairs}), asked.traces)
     print(f"Lanes of {asked.lane:,} frames. Wall ms, processor ms, pages sent, processor ns a page, MB.\n")
     print("| Trace, of each | Precopy | Fast | Peer | Precopy / peer, a page |\n|---|---|---|---|---|")
+    found = []
     for trace, count in pairs:
         words = work.live(workers=count, streams=count, replayers=count, lane=asked.lane)(traces[trace])
         taken = {name: [] for name in programs.of}
         for _ in range(asked.n):
             for name, runs in taken.items():
                 runs.append(programs.once(name, words, traces[trace]))
-        ratio = by_page(taken["precopy"]) / by_page(taken["peer"])
-        print(f"| {trace}, {count} | {' | '.join(cell(it) for it in taken.values())} | {ratio:.2f} |", flush=True)
+        figures = {name: figures_of(runs) for name, runs in taken.items()}
+        cells = " | ".join(", ".join(f"{it:,.0f}" for it in each) for each in figures.values())
+        print(f"| {trace}, {count} | {cells} | {figures['precopy'][3] / figures['peer'][3]:.2f} |", flush=True)
+        found.append([trace, count, figures])
+    write_json(asked.json, lane=asked.lane, pages=found)
     busy = others.average()
     print(f"\nOthers kept {busy:.1f} processors busy on average." if busy is not None else "")
 

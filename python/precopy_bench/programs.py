@@ -40,6 +40,7 @@ def timing_parser(name, doc, runs, row, crate="precopy"):
     add("--only", type=pattern, default="", metavar="REGEX", help=f"matched against a row's name, as '^{row}'")
     add("--program", default=program, metavar="PATH", help=f"{crate}, as it is built by default")
     add("--traces", default=TRACES, metavar="DIR", help=f"where traces are, {TRACES} by default")
+    add("--json", metavar="PATH", help="write the figures for bench/summary, too")
     return parser
 
 

@@ -16,7 +16,7 @@ import sys
 import time
 
 from precopy_bench import jobs as work
-from precopy_bench.measuring import Fault, Others, Output, Taken, least_memory, memory_folder, run
+from precopy_bench.measuring import Fault, Others, Output, figures_of, least_memory, memory_folder, run, write_json
 from precopy_bench.programs import built, large_pages, made, timing_parser
 from precopy_bench.tables import Tables
 from precopy_dev.tree import TOP
@@ -112,15 +112,15 @@ class Bench:
             result = self.checked(program, words, trace, job)
             if result:
                 left[program] = runs if result.wall < LONG else min(runs, 2)
-        taken = {program: Taken() for program in left}
+        taken = {program: [] for program in left}
         for number in range(runs):
             order = list(left)
             order = order[number % max(1, len(order)) :] + order[: number % max(1, len(order))]
             for program in order:
                 result = self.checked(program, words, trace, job) if left[program] > number else None
                 if result:
-                    taken[program].runs.append(result)
-        self.taken.update({(trace.name, job.name, it): runs for it, runs in taken.items() if runs.runs})
+                    taken[program].append(result)
+        self.taken.update({(trace.name, job.name, it): figures_of(runs) for it, runs in taken.items() if runs})
         print(".", end="", file=sys.stderr, flush=True)
 
 
@@ -211,7 +211,9 @@ def measured(bench):
     print(file=sys.stderr)
     print_machine(bench, others)
     print_busy(busy)
-    print_tables(bench, max(at_first, least_memory()))
+    least = max(at_first, least_memory())
+    print_tables(bench, least)
+    write_json(bench.asked.json, least_memory=least, taken=[[*key, it] for key, it in bench.taken.items()])
 
 
 def main():

@@ -20,7 +20,7 @@ def table(head, rows):
 
 
 class Tables:
-    """`taken` has, by names of trace, job and program, what the runs took."""
+    """`taken` has, by names of trace, job and program, the figures of the runs."""
 
     def __init__(self, taken, least_memory):
         self.taken = taken
@@ -31,26 +31,38 @@ class Tables:
         return show(taken) if taken else "-"
 
     def time(self, trace, job, program):
-        return self.cell(trace, job, program, lambda it: f"{ms(it.least())} ({ms(it.median())})")
+        return self.cell(trace, job, program, lambda it: f"{ms(it['least'])} ({ms(it['median'])})")
 
     def processor(self, trace, job, program):
-        return self.cell(trace, job, program, lambda it: ms(it.processor()))
+        return self.cell(trace, job, program, lambda it: ms(it["processor"]))
 
     def memory(self, trace, job, program):
         def show(taken):
-            memory = taken.memory()
+            memory = taken["memory"]
             sign = "" if memory > self.least_memory * 1.03 else "at most "
             return f"{sign}{memory / 1e6:.0f}"
 
         return self.cell(trace, job, program, show)
 
-    def least(self, trace, job, program):
-        taken = self.taken.get((trace, job, program))
-        return taken.least() if taken else math.nan
+    def figure(self, trace, job, program, name="least"):
+        return self.taken.get((trace, job, program), {}).get(name, math.nan)
 
-    def ratio(self, trace, job, above, below):
-        value = self.least(trace, job, above) / self.least(trace, job, below)
+    def quotient(self, trace, job, above, below, name="least"):
+        return self.figure(trace, job, above, name) / self.figure(trace, job, below, name)
+
+    def ratio(self, *words):
+        value = self.quotient(*words)
         return "-" if math.isnan(value) else f"{value:.1f}"
+
+    def growth(self, series, job, program):
+        """Over traces and their counts the exponent of the growth of times, and the seconds of each more at its end."""
+        counts = [count for _, count in series]
+        times = [self.figure(trace, job, program) for trace, _ in series]
+        if any(map(math.isnan, times)):
+            return None
+        # The k of the line `time = c * count ** k` with the least squares of logarithms.
+        slope = statistics.linear_regression(list(map(math.log, counts)), list(map(math.log, times))).slope
+        return slope, (times[-1] - times[-2]) / (counts[-1] - counts[-2])
 
     def has(self, trace, job):
         return (trace, job, "precopy") in self.taken
@@ -82,8 +94,8 @@ class Tables:
             for (cases, workers), job in jobs.items():
                 if not self.has(trace, job.name):
                     continue
-                least = {it: self.least(trace, job.name, it) for it in TITLES}
-                beside = {it: least[it] - self.least(trace, alone.name, it) for it in ("precopy", "fast")}
+                least = {it: self.figure(trace, job.name, it) for it in TITLES}
+                beside = {it: least[it] - self.figure(trace, alone.name, it) for it in ("precopy", "fast")}
                 is_known = beside["fast"] > 0 and beside["precopy"] > 0
                 row = [trace, cases, workers, *(self.time(trace, job.name, it) for it in TITLES)]
                 row += [self.ratio(trace, job.name, "precopy", "fast")]
@@ -101,7 +113,7 @@ class Tables:
         rows = []
         for job in jobs:
             for program in job.programs:
-                least = [self.least(trace, job.name, program) for trace in traces]
+                least = [self.figure(trace, job.name, program) for trace in traces]
                 if any(math.isnan(it) for it in least):
                     continue
                 shown = [self.time(trace, job.name, program) for trace in traces]
@@ -117,7 +129,7 @@ class Tables:
         rows = []
         for trace in traces:
             for program in warm.programs:
-                ratio = self.least(trace, warm.name, program) / self.least(trace, cold.name, program)
+                ratio = self.figure(trace, warm.name, program) / self.figure(trace, cold.name, program)
                 if math.isnan(ratio):
                     continue
                 row = [trace, TITLES[program], *(self.time(trace, it.name, program) for it in (cold, warm))]
@@ -132,13 +144,9 @@ class Tables:
         rows = []
         for job in jobs:
             for program in job.programs:
-                times = [self.least(trace, job.name, program) for trace, _ in series]
-                if any(math.isnan(it) for it in times):
-                    continue
-                counts = [count for _, count in series]
-                more = (times[-1] - times[-2]) / (counts[-1] - counts[-2])
-                shown = [ms(it) for it in times]
-                rows.append([job.name, TITLES[program], *shown, f"{exponent(counts, times):.2f}", f"{more * 1e9:.0f}"])
+                if found := self.growth(series, job.name, program):
+                    shown = [ms(self.figure(trace, job.name, program)) for trace, _ in series]
+                    rows.append([job.name, TITLES[program], *shown, f"{found[0]:.2f}", f"{found[1] * 1e9:.0f}"])
         if rows:
             print(f"### {title}\n")
             table(["Command", "Program", *(f"{it:,}" for _, it in series), "Exponent", f"ns a {unit}"], rows)
@@ -147,14 +155,9 @@ class Tables:
         """One row a command: a trace so short that a program does little more than start."""
         rows = []
         for job in (it for it in jobs if self.has(trace, it.name)):
-            precopy, fast = (self.least(trace, job.name, it) for it in ("precopy", "fast"))
+            precopy, fast = (self.figure(trace, job.name, it) for it in ("precopy", "fast"))
             more = f"{1000 * (precopy - fast):.2f}"
             rows.append([job.name, *(self.time(trace, job.name, it) for it in ("precopy", "fast")), more])
         if rows:
             print(f"### Starts\n\n{notes}\n")
             table(["Command", "Precopy, ms", "Fast, ms", "More, ms"], rows)
-
-
-def exponent(counts, times):
-    """The k of the line `time = c * count ** k` with the least squares of logarithms."""
-    return statistics.linear_regression([math.log(it) for it in counts], [math.log(it) for it in times]).slope
