@@ -42,6 +42,7 @@ def damaged():
     yield header(4, 5, magic=b"QCWT", version=3) + rest, "E2"
     yield header(4, 5, shift=3) + rest, "E4"
     yield header(4, 5, shift=13) + rest, "E4"
+    yield header(4, 5, reserved=b"\1\0") + rest, "E5"
     yield header(4, 5, reserved=b"\0\1") + rest, "E5"
     yield header(0, 5) + rest, "E6"
     yield header(65_537, 5) + rest, "E6"
@@ -63,4 +64,14 @@ def damaged():
     yield header(4, 1) + record(0, 0, 15, b"xy"), "E13 record 0"
     yield header(4, 1) + record(0, 0, 0, b"x", 17), "E8 record 0"
     yield A + b"\0", "E14"
+    yield header(4, 4) + rest, "E14"
     yield header(4, 0) + b"\0", "E14"
+    for number, other, name in (
+        (4, record(2500, 1, 0, b"\0", 65_535), "E8"),
+        (4, record(0, 1, 0, b"\0"), "E9"),
+        (4, record(1 << 40, 1, 0, b"\0"), "E10"),
+        (3, record(2500, 4, 2, b"\4\5"), "E11"),
+        (0, record(0, 0, 0, b"\1", 0), "E12"),
+        (1, record(5, 1, 16, b"\2"), "E13"),
+    ):
+        yield header(4, 5) + b"".join([*RECORDS[:number], other, *RECORDS[number + 1 :]]), f"{name} record {number}"

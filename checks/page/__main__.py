@@ -33,6 +33,7 @@ from checks.lib.harness import drawn, run_main
 from checks.lib.tally import drawn_from, has, left_out
 from checks.lib.traces import Trace
 from checks.lib.view_texts import TOP, Failure, ran, sweep_facts, told
+from checks.lib.worked import damaged
 from checks.page import addresses, cases, enough, forecasts, loads
 from checks.page import looks as page_looks
 from checks.page import pictures, records, states, uses, worker
@@ -307,7 +308,7 @@ def check_damages(tally, page, folder):
     path = os.path.join(folder, "damaged.pcwt")
     page.load(cases.example("guests/mid.light.pcwt"))
     before = page.shown()
-    for name, text in cases.damages():
+    for text, name in damaged():
         with open(path, "wb") as file:
             file.write(text)
         said = page.load(path)

@@ -1,4 +1,4 @@
-"""Cases of checks/page: traces and their damages, and random settings with the facts that the page must show of them.
+"""Cases of checks/page: traces, and random settings with the facts that the page must show of them.
 
 The facts are worked out from the lines of `precopy report` and `precopy sweep`, by the rules of docs/COMMANDS.md.
 """
@@ -25,47 +25,6 @@ SMALL = 2_000
 
 def example(name):
     return os.path.join(TOP, "examples", name)
-
-
-# ---- Damages.
-
-
-def changed(text, at, new):
-    return text[:at] + bytes(new) + text[at + len(new) :]
-
-
-def damages():
-    """Names of refusals, each with the bytes of a damaged trace, by the table of docs/FORMATS.md."""
-    with open(example("a.pcwt"), "rb") as file:
-        text = file.read()
-    records = [16, 33, 50, 67, 85]
-    return [
-        ("E1", text[:15]),
-        ("E1", b""),
-        ("E2", changed(text, 0, [0x51])),
-        ("E3", changed(text, 4, [3])),
-        ("E3", changed(text, 4, [0])),
-        ("E4", changed(text, 5, [3])),
-        ("E4", changed(text, 5, [13])),
-        ("E5", changed(text, 6, [1])),
-        ("E5", changed(text, 7, [1])),
-        ("E6", changed(text, 8, [0, 0, 0, 0])),
-        ("E6", changed(text, 8, [1, 0, 1, 0])),
-        ("E7", changed(text, 12, [1, 0, 16, 0])),
-        ("E8 record 5", changed(text, 12, [6])),
-        ("E14", changed(text, 12, [4])),
-        ("E14", text + b"\0"),
-        ("E8 record 4", changed(text, records[4] + 14, [255, 255])),
-        ("E8 record 4", text[:-1]),
-        ("E9 record 1", changed(changed(text, records[0], [6]), records[1], [5])),
-        ("E9 record 4", changed(text, records[4], [0])),
-        ("E10 record 4", changed(text, records[4], [0, 0, 0, 0, 0, 1, 0, 0])),
-        ("E11 record 3", changed(text, records[3] + 8, [4])),
-        ("E12 record 0", changed(text, records[0] + 14, [0, 0])),
-        ("E13 record 1", changed(text, records[1] + 12, [16, 0])),
-        ("E2", changed(changed(text, 0, [0x51]), 4, [2])),
-        ("E12 record 4", changed(changed(text, 4, [2])[:-1], records[4] + 12, [1, 0, 0, 0])),
-    ]
 
 
 # ---- Settings.
