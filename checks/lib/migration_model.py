@@ -305,7 +305,7 @@ def document_of(asked: Question, told: Answer, trace: Trace) -> dict:
         **draws_member(told.agreement),
         **Starts(asked, trace).member(),
         **share_model.share_member(told.share),
-        "enough": remedy_model.enough_member(told.enough, told.is_sure(), seconds),
+        "enough": remedy_model.enough_member(told.enough, told.is_sure()),
         "hosts": hosts_member(asked.link, asked.millis_for_pages()),
     }
     if told.kept == "unknown":

@@ -1,6 +1,8 @@
 """What is enough for the limit of a migration, by the model of python/precopy_dev/models/remedies.py, which makes plans
 page by page."""
 
+from fractions import Fraction
+
 from precopy_dev.models.remedies import Remedies
 
 LINES = {
@@ -23,38 +25,28 @@ def answer_of(found: Remedies, sure: bool) -> str:
     return "nothing" if found[1:4] == (None, None, None) else "other"
 
 
+def amounts(found: Remedies) -> list[tuple[int, str, str, int | Fraction]]:
+    """The amounts that were found, each with its line, its member, and how much of that it comes to."""
+    ending = found.ending
+    some = [
+        (found.link, "enough: --link {}Kbit", "link_bytes", 125),
+        (found.downtime, "enough: --downtime {}us", "down_seconds", Fraction(1, 1_000_000)),
+        (found.speed, "enough: the guest slowed to {} per cent of its speed", "guest_percent", 1),
+        (ending.link, "enough to end within the trace: --link {}Kbit", "ending_link_bytes", 125),
+        (ending.start, "enough to end within the trace: --start {}", "ending_start", 1),
+    ]
+    return [each for each in some if each[0] is not None]
+
+
 def enough_lines(found: Remedies, sure: bool) -> list[str]:
     """The lines of `precopy-view predict`."""
     answer = answer_of(found, sure)
-    lines = [LINES[answer]]
-    if answer == "uncertain":
-        return lines
-    if found.link is not None:
-        lines.append(f"enough: --link {found.link}Kbit")
-    if found.downtime is not None:
-        lines.append(f"enough: --downtime {found.downtime}us")
-    if found.speed is not None:
-        lines.append(f"enough: the guest slowed to {found.speed} per cent of its speed")
-    if found.ending.link is not None:
-        lines.append(f"enough to end within the trace: --link {found.ending.link}Kbit")
-    if found.ending.start is not None:
-        lines.append(f"enough to end within the trace: --start {found.ending.start}")
-    return lines
+    some = [] if answer == "uncertain" else amounts(found)
+    return [LINES[answer], *(line.format(amount) for amount, line, *_ in some)]
 
 
-def enough_member(found: Remedies, sure: bool, seconds) -> dict:
-    """The member of `precopy-view json predict`, with times by a function of microseconds."""
-    member = {"answer": answer_of(found, sure)}
-    if member["answer"] == "uncertain":
-        return member
-    if found.link is not None:
-        member["link_bytes"] = 125 * found.link
-    if found.downtime is not None:
-        member["down_seconds"] = seconds(found.downtime)
-    if found.speed is not None:
-        member["guest_percent"] = found.speed
-    if found.ending.link is not None:
-        member["ending_link_bytes"] = 125 * found.ending.link
-    if found.ending.start is not None:
-        member["ending_start"] = found.ending.start
-    return member
+def enough_member(found: Remedies, sure: bool) -> dict:
+    """The member of `precopy-view json predict`."""
+    answer = answer_of(found, sure)
+    some = [] if answer == "uncertain" else amounts(found)
+    return {"answer": answer, **{name: each * amount for amount, _, name, each in some}}
