@@ -12,16 +12,12 @@ by `workloads`.
 """
 
 import multiprocessing
-import os
 import random
-import subprocess
 import sys
 from typing import NamedTuple
 
-from precopy_bench.programs import TRACES
+from precopy_bench.programs import made, sampling_parser
 from precopy_dev.models import redrawn
-from precopy_dev.tree import TOP
-from precopy_dev.words import parser_of
 from precopy_tools.formats.traces import read_file
 
 NAMES = ("uniform", "zipf", "seq", "phase", "full", "released")
@@ -120,18 +116,12 @@ def outside(some: dict[str, Shares]) -> list[str]:
 
 
 def main() -> int:
-    parser = parser_of("bench/coverage", __doc__)
-    parser.add_argument("names", nargs="*", metavar="NAME", default=NAMES, help="traces of bench/workloads")
-    parser.add_argument("--traces", default=TRACES, metavar="DIR", help=f"where they go, {TRACES} by default")
-    parser.add_argument("--seeds", type=int, default=200, metavar="N", help="samples of each case (200)")
-    parser.add_argument("--sampled", type=int, default=1024, metavar="M", help="pages of a sample (1024)")
+    parser = sampling_parser("coverage", __doc__, NAMES, "seeds", "")
     parser.add_argument("--plans", type=int, default=redrawn.PLANS, metavar="N", help="of redrawn pages (20)")
     asked = parser.parse_args()
     redrawn.PLANS = asked.plans
-    made = [os.path.join(TOP, "bench", "workloads"), "--traces", asked.traces, *asked.names]
-    subprocess.run(made, check=True, stdout=subprocess.DEVNULL)
-    paths = {name: os.path.join(asked.traces, f"{name}.pcwt") for name in asked.names}
-    cases = [Case(name, kind, paths[name], asked.seeds, asked.sampled) for name in asked.names for kind in KINDS]
+    traces = made(asked.names, asked.traces)
+    cases = [Case(name, kind, traces[name].path, asked.seeds, asked.sampled) for name in asked.names for kind in KINDS]
     print(f"{asked.seeds} samples of {asked.sampled} pages, {asked.plans} plans each: within one standard error")
     print(f"{'trace':13}{'limits':10}{'bytes':>9} {'time':>9} {'downtime':>9} {'alike':>9}")
     found = {}

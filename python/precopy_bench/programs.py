@@ -44,6 +44,17 @@ def timing_parser(name, doc, runs, row, crate="precopy"):
     return parser
 
 
+def sampling_parser(name, doc, names, samples, told):
+    """The options of a command that draws pages of traces; how many samples there are is the option `samples`."""
+    parser = parser_of(f"bench/{name}", doc)
+    add = parser.add_argument
+    add("names", nargs="*", metavar="NAME", default=names, help=f"traces of bench/workloads{told}")
+    add("--traces", default=TRACES, metavar="DIR", help=f"where they go, {TRACES} by default")
+    add(f"--{samples}", type=int, default=200, metavar="N", help="samples of each case (200)")
+    add("--sampled", type=int, default=1024, metavar="M", help="pages of a sample (1024)")
+    return parser
+
+
 def large_pages():
     """The setting of the C library by which ./precopy runs the program."""
     return os.environ.get("GLIBC_TUNABLES", launcher.large_pages())

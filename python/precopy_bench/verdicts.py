@@ -21,10 +21,9 @@ import subprocess
 import sys
 from typing import NamedTuple
 
-from precopy_bench.programs import TRACES
+from precopy_bench.programs import made, sampling_parser
 from precopy_dev.models import redrawn
 from precopy_dev.tree import TOP
-from precopy_dev.words import parser_of
 from precopy_tools.formats.traces import MAGIC, PLAIN, RECORD, read_file
 
 PROGRAM = os.path.join(TOP, "crates", "precopy_view", "out", "precopy_view")
@@ -135,19 +134,10 @@ def is_near(share: float) -> bool:
 
 
 def main() -> int:
-    parser = parser_of("bench/verdicts", __doc__)
-    parser.add_argument("names", nargs="*", metavar="NAME", default=NAMES, help="traces of bench/workloads, or paths")
-    parser.add_argument("--traces", default=TRACES, metavar="DIR", help=f"where they go, {TRACES} by default")
-    parser.add_argument("--samples", type=int, default=200, metavar="N", help="samples of each trace (200)")
-    parser.add_argument("--sampled", type=int, default=1024, metavar="M", help="pages of a sample (1024)")
+    parser = sampling_parser("verdicts", __doc__, NAMES, "samples", ", or paths")
     parser.add_argument("--program", default=PROGRAM, metavar="PATH", help="the built precopy-view")
     options = parser.parse_args()
-    made = [name for name in options.names if os.sep not in name]
-    subprocess.run(
-        [os.path.join(TOP, "bench", "workloads"), "--traces", options.traces, *made],
-        check=True,
-        stdout=subprocess.DEVNULL,
-    )
+    traces = made([name for name in options.names if os.sep not in name], options.traces)
     print(f"{options.samples} samples of {options.sampled} pages; links are shares of that at which the plan turns")
     print(
         f"{'trace':12}{'link':>6} {'all pages':>10}" + "".join(f"{answer:>11}" for answer in ANSWERS) + f"{'wrong':>8}"
@@ -155,8 +145,7 @@ def main() -> int:
     sure, wrong, far, uncertain = 0, 0, 0, 0
     with multiprocessing.Pool(2) as pool:
         for name in options.names:
-            path = name if os.sep in name else os.path.join(options.traces, f"{name}.pcwt")
-            case = case_of(path, options.sampled)
+            case = case_of(name if os.sep in name else traces[name].path, options.sampled)
             jobs = [(case, options.program, options.sampled, seed) for seed in range(options.samples)]
             truths = [whole_answer(case.guest, int(case.turn * share)) for share in SHARES]
             for share, it in zip(SHARES, told(truths, pool.map(answers, jobs))):
