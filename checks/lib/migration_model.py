@@ -135,6 +135,10 @@ class Question:
     def scale(self) -> redrawn.Scale:
         return redrawn.Scale(self.tick, self.page, self.sampled, self.guest)
 
+    def has_errors(self) -> bool:
+        """Whether standard errors are counted: of a part of the guest, of two pages or more."""
+        return 2 <= self.sampled < self.guest and self.sampled <= 65_536
+
     def trial(self) -> remedies.Trial:
         """The same as a migration whose limits are changed."""
         limits = remedies.Limits(self.link, self.downtime, self.first, self.reserve)
@@ -202,7 +206,7 @@ def answer_of(asked: Question, trace: Trace) -> Optional[Answer]:
     plan = redrawn.planned(trace.guest, settings)
     time, down, sent = asked.cost(asked.start, plan)
     is_late = plan.stop > trace.last
-    has_errors = not is_late and 2 <= asked.sampled < asked.guest and asked.sampled <= 65_536
+    has_errors = not is_late and asked.has_errors()
     trial = asked.trial()
     agreement = agreements.agreement(trace.guest, trial)
     return Answer(
@@ -393,7 +397,7 @@ class Cost(NamedTuple):
 
     def rated(self, asked: Question, trace: Trace) -> "Cost":
         """The same with its errors, if a part of the guest was sampled."""
-        if not 2 <= asked.sampled < asked.guest or asked.sampled > 65_536:
+        if not asked.has_errors():
             return self
         settings = asked.settings()._replace(start=self.start)
         return self._replace(errors=redrawn.errors(trace.guest, settings, asked.scale()))

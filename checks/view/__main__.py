@@ -175,7 +175,7 @@ def tries_of(folder):
     yield from ((check_picture, words, trace) for trace in examples + windows for words in SETTINGS)
     for tries in (report_tries, start_tries):
         yield from tries(known)
-    yield from advice_tries(examples, known)
+    yield from advice_tries(examples, known, folder)
     for tries in (word_tries, nearest_tries, quantity_tries):
         yield from tries(gzip)
     yield from picture_tries(folder)
@@ -183,7 +183,8 @@ def tries_of(folder):
 
 # How often each must come of the random questions, at least; and at most a fifth of each kind is refused.
 LEAST = {"report": {"yes": 50, "no": 10, "unknown": 15, "refused": 1}}
-LEAST |= {"when": {"yes": 15, "no": 6, "unknown": 15, "refused": 1}, "advise": {"fits": 30, "refused": 1}}
+LEAST |= {"when": {"yes": 15, "no": 6, "unknown": 15, "refused": 1}}
+LEAST |= {"advise": {"fits": 30, "another": 5, "unlikely": 1, "refused": 1}}
 
 
 def expect_each():

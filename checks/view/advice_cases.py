@@ -1,11 +1,16 @@
 """Cases of checks/view about advice, in ticks and in time, and about sweeps: worked out again by a plain model."""
 
+import functools
 import itertools
+import os
+from dataclasses import replace
 
 from checks.lib import migration_model
-from checks.lib.amount_texts import size_text, time_text
+from checks.lib.amount_texts import error_text, size_text, time_text
 from checks.lib.harness import drawn
+from checks.lib.migration_model import Question
 from checks.lib.tally import expect
+from checks.lib.traces import Trace, made
 from checks.lib.view_texts import facts, parsed, ran, words_of
 from checks.view.limit_cases import SEEN, in_range, is_refused, some
 from precopy_dev.models import redrawn
@@ -17,7 +22,7 @@ BUDGETS = [
     ["--down=100000", "--total=1", "--start=5"],
     ["--down=3", "--max=4000", "--base=1200", "--start=1500"],
 ]
-ADVICE, SWEEPS = 60, 60
+ADVICE, SAMPLES, SWEEPS = 60, 40, 60
 
 
 def part(whole, count):
@@ -47,39 +52,75 @@ def cases_round(asked, grid):
     return [asked, *made]
 
 
-def choice_of(plans, down, total):
-    """Returns the advised case of some plans, and the line that says why."""
-    within = [case for case in plans if case["down"] <= down]
-    fitting = [case for case in within if total is None or case["total"] <= total]
+class Plans:
+    """The plans of some cases over a trace, and which of them are likely to keep a downtime: those that do with two
+    standard errors more, if a question in time and bytes has any."""
 
-    def cheapest(some):
-        return min(some, key=lambda case: (case["total"], case["down"], case["case"]))["case"]
+    def __init__(self, trace, cases, down, question):
+        self.trace, self.cases, self.down, self.question = trace, cases, down, question
+        self.outcomes = [redrawn.planned(trace.guest, it) for it in cases]
+        self.facts = [migration_model.case_of(number, *it) for number, it in enumerate(zip(cases, self.outcomes))]
+        self.has_errors = question is not None and question.has_errors()
 
-    nearest = min(plans, key=lambda case: (case["down"], case["total"], case["case"]))["case"]
-    head = f"cases {len(plans)} "
-    if fitting:
-        return cheapest(fitting), f"{head}fits {cheapest(fitting)}"
-    if within:
-        reason = f"none within total {total} of those within down {down} cheapest {cheapest(within)}"
-        return nearest, f"{head}{reason} nearest {nearest}"
-    return nearest, f"{head}none within down {down} nearest {nearest}"
+    def cost(self, number):
+        return self.question.cost(self.cases[number].start, self.outcomes[number])
+
+    @functools.cache
+    def error(self, number):
+        """One standard error of the downtime of a case."""
+        return redrawn.errors(self.trace.guest, self.cases[number], self.question.scale())[2]
+
+    def is_likely(self, number):
+        return not self.has_errors or self.cost(number)[1] + 2 * self.error(number) <= self.question.downtime
+
+    def planned_within(self, total=None):
+        """The cases that keep the downtime, and send no more pages than these, by their plans: the cheapest first."""
+        within = [it for it in self.facts if it["down"] <= self.down and (total is None or it["total"] <= total)]
+        return [it["case"] for it in sorted(within, key=lambda it: (it["total"], it["down"], it["case"]))]
+
+    def cheapest(self, total=None):
+        """The cheapest case that is likely to keep the downtime, and sends no more pages than these, or none."""
+        return next(filter(self.is_likely, self.planned_within(total)), None)
+
+    def choice(self, total):
+        """Returns the advised case, and the line that says why."""
+        nearest = min(self.facts, key=lambda case: (case["down"], case["total"], case["case"]))["case"]
+        head, within = f"cases {len(self.facts)} ", f"{'likely ' * self.has_errors}within down {self.down}"
+        fitting, cheapest = self.cheapest(total), self.cheapest()
+        if fitting is not None:
+            return fitting, f"{head}fits {fitting}"
+        if cheapest is not None:
+            reason = f"none within total {total} of those {within} cheapest {cheapest}"
+            return nearest, f"{head}{reason} nearest {nearest}"
+        return nearest, f"{head}none {within} nearest {nearest}"
+
+    def cost_line(self, number):
+        """What a case costs in time and bytes, and one standard error of the downtime."""
+        time, downtime, sent = self.cost(number)
+        error = f" +- {error_text(self.error(number))}" if self.has_errors else ""
+        return f"time {time_text(time)}, sent {size_text(sent)}, downtime {time_text(downtime)}{error}"
+
+    def kind(self, total):
+        """What came of a budget: whether errors change what the plans alone say."""
+        fitting, planned = self.cheapest(total), self.planned_within(total)
+        if fitting is None:
+            return "unlikely" if planned else "none"
+        return "fits" if fitting == planned[0] else "another"
 
 
 def advised(trace, asked, down, total, question=None):
     """All lines of advice round some settings: budget, grid, why, what it costs in time, the case, and its words."""
     grid = grid_of(asked, down)
-    cases = cases_round(asked, grid)
-    outcomes = [redrawn.planned(trace.guest, it) for it in cases]
-    plans = [migration_model.case_of(number, *it) for number, it in enumerate(zip(cases, outcomes))]
-    chosen, reason = choice_of(plans, down, total)
+    plans = Plans(trace, cases_round(asked, grid), down, question)
+    chosen, reason = plans.choice(total)
     shared = {"start": [asked.start], **grid}
     lines = [f"budget down {down}" + ("" if total is None else f" total {total}")]
     lines += [" ".join(map(str, ["grid", name, *values])) for name, values in shared.items()]
     lines.append(reason)
     if question:
-        time, downtime, sent = question.cost(asked.start, outcomes[chosen])
-        lines.append(f"time {time_text(time)}, sent {size_text(sent)}, downtime {time_text(downtime)}")
-    return [*lines, words_of(plans[chosen]), migration_model.live_line(cases[chosen])]
+        lines.append(plans.cost_line(chosen))
+        SEEN["advise", plans.kind(total)] += 1
+    return [*lines, words_of(plans.facts[chosen]), migration_model.live_line(plans.cases[chosen])]
 
 
 def expect_advice(view, words, trace, wanted):
@@ -100,9 +141,7 @@ def check_measured_advice(view, _, asked, total, trace):
     words += [] if total is None else [f"--total={total}"]
     if not is_refused(view, ["advise"], asked, words, trace):
         down = (asked.downtime - asked.reserve) // asked.tick
-        wanted = advised(trace, asked.settings(), down, total, asked)
-        expect_advice(view, words, trace, wanted)
-        SEEN["advise", "none" if any(" none within " in line for line in wanted) else "fits"] += 1
+        expect_advice(view, words, trace, advised(trace, asked.settings(), down, total, asked))
 
 
 def check_refused_advice(view, _, words, line, trace):
@@ -130,6 +169,25 @@ def random_case(draw):
     return redrawn.Settings(least, most, increment, threshold, draw.randrange(1, 31), skip=bool(draw.randrange(2)))
 
 
+def graded_trace(folder):
+    """Writes a trace of 40 pages, of which each is written less often than those before it."""
+    path = os.path.join(folder, "graded.pcwt")
+    with open(path, "wb") as file:
+        file.write(made(40, sorted((tick, page) for page in range(40) for tick in range(page, 2_000, 1 + page * page))))
+    return Trace.at(path)
+
+
+def of_a_sample(draw, trace):
+    """A question about a part of a guest, with a downtime in which some pages go over the link."""
+    sampled, tick = draw.randrange(trace.pages, 60), draw.choice([1, 100, 1_000])
+    guest, reserve = sampled * draw.choice([2, 9, 300]), draw.choice([0, 0, 7 * tick + 1])
+    asked = Question(1, None, 0, reserve, tick, trace.size, sampled, guest, None, 30, draw.randrange(300), None, False)
+    bytes_of_kbit, rate = 125, draw.randrange(200, 3_000)
+    link = -(-rate * 1_000 * asked.bytes_of(sampled) // (sampled * tick * bytes_of_kbit)) * bytes_of_kbit
+    ticks = draw.randrange(1, 20) * 1_000 // replace(asked, link=link).rates()[0] + 1
+    return replace(asked, link=link, downtime=reserve + ticks * tick + draw.randrange(tick))
+
+
 REFUSED = [
     ([], "--down is needed, or --link and --downtime, as in --link 10Gbit --downtime 300ms"),
     (["--max=4"], "--down is needed, or --link and --downtime, as in --link 10Gbit --downtime 300ms"),
@@ -141,11 +199,15 @@ REFUSED = [
 ]
 
 
-def advice_tries(examples, traces):
+def advice_tries(examples, traces, folder):
     """The tries of advice, and of sweeps in times and bytes."""
     yield from ((check_advice, words, trace) for trace in examples for words in BUDGETS)
     for draw, trace, asked in some("advice", traces, ADVICE, rounds=30, skip=False, increment=None):
         yield check_measured_advice, asked, draw.choice([None, None, draw.randrange(200)]), trace
+    graded = graded_trace(folder)
+    for draw in drawn("advice of samples", range(SAMPLES)):
+        total = draw.choice([None, None, draw.randrange(60, 200)])
+        yield check_measured_advice, of_a_sample(draw, graded), total, graded
     for draw in drawn("sweeps", range(SWEEPS)):
         trace = draw.choice(traces)
         cases = [random_case(draw) for _ in range(draw.randrange(1, 6))]

@@ -1,12 +1,13 @@
--- The cheapest case that keeps a budget, one case more at a time.
-use Rattle.std.proofs.Common.{◌≡◌, ℕ, ◌+◌, ◌<◌, true, false, List, length, get_or, ap, ◌∙◌, sym, subst, inl, inr, arith}
+-- The cheapest case that keeps what is asked, one case more at a time.
+use Rattle.std.proofs.Common.{◌≡◌, ℕ, ◌+◌, ◌<◌, true, false, Option, Some, None, List, length, get_or, ap}
+use Rattle.std.proofs.Common.{◌∙◌, sym, subst, inl, inr, arith}
 use Rattle.std.specs.Prelude.{◌⊎◌}
-use Rattle.std.proofs.lemmas.Bool.{cases_eq, both_ways}
+use Rattle.std.proofs.lemmas.Bool.{cases_eq, false≢true}
 use Rattle.std.proofs.lemmas.List.{get_or_default}
+use Rattle.std.proofs.lemmas.Option.{none-some, same_Some}
 use Rattle.migration_model.specs.Sweeps.{SweepLine, outcome_with, line_with}
 use Rattle.sweep_report.proofs.Best.{better_through, worse_not, not_self}
-use Rattle.trace_views.specs.Advice.{keeps, is_cheaper, NoneKeeps, IsCheapest}
-use Rattle.trace_views.specs.declared.budget.Budget.{Budget}
+use Rattle.trace_views.specs.Advice.{is_cheaper, is_cheaper_than, IsFound}
 
 -- a line with its downtime and its pages exchanged: a better line so exchanged is a cheaper line
 abbrev turned : SweepLine → SweepLine
@@ -26,7 +27,14 @@ not_itself a = not_self (turned a)
 last_or_before : (k n : ℕ) → k < n + 1 → (k ≡ n) ⊎ (k < n)
 last_or_before k n low = elim (cases_eq k n) [ inl same ↦ inl same | inr other ↦ inr (omega (arith, other)) ]
 
-module _ (budget : Budget) (lines : List SweepLine) (n : ℕ) (line : SweepLine) (inside : n < length lines)
+-- a place that was found is before the case that comes next
+pub found_inside : (Keeps : SweepLine → Type 0) (lines : List SweepLine) (n : ℕ) (found : Option ℕ) (at : ℕ)
+    → IsFound Keeps lines n found → found ≡ Some at → at < n
+found_inside Keeps lines n None at before is = absurd (none-some at is)
+found_inside Keeps lines n (Some place) at before is = let inside : place < n = before.inside in
+    subst (λ (j : ℕ). j < n) (same_Some place at is) inside
+
+module _ (Keeps : SweepLine → Type 0) (lines : List SweepLine) (n : ℕ) (line : SweepLine) (inside : n < length lines)
     (is : line ≡ get_or lines n line) where
   -- whatever the default is, line n is this one
   there : (d : SweepLine) → line ≡ get_or lines n d
@@ -40,58 +48,55 @@ module _ (budget : Budget) (lines : List SweepLine) (n : ℕ) (line : SweepLine)
     | inr less ↦ before k less
   ]
 
-  pub none_more : NoneKeeps budget lines n → keeps budget line ≡ false → NoneKeeps budget lines (n + 1)
-  none_more before not_kept = record {
-    none = λ k d low. each_more d (λ l. keeps budget l ≡ false) (λ j less. before.none j d less) not_kept k low;
+  -- a case that does not keep what is asked is passed
+  pub passes : (found : Option ℕ) → IsFound Keeps lines n found → ¬ Keeps line → IsFound Keeps lines (n + 1) found
+  passes None before not_kept = record {
+    none = λ k d low. each_more d (λ l. ¬ Keeps l) (λ j less. before.none j d less) not_kept k low;
   }
-
-  pub same_stays : (at : ℕ) → IsCheapest budget lines n at → keeps budget line ≡ false
-      → IsCheapest budget lines (n + 1) at
-  same_stays at before not_kept = record {
+  passes (Some at) before not_kept = record {
     inside = omega (arith, before.inside);
     kept = before.kept;
-    least = λ k d low. each_more d (λ l. keeps budget l ≡ true → is_cheaper l (get_or lines at d) ≡ false)
+    least = λ k d low. each_more d (λ l. Keeps l → is_cheaper l (get_or lines at d) ≡ false)
         (λ j less. before.least j d less)
-        (λ kept. absurd (both_ways _ not_kept kept)) k low;
+        (λ kept. absurd (not_kept kept)) k low;
     first = before.first;
   }
 
-  pub cheaper_stays : (at : ℕ) (old : SweepLine) → old ≡ get_or lines at old → IsCheapest budget lines n at
-      → is_cheaper line old ≡ false → IsCheapest budget lines (n + 1) at
-  cheaper_stays at old old_is before dearer = record {
+  -- and so is one that is not cheaper
+  pub stays : (found : Option ℕ) → IsFound Keeps lines n found → is_cheaper_than lines line found ≡ false
+      → IsFound Keeps lines (n + 1) found
+  stays None before dearer = absurd (false≢true (sym dearer))
+  stays (Some at) before dearer = record {
     inside = omega (arith, before.inside);
     kept = before.kept;
-    least = λ k d low. each_more d (λ l. keeps budget l ≡ true → is_cheaper l (get_or lines at d) ≡ false)
+    least = λ k d low. each_more d (λ l. Keeps l → is_cheaper l (get_or lines at d) ≡ false)
         (λ j less. before.least j d less)
-        (λ kept. ap (is_cheaper line) (sym (old_is ∙ get_or_default lines at old d (omega (arith, before.inside))))
+        (λ kept. ap (is_cheaper line) (sym (get_or_default lines at line d (omega (arith, before.inside))))
         ∙ dearer) k low;
     first = before.first;
   }
 
-  pub first_found : NoneKeeps budget lines n → keeps budget line ≡ true → IsCheapest budget lines (n + 1) n
-  first_found before kept = record {
+  -- another that keeps what is asked is taken
+  pub takes : (found : Option ℕ) → IsFound Keeps lines n found → Keeps line → is_cheaper_than lines line found ≡ true
+      → IsFound Keeps lines (n + 1) (Some n)
+  takes None before kept cheaper = record {
     inside = omega arith;
-    kept = λ d. ap (keeps budget) (sym (there d)) ∙ kept;
-    least = λ k d low. each_more d (λ l. keeps budget l ≡ true → is_cheaper l (get_or lines n d) ≡ false)
-        (λ j less other. absurd (both_ways _ (before.none j d less) other))
+    kept = λ d. subst Keeps (there d) kept;
+    least = λ k d low. each_more d (λ l. Keeps l → is_cheaper l (get_or lines n d) ≡ false)
+        (λ j less other. absurd (before.none j d less other))
         (λ other. ap (is_cheaper line) (sym (there d)) ∙ not_itself line) k low;
-    first = λ k d low other. absurd (both_ways _ (before.none k d low) other);
+    first = λ k d low other. absurd (before.none k d low other);
   }
-
-  pub cheaper_found : (at : ℕ) (old : SweepLine) → old ≡ get_or lines at old → IsCheapest budget lines n at
-      → keeps budget line ≡ true
-      → is_cheaper line old ≡ true → IsCheapest budget lines (n + 1) n
-  cheaper_found at old old_is before kept cheaper =
-      let other_is : (d : SweepLine) → old ≡ get_or lines at d = λ d. old_is
-      ∙ get_or_default lines at old d (omega (arith, before.inside)) in
-      let through : (k : ℕ) (d : SweepLine) → k < n → keeps budget (get_or lines k d) ≡ true
+  takes (Some at) before kept cheaper =
+      let through : (k : ℕ) (d : SweepLine) → k < n → Keeps (get_or lines k d)
       → is_cheaper line (get_or lines k d) ≡ true =
-      λ k d low other. cheaper_through line old (get_or lines k d) cheaper
-      (ap (is_cheaper (get_or lines k d)) (other_is d) ∙ before.least k d low other) in
+      λ k d low other. cheaper_through line (get_or lines at line) (get_or lines k d) cheaper
+      (ap (is_cheaper (get_or lines k d)) (get_or_default lines at line d (omega (arith, before.inside)))
+      ∙ before.least k d low other) in
       record {
         inside = omega arith;
-        kept = λ d. ap (keeps budget) (sym (there d)) ∙ kept;
-        least = λ k d low. each_more d (λ l. keeps budget l ≡ true → is_cheaper l (get_or lines n d) ≡ false)
+        kept = λ d. subst Keeps (there d) kept;
+        least = λ k d low. each_more d (λ l. Keeps l → is_cheaper l (get_or lines n d) ≡ false)
             (λ j less other. ap (is_cheaper (get_or lines j d)) (sym (there d))
             ∙ dearer_not line (get_or lines j d) (through j d less other))
             (λ other. ap (is_cheaper line) (sym (there d)) ∙ not_itself line) k low;

@@ -1,4 +1,5 @@
 pub mod Cheapest
+pub mod LikelyCases
 pub mod Numbered
 pub mod JsonNumbers
 pub mod OneAdvice

@@ -5,6 +5,8 @@ use Rattle.migration_model.specs.Rates.{MigrationSettings}
 use Rattle.migration_model.specs.Sweeps.{SweepLine}
 use Rattle.predictions.specs.Predictions.{MigrationCost, cost_of}
 use Rattle.predictions.specs.Quantities.{bytes_text, time_text}
+use Rattle.predictions.specs.Redrawn.Errors.{SampleErrors}
+use Rattle.predictions.specs.Starts.Texts.{down_spread}
 use Rattle.sweep_report.specs.Lines.{field, line, case_line}
 use Rattle.trace_views.specs.declared.budget.Advice.{Advice}
 use Rattle.trace_views.specs.declared.budget.Advice.TheVariants as advices
@@ -40,23 +42,30 @@ grid_lines s grid = numbers_line (codes "grid start") (s.start ∷ []) ++ (numbe
     ++ (numbers_line (codes "grid threshold") grid.threshold ++ (numbers_line (codes "grid limit") grid.rounds
     ++ numbers_line (codes "grid skip") (0 ∷ 1 ∷ []))))))
 
--- how many cases there are, and which of them keeps the budget; or else why none does, which is the cheapest of those
--- that keep the downtime, and which has the least downtime
-abbrev pub reason_fields : Budget → Advice → List (List ℕ)
-reason_fields budget (advices.Fits case) = field (codes " fits ") case ∷ []
-reason_fields budget (advices.OverDown nearest) =
-    field (codes " none within down ") budget.down ∷ field (codes " nearest ") nearest ∷ []
-reason_fields budget (advices.OverTotal nearest cheapest) =
-    field (codes " none within total ") (unwrap_or budget.total (2 ^ 64 - 1))
-    ∷ field (codes " of those within down ") budget.down ∷ field (codes " cheapest ") cheapest
+-- the words on a downtime that cases keep: if errors are counted, they are likely to keep it
+abbrev pub within_words : Option SampleErrors → List ℕ
+within_words None = codes " within down "
+within_words (Some errors) = codes " likely within down "
+
+-- which case keeps the budget; or else why none does, which is the cheapest of those that keep the downtime, and which
+-- has the least downtime
+abbrev pub reason_fields : Budget → Advice → Option SampleErrors → List (List ℕ)
+reason_fields budget (advices.Fits case) errors = field (codes " fits ") case ∷ []
+reason_fields budget (advices.OverDown nearest) errors =
+    codes " none" ∷ field (within_words errors) budget.down ∷ field (codes " nearest ") nearest ∷ []
+reason_fields budget (advices.OverTotal nearest cheapest) errors =
+    field (codes " none within total ") (unwrap_or budget.total (2 ^ 64 - 1)) ∷ codes " of those"
+    ∷ field (within_words errors) budget.down ∷ field (codes " cheapest ") cheapest
     ∷ field (codes " nearest ") nearest ∷ []
 
-abbrev pub reason_line : Budget → ℕ → Advice → List ℕ
-reason_line budget count advice = line (field (codes "cases ") count ∷ reason_fields budget advice)
+-- how many cases there are, and which of them keeps the budget or why none does
+abbrev pub reason_line : Budget → ℕ → Advice → Option SampleErrors → List ℕ
+reason_line budget count advice errors = line (field (codes "cases ") count ∷ reason_fields budget advice errors)
 
--- what precedes the advised case
-abbrev pub advice_head : Budget → MigrationSettings → Grid → ℕ → Advice → List ℕ
-advice_head budget s grid count advice = budget_line budget ++ (grid_lines s grid ++ reason_line budget count advice)
+-- what precedes the advised case, which has these errors
+abbrev pub advice_head : Budget → MigrationSettings → Grid → ℕ → Advice → Option SampleErrors → List ℕ
+advice_head budget s grid count advice errors =
+    budget_line budget ++ (grid_lines s grid ++ reason_line budget count advice errors)
 
 -- the option for a base, if there is one
 abbrev pub base_field : Option ℕ → List ℕ
@@ -74,19 +83,20 @@ live_fields s = field (codes "precopy live --min ") s.min ∷ field (codes " --m
 abbrev pub live_line : MigrationSettings → List ℕ
 live_line s = line (live_fields s)
 
--- what a migration costs, in time and bytes
-abbrev pub measures_line : MigrationCost → List ℕ
-measures_line cost = line (codes "time " ∷ time_text cost.time ∷ codes ", sent " ∷ bytes_text cost.bytes
-    ∷ codes ", downtime " ∷ time_text cost.downtime ∷ [])
+-- what a migration costs, in time and bytes, with one standard error of the downtime if errors are counted
+abbrev pub measures_line : MigrationCost → Option SampleErrors → List ℕ
+measures_line cost errors = line (codes "time " ∷ time_text cost.time ∷ codes ", sent " ∷ bytes_text cost.bytes
+    ∷ codes ", downtime " ∷ time_text cost.downtime ∷ down_spread errors ∷ [])
 
-abbrev pub cost_line : Option MigrationCost → List ℕ
-cost_line None = []
-cost_line (Some cost) = measures_line cost
+abbrev pub cost_line : Option MigrationCost → Option SampleErrors → List ℕ
+cost_line None errors = []
+cost_line (Some cost) errors = measures_line cost errors
 
 -- an advised case: what it costs in time and bytes if that is known, its line, and the words that run a live migration
 -- with its settings
-abbrev pub choice_text : ℕ → SweepLine → Option MigrationCost → List ℕ
-choice_text case chosen cost = cost_line cost ++ (case_line case chosen ++ live_line chosen.settings)
+abbrev pub choice_text : ℕ → SweepLine → Option MigrationCost → Option SampleErrors → List ℕ
+choice_text case chosen cost errors =
+    cost_line cost errors ++ (case_line case chosen ++ live_line chosen.settings)
 
 -- what a case costs if it is known what ticks and pages stand for, over touches whose last has this tick
 abbrev pub known_cost : Option Measured → SweepLine → ℕ → Option MigrationCost

@@ -1,5 +1,6 @@
 -- What a view of a trace shows.
 use Rattle.std.specs.Prelude.{◌≡◌, ℕ, ◌^◌, List, ◌++◌, length, slice_index_or, Option, None, Some}
+use Rattle.predictions.specs.Redrawn.Errors.{SampleErrors}
 use Rattle.predictions.specs.Units.Scales.{TraceScale}
 use Rattle.migration_model.specs.Rates.{MigrationSettings}
 use Rattle.migration_model.specs.Rounds.{IsPlan, MigrationPlan}
@@ -12,7 +13,7 @@ use Rattle.report_pictures.specs.MeasuredScreens.{IsMeasuredScreen}
 use Rattle.report_pictures.specs.ReportCharts.{IsReportChart}
 use Rattle.report_pictures.specs.Screens.{IsScreen}
 use Rattle.report_pictures.specs.declared.table.Style.{Style}
-use Rattle.trace_views.specs.Advice.{IsAdvice}
+use Rattle.trace_views.specs.Advice.{AreCaseErrors, IsAdvice}
 use Rattle.trace_views.specs.AdviceText.{advice_head, case_of, choice_text, known_cost}
 use Rattle.trace_views.specs.Grid.{cases_for, grid_of}
 use Rattle.trace_views.specs.Json.{line_of, report_object, sweep_object}
@@ -45,18 +46,20 @@ pub record IsSweepView (log : GuestTouches) (cases : List MigrationSettings) (sc
   pub text_is : text ≡ line_of (sweep_object scale lines)
 
 -- a text of advice for a budget: the budget, the grid, and the case to take of those around some settings, each planned
--- by itself
+-- by itself, with its errors
 pub record IsAdviceView (log : GuestTouches) (settings : MigrationSettings) (budget : Budget)
     (measured : Option Measured) (text : List ℕ) : Type 0 where
   pub lines : List SweepLine
   pub are_lines : AreLines log.pages log.touches (cases_for settings budget) lines
   pub advice : Advice
-  pub is_advice : IsAdvice budget lines advice
+  pub is_advice : IsAdvice log measured budget lines advice
   pub chosen : SweepLine
   pub is_chosen : chosen ≡ slice_index_or lines (case_of advice) chosen
+  pub errors : Option SampleErrors
+  pub errors_are : AreCaseErrors log measured chosen errors
   pub text_is : text
-      ≡ advice_head budget settings (grid_of settings budget) (length lines) advice
-      ++ choice_text (case_of advice) chosen (known_cost measured chosen (last_tick_of log.touches))
+      ≡ advice_head budget settings (grid_of settings budget) (length lines) advice errors
+      ++ choice_text (case_of advice) chosen (known_cost measured chosen (last_tick_of log.touches)) errors
 
 -- a report for a terminal, in times and bytes of the guest if it is known what ticks and pages stand for
 abbrev pub IsScreenOf : Style → Option TraceScale → GuestTouches → MigrationSettings → MigrationPlan → List ℕ → Type 0

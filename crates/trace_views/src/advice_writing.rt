@@ -4,10 +4,12 @@ ghost use Rattle.std.specs.Prelude.{◌≡◌, ◌++◌, IfOk, OnOk, if◌then�
 ghost use Rattle.std.specs.List.{flat_map};
 ghost use Rattle.trace_views.specs.AdviceText.{advice_head, base_field, budget_line, choice_text, cost_line};
 ghost use Rattle.trace_views.specs.AdviceText.{grid_lines, live_line, measures_line, number_fields, numbers_line};
-ghost use Rattle.trace_views.specs.AdviceText.{reason_fields, reason_line, total_field};
+ghost use Rattle.trace_views.specs.AdviceText.{reason_fields, reason_line, total_field, within_words};
 
 use crate::budget::{Advice, Budget};
 use crate::grid::Grid;
+use predictions::redrawn::Errors;
+use predictions::starts::push_spread;
 use predictions::{Cost, push_bytes, push_time};
 use rate_limit::Settings;
 use std::alloc::{AllocError, Global};
@@ -67,14 +69,31 @@ fn push_grid(text: &mut Vec<u8>, settings: &Settings, grid: &Grid) -> Result<(),
     Ok(())
 }
 
+/// Returns the words on a downtime that cases keep, or are likely to keep if errors are counted.
+fn within_down(errors: &Option<Errors>) -> &'static str
+    ensures { result.now ≡ within_words errors.now }
+{
+    match errors {
+        Some(_) => " likely within down ",
+        None => " within down ",
+    }
+}
+
 /// Appends whether a case keeps the budget, and if not, why none does.
-fn push_reason(text: &mut Vec<u8>, budget: &Budget, advice: &Advice) -> Result<(), AllocError>
-    ensures { OnOk result (text.new.items ≡ text.old.items ++ flat_map (λ f. f) (reason_fields budget.now advice.now)) }
+fn push_reason(
+    text: &mut Vec<u8>,
+    budget: &Budget,
+    advice: &Advice,
+    errors: &Option<Errors>,
+) -> Result<(), AllocError>
+    ensures { OnOk result (text.new.items
+        ≡ text.old.items ++ flat_map (λ f. f) (reason_fields budget.now advice.now errors.now)) }
 {
     match advice {
         Advice::Fits(case) => push_field(text, " fits ", *case as u64),
         Advice::OverDown(nearest) => {
-            push_field(text, " none within down ", budget.down)?;
+            text.extend_from_slice(" none".as_bytes())?;
+            push_field(text, within_down(errors), budget.down)?;
             push_field(text, " nearest ", *nearest as u64)
         }
         Advice::OverTotal { nearest, cheapest } => {
@@ -83,7 +102,8 @@ fn push_reason(text: &mut Vec<u8>, budget: &Budget, advice: &Advice) -> Result<(
                 " none within total ",
                 budget.total.unwrap_or(u64::MAX),
             )?;
-            push_field(text, " of those within down ", budget.down)?;
+            text.extend_from_slice(" of those".as_bytes())?;
+            push_field(text, within_down(errors), budget.down)?;
             push_field(text, " cheapest ", *cheapest as u64)?;
             push_field(text, " nearest ", *nearest as u64)
         }
@@ -96,11 +116,12 @@ fn push_count(
     budget: &Budget,
     cases: usize,
     advice: &Advice,
+    errors: &Option<Errors>,
 ) -> Result<(), AllocError>
-    ensures { OnOk result (text.new.items ≡ text.old.items ++ reason_line budget.now cases advice.now) }
+    ensures { OnOk result (text.new.items ≡ text.old.items ++ reason_line budget.now cases advice.now errors.now) }
 {
     push_field(text, "cases ", cases as u64)?;
-    push_reason(text, budget, advice)?;
+    push_reason(text, budget, advice, errors)?;
     end_line(text)
 }
 
@@ -140,18 +161,22 @@ fn push_skip(text: &mut Vec<u8>, skip: bool) -> Result<(), AllocError>
 }
 
 /// Appends what a case costs in time and bytes, if that is known.
-fn push_cost(text: &mut Vec<u8>, cost: &Option<Cost>) -> Result<(), AllocError>
-    ensures { OnOk result (text.new.items ≡ text.old.items ++ cost_line cost.now) }
+fn push_cost(
+    text: &mut Vec<u8>,
+    cost: &Option<Cost>,
+    errors: &Option<Errors>,
+) -> Result<(), AllocError>
+    ensures { OnOk result (text.new.items ≡ text.old.items ++ cost_line cost.now errors.now) }
 {
     match cost {
-        Some(cost) => push_measures(text, cost),
+        Some(cost) => push_measures(text, cost, errors),
         None => Ok(()),
     }
 }
 
 /// Appends the line of what a migration costs in time and bytes.
-fn push_measures(text: &mut Vec<u8>, cost: &Cost) -> Result<(), AllocError>
-    ensures { OnOk result (text.new.items ≡ text.old.items ++ measures_line cost.now) }
+fn push_measures(text: &mut Vec<u8>, cost: &Cost, errors: &Option<Errors>) -> Result<(), AllocError>
+    ensures { OnOk result (text.new.items ≡ text.old.items ++ measures_line cost.now errors.now) }
 {
     text.extend_from_slice("time ".as_bytes())?;
     push_time(text, cost.time)?;
@@ -159,6 +184,7 @@ fn push_measures(text: &mut Vec<u8>, cost: &Cost) -> Result<(), AllocError>
     push_bytes(text, cost.bytes)?;
     text.extend_from_slice(", downtime ".as_bytes())?;
     push_time(text, cost.downtime)?;
+    push_spread(text, errors)?;
     end_line(text)
 }
 
@@ -168,17 +194,18 @@ pub(crate) fn push_choice(
     case: usize,
     line: &Line,
     cost: &Option<Cost>,
+    errors: &Option<Errors>,
 ) -> Result<(), AllocError>
-    ensures { OnOk result (text.new.items ≡ text.old.items ++ choice_text case line.now cost.now) }
+    ensures { OnOk result (text.new.items ≡ text.old.items ++ choice_text case line.now cost.now errors.now) }
 {
-    push_cost(text, cost)?;
+    push_cost(text, cost, errors)?;
     push_case(text, case, line)?;
     push_live(text, &line.settings)?;
     Ok(())
 }
 
-/// Returns what precedes the advised case: the budget, the grid, and whether a case keeps the budget or why none does.
-/// The text is ASCII.
+/// Returns what precedes the advised case, which has these errors: the budget, the grid, and whether a case keeps the
+/// budget or why none does. The text is ASCII.
 pub(crate) fn advice_head(
     alloc: Global,
     budget: &Budget,
@@ -186,12 +213,14 @@ pub(crate) fn advice_head(
     grid: &Grid,
     cases: usize,
     advice: &Advice,
+    errors: &Option<Errors>,
 ) -> Result<Vec<u8>, AllocError>
-    ensures { IfOk result (λ text. text.items ≡ advice_head budget.now settings.now grid.now cases advice.now) }
+    ensures { IfOk result (λ text. text.items
+        ≡ advice_head budget.now settings.now grid.now cases advice.now errors.now) }
 {
     let mut text = Vec::new(alloc);
     push_budget(&mut text, budget)?;
     push_grid(&mut text, settings, grid)?;
-    push_count(&mut text, budget, cases, advice)?;
+    push_count(&mut text, budget, cases, advice, errors)?;
     Ok(text)
 }

@@ -12,16 +12,16 @@ pub struct Budget {
 /// The advice for some cases, which are named by their numbers from 0.
 #[derive(Clone, Copy, Debug, PartialEq, Eq)]
 pub enum Advice {
-    /// This case keeps the budget, with the fewest pages sent.
+    /// This case is likely to keep the budget, with the fewest pages sent.
     Fits(usize),
-    /// No case keeps the budget, though some keep its downtime.
+    /// No case is likely to keep the budget, though some are to keep its downtime.
     OverTotal {
         /// The case with the least downtime.
         nearest: usize,
-        /// The case with the fewest pages sent of those that keep the downtime.
+        /// The case with the fewest pages sent of those that are likely to keep the downtime.
         cheapest: usize,
     },
-    /// No case keeps the downtime. This one has the least.
+    /// No case is likely to keep the downtime. This one has the least.
     OverDown(usize),
 }
 

@@ -2,14 +2,16 @@
 //!
 //! A law is a function with an empty body: its contract is the law, and a call brings it into the caller's proof.
 
-ghost use Rattle.std.specs.Prelude.{◌≡◌, List};
+ghost use Rattle.std.specs.Prelude.{◌≡◌, List, Option};
 ghost use Rattle.migration_model.specs.Sweeps.{SweepLine};
+ghost use Rattle.migration_model.specs.Touches.{GuestTouches};
 ghost use Rattle.trace_views.specs.Advice.{IsAdvice};
 ghost use Rattle.trace_views.specs.declared.budget.Advice.{Advice};
 ghost use Rattle.trace_views.specs.declared.budget.Budget.{Budget};
+ghost use Rattle.trace_views.specs.declared.view.Measured.{Measured};
 
 /// One case is advised for a budget.
 pub fn one_advice()
-    ensures { (budget : Budget) (lines : List SweepLine) (a b : Advice) → IsAdvice budget lines a
-        → IsAdvice budget lines b → a ≡ b }
+    ensures { (log : GuestTouches) (measured : Option Measured) (budget : Budget) (lines : List SweepLine)
+        (a b : Advice) → IsAdvice log measured budget lines a → IsAdvice log measured budget lines b → a ≡ b }
 {}

@@ -12,6 +12,7 @@ mod enough_document;
 mod error;
 mod grid;
 mod laws;
+mod likely;
 mod looks_document;
 mod numbers;
 mod outlook;

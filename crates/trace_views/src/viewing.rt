@@ -12,6 +12,7 @@ use crate::budget::Budget;
 use crate::choosing::advise;
 use crate::error::ViewError;
 use crate::grid::Grid;
+use crate::likely::case_errors;
 use crate::predicting::prediction_view;
 use crate::report_document::json_report;
 use crate::starting::starts_view;
@@ -147,11 +148,13 @@ fn advice_view<R: Threads + Sync>(
     let cases = grid.cases(alloc, settings)?;
     let workers = settings.asked().workers as usize;
     let lines = planned(rt, alloc, &cases, workers, log)?;
-    let advice = advise(&lines, budget);
+    let advice = advise(alloc, log, measured, budget, &lines)?;
     let line = &lines[advice.case()];
+    let errors = case_errors(alloc, log, measured, line)?;
     let cost = cost_of(measured, line, last_tick(log));
-    let mut text = advice_head(alloc, budget, settings, &grid, lines.len(), &advice)?;
-    push_choice(&mut text, advice.case(), line, &cost)?;
+    let count = lines.len();
+    let mut text = advice_head(alloc, budget, settings, &grid, count, &advice, &errors)?;
+    push_choice(&mut text, advice.case(), line, &cost, &errors)?;
     Ok(text)
 }
 
