@@ -1,5 +1,5 @@
-//! What comes of migrations over the worked trace like QEMU. The numbers come from `python/precopy_dev/models/looks.py`,
-//! which shares no code with the crates.
+//! What comes of migrations over the worked trace like QEMU. The numbers come from
+//! `python/precopy_dev/models/looks.py`, which shares no code with the crates.
 
 use crate::forecasts::lent_forecast;
 use crate::prediction_tests::ASKED;

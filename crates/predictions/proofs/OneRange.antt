@@ -9,7 +9,8 @@ use Rattle.std.specs.List.{Contains}
 use Rattle.migration_model.specs.Sweeps.{SweepLine}
 use Rattle.predictions.specs.Starts.Choices.{IsChosen, known_of}
 use Rattle.predictions.specs.Starts.Costs.{CostAtStart, costs_at_starts}
-use Rattle.predictions.specs.Starts.Ranges.{AreExtremes, AreRanges, AreRangesOf, IsRange, MigrationNumbers, RangesOfStarts}
+use Rattle.predictions.specs.Starts.Ranges.{AreExtremes, AreRanges, AreRangesOf, IsRange, MigrationNumbers}
+use Rattle.predictions.specs.Starts.Ranges.{RangesOfStarts}
 use Rattle.predictions.specs.Units.Scales.{TraceScale}
 use Rattle.predictions.specs.declared.units.limits.Limits.{Limits}
 

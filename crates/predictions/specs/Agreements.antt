@@ -8,7 +8,8 @@ use Rattle.std.specs.List.{AllZip, count_by, range_with_len}
 use Rattle.migration_model.specs.Rates.{MigrationSettings}
 use Rattle.migration_model.specs.Sweeps.{IsOutcome, PlanOutcome}
 use Rattle.migration_model.specs.Touches.{GuestTouch, last_tick_of}
-use Rattle.predictions.specs.Predictions.{GuestPrediction, MigrationCost, downtime_of, ends_with_few, kept_of, verdict_of}
+use Rattle.predictions.specs.Predictions.{GuestPrediction, MigrationCost, downtime_of, ends_with_few, kept_of}
+use Rattle.predictions.specs.Predictions.{verdict_of}
 use Rattle.predictions.specs.Redrawn.Draws.{draws_of}
 use Rattle.predictions.specs.Redrawn.Errors.{AreRedrawn, HasErrors, SampleErrors}
 use Rattle.predictions.specs.Starts.Choices.{is_likely}

@@ -3,8 +3,9 @@
 ghost use Rattle.std.specs.Prelude.{◌≡◌, ◌++◌, ◌∷◌, ◌<◌, ◌^◌, [], OnOk, Some, codes};
 ghost use Rattle.predictions.specs.Predictions.{verdict_word};
 ghost use Rattle.predictions.specs.Quantities.{bytes_text, time_text};
-ghost use Rattle.predictions.specs.Texts.{downtime_line, ending, ends_early, errors_line, facts_text, facts_with, known_text};
-ghost use Rattle.predictions.specs.Texts.{line_if, prediction_text, reason_words, time_line, unknown_text, verdict_line, warnings};
+ghost use Rattle.predictions.specs.Texts.{downtime_line, ending, ends_early, errors_line, facts_text, facts_with};
+ghost use Rattle.predictions.specs.Texts.{known_text, line_if, prediction_text, reason_words, time_line};
+ghost use Rattle.predictions.specs.Texts.{unknown_text, verdict_line, warnings};
 ghost use Rattle.rate_limit.specs.Pacing.{reason_of};
 ghost use Rattle.sweep_report.specs.Lines.{line};
 

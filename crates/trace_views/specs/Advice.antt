@@ -1,6 +1,6 @@
--- The case to take if a migration has a budget: of those that are likely to keep it, the one with the fewest pages sent,
--- or else the one with the least downtime. As of starts, a downtime is likely to be kept if it is with two standard
--- errors more. The pages sent count as planned: more of them cost time and bytes, and no guest stands still for them.
+-- The case to take if a migration has a budget: of those that are likely to keep it, the one with the fewest pages
+-- sent, or else the one with the least downtime. As of starts, a downtime is likely to be kept if it is with two
+-- standard errors more. The pages sent count as planned: more of them cost time and bytes, and no guest stands still for them.
 -- Counting the pages sent first within a budget is this project's own.
 use Rattle.std.specs.Prelude.{◌≡◌, ℕ, ◌<◌, ◌≤◌, nat_lt, nat_le, ◌&&◌, ◌||◌, ◌==◌, Bool, true, false, Option, None, Some}
 use Rattle.std.specs.Prelude.{List, length, slice_index_or}

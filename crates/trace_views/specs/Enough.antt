@@ -25,9 +25,9 @@ abbrev pub is_sure : ℕ → Outlook → Bool
 is_sure limit outlook = is_yes (sure_verdict outlook.agreement outlook.prediction)
     && is_yes (sure_kept limit outlook.agreement outlook.prediction.cost outlook.errors)
 
--- What is asked is enough if that is sure, or else one of the amounts that are found, or nothing that was tried. Of what
--- is asked it is unknown if the trace ends before the migration does; amounts may be found then too. If only its plan
--- keeps the limit, that is uncertain.
+-- What is asked is enough if that is sure, or else one of the amounts that are found, or nothing that was tried. Of
+-- what is asked it is unknown if the trace ends before the migration does; amounts may be found then too. If only its
+-- plan keeps the limit, that is uncertain.
 abbrev pub answer_of : Bool → Remedies → Enough
 answer_of sure r = if sure then answers.Asked else (if not r.ending.ends then answers.Unknown
     else (if r.is_kept then answers.Uncertain

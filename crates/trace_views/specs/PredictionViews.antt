@@ -26,7 +26,8 @@ use Rattle.trace_views.specs.declared.view.PredictionForm.TheVariants as forms
 abbrev pub outlook_text : ℕ → Outlook → List ℕ
 outlook_text limit outlook = prediction_text limit outlook.agreement outlook.prediction outlook.errors
     ++ (look_text outlook.looks
-    ++ (ranges_text outlook.ranges ++ (share_text outlook.share ++ enough_text (is_sure limit outlook) outlook.remedies)))
+    ++ (ranges_text outlook.ranges
+    ++ (share_text outlook.share ++ enough_text (is_sure limit outlook) outlook.remedies)))
 
 -- these, and the words that set the same limits
 abbrev pub predicted_text : MigrationSettings → Limits → Outlook → List ℕ

@@ -41,8 +41,8 @@ fn is_less_than(lines: &[Line], line: &Line, found: Option<usize>) -> bool
     }
 }
 
-/// Returns the cheapest of the cases up to this one that is likely to keep a downtime, from the cheapest of those before
-/// it.
+/// Returns the cheapest of the cases up to this one that is likely to keep a downtime, from the cheapest of those
+/// before it.
 fn with_case(
     alloc: Global,
     log: &TouchLog,

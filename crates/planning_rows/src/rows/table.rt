@@ -93,7 +93,8 @@ fn any_number_of_workers(rt: HostRuntime) {
     }
 }
 
-/// Returns a trace of this many writes to 3,000 pages, 17 of them at each tick, so long that workers count pieces of it.
+/// Returns a trace of this many writes to 3,000 pages, 17 of them at each tick, so long that workers count pieces of
+/// it.
 fn long_trace(rt: &impl Abort, alloc: Global, writes: u32) -> Vec<u8> {
     let mut bytes = Vec::from_slice(
         alloc,

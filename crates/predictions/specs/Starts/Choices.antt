@@ -1,7 +1,7 @@
 -- Which of some starts is the best, and which the worst. A start that is likely to keep the limit comes first: its
 -- downtime and two standard errors are within it. Of such starts the one that sends less is better, since any downtime
--- is allowed there; of others the one whose downtime is likely to be less. Then the quicker one is. Nobody looks for the
--- worst to take it, so it is told by the plans alone. This project's own.
+-- is allowed there; of others the one whose downtime is likely to be less. Then the quicker one is. Nobody looks for
+-- the worst to take it, so it is told by the plans alone. This project's own.
 use Rattle.std.specs.Prelude.{◌≡◌, ℕ, ◌+◌, ◌*◌, ◌-◌, ◌^◌, ◌<◌, min, nat_le, nat_lt, ◌&&◌, ◌||◌, ◌==◌, not, true, false}
 use Rattle.std.specs.Prelude.{Bool, if◌then◌else◌, List, [], length, slice_index_or, Option, None, Some}
 use Rattle.std.specs.List.{IsFirstBest, filter}

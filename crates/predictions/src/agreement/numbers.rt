@@ -28,8 +28,8 @@ pub struct AgreementNumbers {
     pub starts_converging: u64,
     /// From how many of these it keeps its limit.
     pub starts_kept: u64,
-    /// Whether the migration converges: 0 for yes, 1 for no, 2 if the trace ends before the migration does, and 3 if the
-    /// draws or the starts do not agree.
+    /// Whether the migration converges: 0 for yes, 1 for no, 2 if the trace ends before the migration does, and 3 if
+    /// the draws or the starts do not agree.
     pub converges: u32,
     /// Whether it keeps its limit, in the same numbers.
     pub kept: u32,

@@ -32,8 +32,8 @@ pub struct LookForecast {
     pub end: PlanEnd,
     /// How many looks there are.
     pub looks: u64,
-    /// From its start until the guest runs again, in microseconds. If the trace ends first, until then and as long as it
-    /// takes to send what is left.
+    /// From its start until the guest runs again, in microseconds. If the trace ends first, until then and as long as
+    /// it takes to send what is left.
     pub time: u128,
     /// How many bytes of the guest are sent, in all lists and at the end.
     pub bytes: u128,
