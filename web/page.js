@@ -21,7 +21,6 @@ import { Past } from "./views/past.js";
 import { watchWidths } from "./views/plot.js";
 import { hasWideMemory, Planner, Refusal } from "./engine/planner.js";
 import { predictionOf } from "./model/predictions.js";
-import { nextTask } from "./engine/slices.js";
 import { StartsView } from "./views/starts-view.js";
 import { fragmentOf, MOST_KEPT, presetOf, stateIn, withoutPreset } from "./model/state.js";
 import { suggestionsOf } from "./model/suggestions.js";
@@ -353,9 +352,7 @@ class Page {
     this.shown = { trace, settings, found, kept, revision };
     this.draw();
     this.announceDrawn();
-    // The table of windows has a task of its own, so that none takes long.
-    await nextTask();
-    this.windows.fill();
+    await this.windows.fillApart();
     performance.clearMeasures("plan");
     performance.clearMeasures("replan");
     performance.measure("plan", { start: begun, end: planned });

@@ -4,6 +4,7 @@ import { byId, keepFocus, svg } from "./elements.js";
 import { saveButtons } from "./exports.js";
 import { Inspector } from "./inspector.js";
 import { momentText } from "../model/numbers.js";
+import { nextTask } from "../engine/slices.js";
 import { widthOf } from "./plot.js";
 import { windowsFile, windowsTable } from "./tables.js";
 import { amountOf, microsOf } from "../model/units.js";
@@ -104,15 +105,25 @@ export class WindowsView {
     return windowsFile(windows, length, { tick: BigInt(this.held.tick) });
   }
 
-  /** Fills the table, if it is open and has to say something else. */
-  fill() {
-    const { windows, length } = this.counted;
-    if (!this.details.open || !windows) {
-      return;
+  /** Whether the table is open, and has to say something else. */
+  isToFill() {
+    const { counted: { windows }, held: { tick }, filled, isSample } = this;
+    const isOther = filled.windows !== windows || filled.tick !== tick || filled.isSample !== isSample;
+    return this.details.open && Boolean(windows) && isOther;
+  }
+
+  /** Fills it in a task of its own, so that none takes long. */
+  async fillApart() {
+    if (this.isToFill()) {
+      await nextTask();
+      this.fill();
     }
-    const { tick } = this.held;
-    const { filled, isSample } = this;
-    if (filled.windows !== windows || filled.tick !== tick || filled.isSample !== isSample) {
+  }
+
+  /** Fills the table, if it has to say something else. */
+  fill() {
+    if (this.isToFill()) {
+      const { counted: { windows, length }, held: { tick }, isSample } = this;
       this.filled = { windows, tick, isSample };
       byId("windows-table").replaceChildren(windowsTable(windows, length, { tick: BigInt(tick), isSample }));
     }
