@@ -4,8 +4,9 @@ use rate_limit::{Asked, Reason, Settings};
 use std::alloc::Global;
 use std::process::Abort;
 use sweep_report::Line;
+use trace_readers::TouchLog;
 use trace_views::{Advice, Budget, advise};
-use worked_guest::ASKED;
+use worked_guest::{ASKED, TRACE};
 
 /// A case with this downtime and this many pages sent.
 fn case(rt: &impl Abort, down: u64, total: u64) -> Line {
@@ -37,12 +38,19 @@ fn cases(rt: &impl Abort, alloc: Global, costs: &[(u64, u64)]) -> Vec<Line> {
     cases
 }
 
-/// Returns the advice for a budget, if there are cases.
-fn advised(cases: &[Line], down: u64, total: Option<u64>) -> Option<Advice> {
+/// Returns the advice for a budget, if there are cases. Without what ticks stand for no case has errors.
+fn advised(
+    rt: &impl Abort,
+    alloc: Global,
+    cases: &[Line],
+    down: u64,
+    total: Option<u64>,
+) -> Option<Advice> {
     if cases.is_empty() {
         return None;
     }
-    Some(advise(cases, &Budget { down, total }))
+    let log = TouchLog::parse(alloc, &TRACE).expect(rt, "trace");
+    advise(alloc, &log, &None, &Budget { down, total }, cases).ok()
 }
 
 #[test]
@@ -50,10 +58,10 @@ fn takes_the_cheapest_case_within_a_budget(rt: HostRuntime) {
     let costs = [(500, 6), (0, 8), (250, 7), (250, 7), (200, 7)];
     let cases = cases(&rt, rt.alloc(), &costs);
     let found = [
-        advised(&cases, 500, None),
-        advised(&cases, 300, None),
-        advised(&cases, 100, Some(8)),
-        advised(&cases, 300, Some(6)),
+        advised(&rt, rt.alloc(), &cases, 500, None),
+        advised(&rt, rt.alloc(), &cases, 300, None),
+        advised(&rt, rt.alloc(), &cases, 100, Some(8)),
+        advised(&rt, rt.alloc(), &cases, 300, Some(6)),
     ];
     let over_total = Advice::OverTotal {
         nearest: 1,
@@ -72,5 +80,5 @@ fn takes_the_cheapest_case_within_a_budget(rt: HostRuntime) {
 fn takes_the_least_downtime_where_no_case_keeps_it(rt: HostRuntime) {
     let costs = [(500, 6), (300, 8), (300, 7), (300, 7)];
     let cases = cases(&rt, rt.alloc(), &costs);
-    assert!(rt; advised(&cases, 299, Some(9)) == Some(Advice::OverDown(2)));
+    assert!(rt; advised(&rt, rt.alloc(), &cases, 299, Some(9)) == Some(Advice::OverDown(2)));
 }

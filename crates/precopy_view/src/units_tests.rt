@@ -34,7 +34,8 @@ fn shows_times_and_bytes(rt: HostRuntime) {
 }
 
 /// Advice for a downtime of 200 ticks: the rate is 16 pages in 1,000 ticks, at which 3 pages take less than that. Case
-/// 7 sends 4 pages until tick 250, then 2 until tick 375, while none is dirtied.
+/// 7 sends 4 pages until tick 250, then 2 until tick 375, while none is dirtied. With two standard errors its downtime
+/// is within the limit.
 static ADVICE: &str = "budget down 200
 grid start 0
 grid max 16
@@ -44,7 +45,7 @@ grid threshold 4 2 1 1 1
 grid limit 2 8 30
 grid skip 0 1
 cases 241 fits 7
-time 375 ms, sent 384 bytes, downtime 0 s
+time 375 ms, sent 384 bytes, downtime 0 s +- 22 ms
 case 7 min 16 max 16 inc 0 threshold 2 limit 2 skip 0 rounds 2 stop few at 375 down 0 total 6
 precopy live --min 16 --max 16 --inc 0 --threshold 2 --rounds 2 --start 0
 ";
