@@ -27,18 +27,20 @@ export function box(x, y, width, height) {
   return `M${x.toFixed(1)} ${y.toFixed(1)}h${width.toFixed(1)}v${height.toFixed(1)}h${(-width).toFixed(1)}z`;
 }
 
+/** About how wide a letter of a picture is, in pixels. */
+export const LETTER = 7;
+
 /** A text of a picture. */
 export function label(className, x, y, words) {
   return svg("text", { class: className, x: x.toFixed(1), y: y.toFixed(1) }, words);
 }
 
-/** About how wide a letter of a picture is, and the room round a text with a ground, in pixels. */
-const LETTER_WIDTH = 6.4;
+/** The room round a text with a ground, in pixels. */
 const ROOM_OF_GROUND = 4;
 
 /** A text of a picture on a ground of its own, which can be read over bars. It begins or ends at `x`. */
 export function grounded(isToTheLeft, x, y, words) {
-  const width = words.length * LETTER_WIDTH + 2 * ROOM_OF_GROUND;
+  const width = words.length * LETTER + 2 * ROOM_OF_GROUND;
   const left = isToTheLeft ? x - width + ROOM_OF_GROUND : x - ROOM_OF_GROUND;
   return [area("halo", left, y - 12, width, 16), label(isToTheLeft ? "end" : "begin", x, y, words)];
 }

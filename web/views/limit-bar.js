@@ -1,6 +1,6 @@
 // The bar of the limit: the downtime with its standard error, and the limit.
 
-import { area, label } from "./elements.js";
+import { area, label, LETTER } from "./elements.js";
 import { briefTime } from "../model/brief.js";
 import { pictureOf } from "./plot.js";
 
@@ -11,9 +11,6 @@ const SIDE = 6;
 
 /** How far the bar reaches beyond the greater of the limit and the downtime. */
 const BEYOND = 1.15;
-
-/** About how wide a letter is. */
-const LETTER = 7;
 
 /** A text whose middle is at `x` if there is room. */
 function centred(x, y, width, words) {

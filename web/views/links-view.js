@@ -1,7 +1,7 @@
 // The section on links: what the migration would cost over slower and faster ones, as curves.
 
 import { CURVE_HEIGHT, curvesParts, CURVES, curveTop } from "./curves.js";
-import { area, byId, label } from "./elements.js";
+import { area, byId, label, LETTER } from "./elements.js";
 import { saveButtons } from "./exports.js";
 import { Inspector } from "./inspector.js";
 import { linkCosts, LINK_PLACES, linkPlace, linkPoints, linkRows } from "../model/links.js";
@@ -17,15 +17,19 @@ const OF_LINKS = CURVES.slice(0, 2);
 /** How many times each label is the one before. */
 const LABEL_RATIOS = [1 / 8, 1 / 4, 1 / 2, 1, 2, 4, 8];
 
-/** The labels of an axis of links, and their title. */
+/** The labels of an axis of links, and their title. Where they would touch, only every third one has words. */
 function linkLabels(axis, { amount, unit }, bottom) {
   const fitting = inFittingUnit(amount, unit, RATE_UNITS).unit;
-  const marks = LABEL_RATIOS.flatMap((ratio) => {
-    const x = axis.place(linkPlace(amount * ratio, amount));
-    const words = counted(fewDigits((amount * ratio) / Number(RATE_UNITS[fitting])));
-    const isAtEnd = ratio === LABEL_RATIOS.at(-1);
-    return [area("line", x, bottom + 1, 1, 5),
-      label(isAtEnd ? "end" : "middle", isAtEnd ? axis.width - 2 : x, bottom + 19, words)];
+  const places = LABEL_RATIOS.map((ratio) => axis.place(linkPlace(amount * ratio, amount)));
+  const words = LABEL_RATIOS.map((ratio) => counted(fewDigits((amount * ratio) / Number(RATE_UNITS[fitting]))));
+  const last = places.length - 1;
+  const widest = Math.max(...words.map(({ length }) => length)) * LETTER;
+  // The last label ends at its mark, so it reaches further to the one before it.
+  const step = 1.5 * widest > places[last] - places[last - 1] ? 3 : 1;
+  const marks = places.flatMap((x, at) => {
+    const mark = area("line", x, bottom + 1, 1, 5);
+    const [side, from] = at === last ? ["end", axis.width - 2] : ["middle", x];
+    return at % step === 0 ? [mark, label(side, from, bottom + 19, words[at])] : [mark];
   });
   return [...marks, label("middle title", axis.width / 2, bottom + 40, `link, ${unitName(fitting, RATE_UNITS)}`)];
 }
