@@ -23,6 +23,7 @@ BUDGETS = [
     ["--down=3", "--max=4000", "--base=1200", "--start=1500"],
 ]
 ADVICE, SAMPLES, SWEEPS = 60, 40, 60
+UNKNOWN = 4  # the status of advice if no case ends within the trace
 
 
 def part(whole, count):
@@ -53,13 +54,14 @@ def cases_round(asked, grid):
 
 
 class Plans:
-    """The plans of some cases over a trace, and which of them are likely to keep a downtime: those that do with two
-    standard errors more, if a question in time and bytes has any."""
+    """The plans of some cases over a trace, and which of them are likely to keep a downtime: those that end within the
+    trace, and do with two standard errors more, if a question in time and bytes has any."""
 
     def __init__(self, trace, cases, down, question):
         self.trace, self.cases, self.down, self.question = trace, cases, down, question
         self.outcomes = [redrawn.planned(trace.guest, it) for it in cases]
         self.facts = [migration_model.case_of(number, *it) for number, it in enumerate(zip(cases, self.outcomes))]
+        self.known = [it for it in self.facts if it["at"] <= trace.last]
         self.has_errors = question is not None and question.has_errors()
 
     def cost(self, number):
@@ -74,8 +76,9 @@ class Plans:
         return not self.has_errors or self.cost(number)[1] + 2 * self.error(number) <= self.question.downtime
 
     def planned_within(self, total=None):
-        """The cases that keep the downtime, and send no more pages than these, by their plans: the cheapest first."""
-        within = [it for it in self.facts if it["down"] <= self.down and (total is None or it["total"] <= total)]
+        """The known cases that keep the downtime, and send no more pages than these, by their plans: the cheapest
+        first."""
+        within = [it for it in self.known if it["down"] <= self.down and (total is None or it["total"] <= total)]
         return [it["case"] for it in sorted(within, key=lambda it: (it["total"], it["down"], it["case"]))]
 
     def cheapest(self, total=None):
@@ -83,9 +86,11 @@ class Plans:
         return next(filter(self.is_likely, self.planned_within(total)), None)
 
     def choice(self, total):
-        """Returns the advised case, and the line that says why."""
-        nearest = min(self.facts, key=lambda case: (case["down"], case["total"], case["case"]))["case"]
+        """Returns the advised case, if there is one, and the line that says why."""
         head, within = f"cases {len(self.facts)} ", f"{'likely ' * self.has_errors}within down {self.down}"
+        if not self.known:
+            return None, f"{head}none ends within the trace"
+        nearest = min(self.known, key=lambda case: (case["down"], case["total"], case["case"]))["case"]
         fitting, cheapest = self.cheapest(total), self.cheapest()
         if fitting is not None:
             return fitting, f"{head}fits {fitting}"
@@ -102,6 +107,8 @@ class Plans:
 
     def kind(self, total):
         """What came of a budget: whether errors change what the plans alone say."""
+        if not self.known:
+            return "unknown"
         fitting, planned = self.cheapest(total), self.planned_within(total)
         if fitting is None:
             return "unlikely" if planned else "none"
@@ -109,7 +116,8 @@ class Plans:
 
 
 def advised(trace, asked, down, total, question=None):
-    """All lines of advice round some settings: budget, grid, why, what it costs in time, the case, and its words."""
+    """The status and all lines of advice round some settings: budget, grid, why, what it costs in time, the case, and
+    its words."""
     grid = grid_of(asked, down)
     plans = Plans(trace, cases_round(asked, grid), down, question)
     chosen, reason = plans.choice(total)
@@ -118,15 +126,18 @@ def advised(trace, asked, down, total, question=None):
     lines += [" ".join(map(str, ["grid", name, *values])) for name, values in shared.items()]
     lines.append(reason)
     if question:
-        lines.append(plans.cost_line(chosen))
         SEEN["advise", plans.kind(total)] += 1
-    return [*lines, words_of(plans.facts[chosen]), migration_model.live_line(plans.cases[chosen])]
+    if chosen is None:
+        return UNKNOWN, lines
+    if question:
+        lines.append(plans.cost_line(chosen))
+    return 0, [*lines, words_of(plans.facts[chosen]), migration_model.live_line(plans.cases[chosen])]
 
 
 def expect_advice(view, words, trace, wanted):
     status, text, faults = ran(view, ["advise", *words], trace.path)
     found = status, text.splitlines(), faults
-    expect(found == (0, wanted, ""), f"{words}: {found} in place of {wanted}")
+    expect(found == (*wanted, ""), f"{words}: {found} in place of {wanted}")
 
 
 def check_advice(view, _, words, trace):

@@ -8,8 +8,8 @@ use trace_readers::TouchLog;
 use trace_views::{Advice, Budget, advise};
 use worked_guest::{ASKED, TRACE};
 
-/// A case with this downtime and this many pages sent.
-fn case(rt: &impl Abort, down: u64, total: u64) -> Line {
+/// A case with this stop, this downtime and this many pages sent.
+fn case(rt: &impl Abort, stop: u64, down: u64, total: u64) -> Line {
     let settings = Settings::new(Asked {
         min: 1000,
         max: 5000,
@@ -23,22 +23,24 @@ fn case(rt: &impl Abort, down: u64, total: u64) -> Line {
         settings,
         rounds: 1,
         reason: Reason::Few,
-        stop: 1000,
+        stop,
         down,
         total,
     }
 }
 
-/// Cases with these downtimes and pages sent.
-fn cases(rt: &impl Abort, alloc: Global, costs: &[(u64, u64)]) -> Vec<Line> {
+/// Cases that stop at a tick, with these downtimes and pages sent.
+fn cases(rt: &impl Abort, alloc: Global, stop: u64, costs: &[(u64, u64)]) -> Vec<Line> {
     let mut cases = Vec::new(alloc);
     for (down, total) in costs {
-        cases.push(case(rt, *down, *total)).expect(rt, "memory");
+        cases
+            .push(case(rt, stop, *down, *total))
+            .expect(rt, "memory");
     }
     cases
 }
 
-/// Returns the advice for a budget, if there are cases. Without what ticks stand for no case has errors.
+/// Returns the advice for a budget, unless memory runs out. Without what ticks stand for no case has errors.
 fn advised(
     rt: &impl Abort,
     alloc: Global,
@@ -46,9 +48,6 @@ fn advised(
     down: u64,
     total: Option<u64>,
 ) -> Option<Advice> {
-    if cases.is_empty() {
-        return None;
-    }
     let log = TouchLog::parse(alloc, &TRACE).expect(rt, "trace");
     advise(alloc, &log, &None, &Budget { down, total }, cases).ok()
 }
@@ -56,7 +55,7 @@ fn advised(
 #[test]
 fn takes_the_cheapest_case_within_a_budget(rt: HostRuntime) {
     let costs = [(500, 6), (0, 8), (250, 7), (250, 7), (200, 7)];
-    let cases = cases(&rt, rt.alloc(), &costs);
+    let cases = cases(&rt, rt.alloc(), 2500, &costs);
     let found = [
         advised(&rt, rt.alloc(), &cases, 500, None),
         advised(&rt, rt.alloc(), &cases, 300, None),
@@ -79,6 +78,22 @@ fn takes_the_cheapest_case_within_a_budget(rt: HostRuntime) {
 #[test]
 fn takes_the_least_downtime_where_no_case_keeps_it(rt: HostRuntime) {
     let costs = [(500, 6), (300, 8), (300, 7), (300, 7)];
-    let cases = cases(&rt, rt.alloc(), &costs);
+    let cases = cases(&rt, rt.alloc(), 2500, &costs);
     assert!(rt; advised(&rt, rt.alloc(), &cases, 299, Some(9)) == Some(Advice::OverDown(2)));
+}
+
+#[test]
+fn takes_no_case_that_ends_after_the_trace(rt: HostRuntime) {
+    let mut mixed = cases(&rt, rt.alloc(), 2501, &[(0, 6), (100, 6)]);
+    let unknown = advised(&rt, rt.alloc(), &mixed, 500, None);
+    mixed
+        .push(case(&rt, 2500, 300, 8))
+        .expect(&rt, "memory");
+    let found = [
+        unknown,
+        advised(&rt, rt.alloc(), &mixed, 500, None),
+        advised(&rt, rt.alloc(), &mixed, 299, None),
+    ];
+    let expected = [Advice::Unknown, Advice::Fits(2), Advice::OverDown(2)];
+    assert!(rt; found == expected.map(Some));
 }

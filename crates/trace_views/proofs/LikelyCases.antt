@@ -8,7 +8,7 @@ use Rattle.migration_model.specs.Sweeps.{SweepLine}
 use Rattle.migration_model.specs.Touches.{GuestTouches}
 use Rattle.predictions.specs.Redrawn.Errors.{SampleErrors}
 use Rattle.predictions.proofs.OneError.{one_errors}
-use Rattle.trace_views.specs.Advice.{AreCaseErrors, IsCheapest, KeepsBudget, KeepsDown, NoneKeeps, is_cheaper}
+use Rattle.trace_views.specs.Advice.{AreCaseErrors, IsFirst, KeepsBudget, KeepsDown, NoneHas, ends_within, is_cheaper}
 use Rattle.trace_views.specs.Advice.{is_likely_with, is_within}
 use Rattle.trace_views.specs.declared.budget.Budget.{Budget}
 use Rattle.trace_views.specs.declared.view.Measured.{Measured}
@@ -21,7 +21,11 @@ one_case_errors log (Some known) line a b x y =
     one_errors log.pages log.touches line.settings known.scale a b x y
 
 module _ (log : GuestTouches) (measured : Option Measured) where
-  -- a case with more downtime does not keep it
+  -- a case that ends after the touches does not keep a downtime
+  pub not_known : (down : ℕ) (line : SweepLine) → ends_within log line ≡ false → ¬ KeepsDown log measured down line
+  not_known down line late = λ keeps. both_ways (ends_within log line) late keeps.known
+
+  -- nor does one with more downtime
   pub not_planned : (down : ℕ) (line : SweepLine) → down < line.outcome.down → ¬ KeepsDown log measured down line
   not_planned down line more = λ keeps. let planned = keeps.planned in omega (arith, more, planned)
 
@@ -44,31 +48,31 @@ not_fewer a b dearer = grind arith
 
 module _ (log : GuestTouches) (measured : Option Measured) (budget : Budget) (lines : List SweepLine) (at : ℕ)
     (line : SweepLine) (inside : at < length lines) (is : line ≡ get_or lines at line)
-    (cheapest : IsCheapest (KeepsDown log measured budget.down) lines (length lines) at) where
+    (cheapest : IsFirst is_cheaper (KeepsDown log measured budget.down) lines (length lines) at) where
   there : (d : SweepLine) → line ≡ get_or lines at d
   there d = is ∙ get_or_default lines at line d inside
 
   -- if the pages of the cheapest case are within the budget, it is the cheapest of those that keep the budget
   pub fits : is_within budget.total line.outcome.total ≡ true
-      → IsCheapest (KeepsBudget log measured budget) lines (length lines) at
+      → IsFirst is_cheaper (KeepsBudget log measured budget) lines (length lines) at
   fits within = record {
     inside = cheapest.inside;
-    kept = λ d. record {
-      down = cheapest.kept d;
+    has = λ d. record {
+      down = cheapest.has d;
       total = subst (λ (l : SweepLine). is_within budget.total l.outcome.total ≡ true) (there d) within;
     };
-    least = λ k d low kept. cheapest.least k d low kept.down;
+    best = λ k d low kept. cheapest.best k d low kept.down;
     first = λ k d low kept. cheapest.first k d low kept.down;
   }
 
   -- if not, none keeps the budget
   pub none_fits : is_within budget.total line.outcome.total ≡ false
-      → NoneKeeps (KeepsBudget log measured budget) lines (length lines)
+      → NoneHas (KeepsBudget log measured budget) lines (length lines)
   none_fits over = record {
     none = λ k d low kept.
         let other = get_or lines k d in
         let fewer = not_fewer other line
-        (subst (λ (l : SweepLine). is_cheaper other l ≡ false) (sym (there d)) (cheapest.least k d low kept.down)) in
+        (subst (λ (l : SweepLine). is_cheaper other l ≡ false) (sym (there d)) (cheapest.best k d low kept.down)) in
         both_ways (is_within budget.total line.outcome.total) over
         (within_less budget.total line.outcome.total other.outcome.total fewer kept.total);
   }

@@ -1,10 +1,11 @@
 -- The case to take if a migration has a budget: of those that are likely to keep it, the one with the fewest pages
--- sent, or else the one with the least downtime. As of starts, a downtime is likely to be kept if it is with two
--- standard errors more. The pages sent count as planned: more of them cost time and bytes, and no guest stands still for them.
--- Counting the pages sent first within a budget is this project's own.
+-- sent, or else the one with the least downtime. A case that ends after the touches is not taken, since nothing is
+-- known of it. As of starts, a downtime is likely to be kept if it is with two standard errors more. The pages sent
+-- count as planned: more of them cost time and bytes, and no guest stands still for them. Counting the pages sent first
+-- within a budget is this project's own.
 use Rattle.std.specs.Prelude.{◌≡◌, ℕ, ◌<◌, ◌≤◌, nat_lt, nat_le, ◌&&◌, ◌||◌, ◌==◌, Bool, true, false, Option, None, Some}
 use Rattle.std.specs.Prelude.{List, length, slice_index_or}
-use Rattle.migration_model.specs.Sweeps.{SweepLine, best_of}
+use Rattle.migration_model.specs.Sweeps.{SweepLine, is_better}
 use Rattle.migration_model.specs.Touches.{GuestTouches, last_tick_of}
 use Rattle.predictions.specs.Redrawn.Errors.{AreErrors, SampleErrors}
 use Rattle.predictions.specs.Starts.Choices.{is_likely}
@@ -13,6 +14,13 @@ use Rattle.trace_views.specs.declared.budget.Budget.{Budget}
 use Rattle.trace_views.specs.declared.budget.Advice.{Advice}
 use Rattle.trace_views.specs.declared.budget.Advice.TheVariants as advices
 use Rattle.trace_views.specs.declared.view.Measured.{Measured}
+
+-- whether a case ends within the touches
+abbrev pub ends_within : GuestTouches → SweepLine → Bool
+ends_within log line = nat_le line.outcome.stop (last_tick_of log.touches)
+
+abbrev pub EndsWithin : GuestTouches → SweepLine → Type 0
+EndsWithin log line = ends_within log line ≡ true
 
 -- the standard errors of a case, if it is known what ticks and pages stand for and a part of the pages was sampled
 abbrev pub AreCaseErrors : GuestTouches → Option Measured → SweepLine → Option SampleErrors → Type 0
@@ -30,8 +38,10 @@ is_likely_with log None line errors = true
 is_likely_with log (Some known) line None = true
 is_likely_with log (Some known) line (Some errors) = is_likely known.limits.downtime (case_with log known line errors)
 
--- a case is likely to keep a downtime: its plan does, and it is likely to keep its limit with the errors that it has
+-- a case is likely to keep a downtime: it ends within the touches, its plan keeps the downtime, and it is likely to
+-- keep its limit with the errors that it has
 pub record KeepsDown (log : GuestTouches) (measured : Option Measured) (down : ℕ) (line : SweepLine) : Type 0 where
+  pub known : EndsWithin log line
   pub planned : line.outcome.down ≤ down
   pub errors : Option SampleErrors
   pub errors_are : AreCaseErrors log measured line errors
@@ -53,37 +63,43 @@ abbrev pub is_cheaper : SweepLine → SweepLine → Bool
 is_cheaper a b = nat_lt a.outcome.total b.outcome.total
     || ((a.outcome.total == b.outcome.total) && nat_lt a.outcome.down b.outcome.down)
 
--- whether a case is cheaper than that of a place, if there is one
-abbrev pub is_cheaper_than : List SweepLine → SweepLine → Option ℕ → Bool
-is_cheaper_than lines line None = true
-is_cheaper_than lines line (Some at) = is_cheaper line (slice_index_or lines at line)
+-- whether a case beats that of a place, if there is one
+abbrev pub beats_found : (SweepLine → SweepLine → Bool) → List SweepLine → SweepLine → Option ℕ → Bool
+beats_found beats lines line None = true
+beats_found beats lines line (Some at) = beats line (slice_index_or lines at line)
 
--- none of the first `n` cases keeps what is asked
-pub record NoneKeeps (Keeps : SweepLine → Type 0) (lines : List SweepLine) (n : ℕ) : Type 0 where
-  pub none : (k : ℕ) (d : SweepLine) → k < n → ¬ Keeps (slice_index_or lines k d)
+-- none of the first `n` cases has what is asked
+pub record NoneHas (Has : SweepLine → Type 0) (lines : List SweepLine) (n : ℕ) : Type 0 where
+  pub none : (k : ℕ) (d : SweepLine) → k < n → ¬ Has (slice_index_or lines k d)
 
--- Of the first `n` cases, this is the cheapest that keeps what is asked: no other that keeps it is cheaper, and it is
--- the first of equally cheap ones.
-pub record IsCheapest (Keeps : SweepLine → Type 0) (lines : List SweepLine) (n at : ℕ) : Type 0 where
+-- Of the first `n` cases, this is the first of the best that have what is asked: no other that has it beats this one,
+-- and this one beats each before it.
+pub record IsFirst (beats : SweepLine → SweepLine → Bool) (Has : SweepLine → Type 0) (lines : List SweepLine)
+    (n at : ℕ) : Type 0 where
   pub inside : at < n
-  pub kept : (d : SweepLine) → Keeps (slice_index_or lines at d)
-  pub least : (k : ℕ) (d : SweepLine) → k < n → Keeps (slice_index_or lines k d)
-      → is_cheaper (slice_index_or lines k d) (slice_index_or lines at d) ≡ false
-  pub first : (k : ℕ) (d : SweepLine) → k < at → Keeps (slice_index_or lines k d)
-      → is_cheaper (slice_index_or lines at d) (slice_index_or lines k d) ≡ true
+  pub has : (d : SweepLine) → Has (slice_index_or lines at d)
+  pub best : (k : ℕ) (d : SweepLine) → k < n → Has (slice_index_or lines k d)
+      → beats (slice_index_or lines k d) (slice_index_or lines at d) ≡ false
+  pub first : (k : ℕ) (d : SweepLine) → k < at → Has (slice_index_or lines k d)
+      → beats (slice_index_or lines at d) (slice_index_or lines k d) ≡ true
 
--- the cheapest of the first `n` cases that keeps what is asked, if one does
-abbrev pub IsFound : (SweepLine → Type 0) → List SweepLine → ℕ → Option ℕ → Type 0
-IsFound Keeps lines n None = NoneKeeps Keeps lines n
-IsFound Keeps lines n (Some at) = IsCheapest Keeps lines n at
+-- that case, if one has what is asked
+abbrev pub IsFound : (SweepLine → SweepLine → Bool) → (SweepLine → Type 0) → List SweepLine → ℕ → Option ℕ → Type 0
+IsFound beats Has lines n None = NoneHas Has lines n
+IsFound beats Has lines n (Some at) = IsFirst beats Has lines n at
+
+-- the case with the least downtime, and then the fewest pages sent, of those that end within the touches
+abbrev pub IsNearest : GuestTouches → List SweepLine → ℕ → Type 0
+IsNearest log lines at = IsFirst is_better (EndsWithin log) lines (length lines) at
 
 -- what to take of some cases over some touches: the cheapest that is likely to keep the budget, or the one with the
--- least downtime and why none does
+-- least downtime and why none does; none of them if none ends within the touches
 abbrev pub IsAdvice : GuestTouches → Option Measured → Budget → List SweepLine → Advice → Type 0
 IsAdvice log measured budget lines (advices.Fits case) =
-    IsCheapest (KeepsBudget log measured budget) lines (length lines) case
+    IsFirst is_cheaper (KeepsBudget log measured budget) lines (length lines) case
 IsAdvice log measured budget lines (advices.OverTotal nearest cheapest) =
-    NoneKeeps (KeepsBudget log measured budget) lines (length lines) × (nearest ≡ best_of lines)
-    × IsCheapest (KeepsDown log measured budget.down) lines (length lines) cheapest
+    NoneHas (KeepsBudget log measured budget) lines (length lines) × IsNearest log lines nearest
+    × IsFirst is_cheaper (KeepsDown log measured budget.down) lines (length lines) cheapest
 IsAdvice log measured budget lines (advices.OverDown nearest) =
-    NoneKeeps (KeepsDown log measured budget.down) lines (length lines) × (nearest ≡ best_of lines)
+    NoneHas (KeepsDown log measured budget.down) lines (length lines) × IsNearest log lines nearest
+IsAdvice log measured budget lines advices.Unknown = NoneHas (EndsWithin log) lines (length lines)

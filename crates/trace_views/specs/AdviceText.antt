@@ -14,11 +14,12 @@ use Rattle.trace_views.specs.declared.budget.Budget.{Budget}
 use Rattle.trace_views.specs.declared.grid.Grid.{Grid}
 use Rattle.trace_views.specs.declared.view.Measured.{Measured}
 
--- the number of the advised case
-abbrev pub case_of : Advice → ℕ
-case_of (advices.Fits case) = case
-case_of (advices.OverTotal nearest cheapest) = nearest
-case_of (advices.OverDown nearest) = nearest
+-- the number of the advised case, if there is one
+abbrev pub case_of : Advice → Option ℕ
+case_of (advices.Fits case) = Some case
+case_of (advices.OverTotal nearest cheapest) = Some nearest
+case_of (advices.OverDown nearest) = Some nearest
+case_of advices.Unknown = None
 
 -- the budget: its downtime, and its pages if it limits them
 abbrev pub total_field : Option ℕ → List ℕ
@@ -48,7 +49,7 @@ within_words None = codes " within down "
 within_words (Some errors) = codes " likely within down "
 
 -- which case keeps the budget; or else why none does, which is the cheapest of those that keep the downtime, and which
--- has the least downtime
+-- has the least downtime; or that none ends within the trace
 abbrev pub reason_fields : Budget → Advice → Option SampleErrors → List (List ℕ)
 reason_fields budget (advices.Fits case) errors = field (codes " fits ") case ∷ []
 reason_fields budget (advices.OverDown nearest) errors =
@@ -57,6 +58,7 @@ reason_fields budget (advices.OverTotal nearest cheapest) errors =
     field (codes " none within total ") (unwrap_or budget.total (2 ^ 64 - 1)) ∷ codes " of those"
     ∷ field (within_words errors) budget.down ∷ field (codes " cheapest ") cheapest
     ∷ field (codes " nearest ") nearest ∷ []
+reason_fields budget advices.Unknown errors = codes " none ends within the trace" ∷ []
 
 -- how many cases there are, and which of them keeps the budget or why none does
 abbrev pub reason_line : Budget → ℕ → Advice → Option SampleErrors → List ℕ

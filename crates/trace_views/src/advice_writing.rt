@@ -107,6 +107,7 @@ fn push_reason(
             push_field(text, " cheapest ", *cheapest as u64)?;
             push_field(text, " nearest ", *nearest as u64)
         }
+        Advice::Unknown => text.extend_from_slice(" none ends within the trace".as_bytes()),
     }
 }
 

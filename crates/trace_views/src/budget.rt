@@ -1,5 +1,7 @@
 //! What a migration may cost, and what is advised for it.
 
+use predictions::Verdict;
+
 /// What a migration may cost.
 #[derive(Clone, Copy, Debug, PartialEq, Eq)]
 pub struct Budget {
@@ -9,7 +11,8 @@ pub struct Budget {
     pub total: Option<u64>,
 }
 
-/// The advice for some cases, which are named by their numbers from 0.
+/// The advice for some cases, which are named by their numbers from 0. All but the last speak of those cases that end
+/// within the trace.
 #[derive(Clone, Copy, Debug, PartialEq, Eq)]
 pub enum Advice {
     /// This case is likely to keep the budget, with the fewest pages sent.
@@ -23,19 +26,33 @@ pub enum Advice {
     },
     /// No case is likely to keep the downtime. This one has the least.
     OverDown(usize),
+    /// No case ends within the trace, so nothing is known of any.
+    Unknown,
 }
 
 impl Advice {
     ghost use Rattle.std.specs.Prelude.{◌≡◌};
     ghost use Rattle.trace_views.specs.AdviceText.{case_of};
+    ghost use Rattle.trace_views.specs.Views.{advice_verdict};
 
-    /// Returns the number of the advised case.
-    pub fn case(&self) -> usize
+    /// Returns the number of the advised case, if there is one.
+    pub fn case(&self) -> Option<usize>
         ensures { result ≡ case_of self.now }
     {
         match self {
-            Advice::Fits(case) | Advice::OverDown(case) => *case,
-            Advice::OverTotal { nearest, .. } => *nearest,
+            Advice::Fits(case) | Advice::OverDown(case) => Some(*case),
+            Advice::OverTotal { nearest, .. } => Some(*nearest),
+            Advice::Unknown => None,
+        }
+    }
+
+    /// Returns whether the advice is known.
+    pub(crate) fn verdict(&self) -> Verdict
+        ensures { result ≡ advice_verdict self.now }
+    {
+        match self {
+            Advice::Fits(_) | Advice::OverDown(_) | Advice::OverTotal { .. } => Verdict::Yes,
+            Advice::Unknown => Verdict::Unknown,
         }
     }
 }

@@ -3,14 +3,16 @@
 // `IsAdvice` holds of one value alone: `one_advice`.
 
 ghost use Rattle.std.specs.Prelude.{◌≡◌, ◌+◌, ◌<◌, ◌≤◌, ℕ, IfOk, Some, length};
-ghost use Rattle.trace_views.specs.Advice.{IsAdvice, IsFound, KeepsDown, is_cheaper, is_cheaper_than, is_within};
+ghost use Rattle.migration_model.specs.Sweeps.{is_better};
+ghost use Rattle.migration_model.specs.Touches.{last_tick_of};
+ghost use Rattle.trace_views.specs.Advice.{EndsWithin, IsAdvice, IsFound, KeepsDown, beats_found, is_cheaper, is_within};
 ghost use Rattle.trace_views.specs.AdviceText.{case_of};
 
 use crate::budget::{Advice, Budget};
-use crate::likely::is_kept;
+use crate::likely::{ends_within, is_kept};
 use crate::view::Measured;
 use std::alloc::{AllocError, Global};
-use sweep_report::{Line, best_case};
+use sweep_report::Line;
 use trace_readers::TouchLog;
 
 /// Returns whether a number is within a limit, if there is one.
@@ -33,7 +35,7 @@ fn is_less(line: &Line, other: &Line) -> bool
 /// Returns whether a case is cheaper than that of a place, if there is one.
 fn is_less_than(lines: &[Line], line: &Line, found: Option<usize>) -> bool
     requires { (at : ℕ) → found ≡ Some at → at < length lines.now }
-    ensures { result ≡ is_cheaper_than lines.now line.now found }
+    ensures { result ≡ beats_found is_cheaper lines.now line.now found }
 {
     match found {
         Some(at) => is_less(line, &lines[at]),
@@ -53,8 +55,8 @@ fn with_case(
     number: usize,
 ) -> Result<Option<usize>, AllocError>
     requires inside { number < length lines.now }
-    requires before { IsFound (KeepsDown log.now measured.now down) lines.now number found }
-    ensures { IfOk result (IsFound (KeepsDown log.now measured.now down) lines.now (number + 1)) }
+    requires before { IsFound is_cheaper (KeepsDown log.now measured.now down) lines.now number found }
+    ensures { IfOk result (IsFound is_cheaper (KeepsDown log.now measured.now down) lines.now (number + 1)) }
 {
     let line = &lines[number];
     if !is_less_than(lines, line, found) {
@@ -76,13 +78,55 @@ fn cheapest_case(
     down: u64,
     lines: &[Line],
 ) -> Result<Option<usize>, AllocError>
-    ensures { IfOk result (IsFound (KeepsDown log.now measured.now down) lines.now (length lines.now)) }
+    ensures { IfOk result (IsFound is_cheaper (KeepsDown log.now measured.now down) lines.now (length lines.now)) }
 {
     let mut found = None;
     for number in 0..lines.len() {
         found = with_case(alloc, log, measured, down, lines, found, number)?;
     }
     Ok(found)
+}
+
+/// Returns whether a case has less downtime than another, or as much with fewer pages sent.
+fn is_nearer(line: &Line, other: &Line) -> bool
+    ensures { result ≡ is_better line.now other.now }
+{
+    line.down < other.down || line.down == other.down && line.total < other.total
+}
+
+/// Returns whether a case is nearer than that of a place, if there is one.
+fn is_nearer_than(lines: &[Line], line: &Line, found: Option<usize>) -> bool
+    requires { (at : ℕ) → found ≡ Some at → at < length lines.now }
+    ensures { result ≡ beats_found is_better lines.now line.now found }
+{
+    match found {
+        Some(at) => is_nearer(line, &lines[at]),
+        None => true,
+    }
+}
+
+/// Returns the nearest of the cases up to this one that end within a log, from the nearest of those before it.
+fn with_known(log: &TouchLog, lines: &[Line], found: Option<usize>, number: usize) -> Option<usize>
+    requires inside { number < length lines.now }
+    requires before { IsFound is_better (EndsWithin log.now) lines.now number found }
+    ensures { IsFound is_better (EndsWithin log.now) lines.now (number + 1) result }
+{
+    let line = &lines[number];
+    if !is_nearer_than(lines, line, found) {
+        return found;
+    }
+    if ends_within(log, line) { Some(number) } else { found }
+}
+
+/// Returns the case with the least downtime of those that end within a log, the first of equals, if one does.
+fn nearest_case(log: &TouchLog, lines: &[Line]) -> Option<usize>
+    ensures { IsFound is_better (EndsWithin log.now) lines.now (length lines.now) result }
+{
+    let mut found = None;
+    for number in 0..lines.len() {
+        found = with_known(log, lines, found, number);
+    }
+    found
 }
 
 /// Returns which of some cases over a log to advise for a budget. The only error is that memory runs out.
@@ -93,11 +137,12 @@ pub fn advise(
     budget: &Budget,
     lines: &[Line],
 ) -> Result<Advice, AllocError>
-    requires { 1 ≤ length lines.now }
     ensures advice { IfOk result (IsAdvice log.now measured.now budget.now lines.now) }
-    ensures inside { IfOk result (λ advice. case_of advice < length lines.now) }
+    ensures inside { IfOk result (λ advice. (case : ℕ) → case_of advice ≡ Some case → case < length lines.now) }
 {
-    let nearest = best_case(lines);
+    let Some(nearest) = nearest_case(log, lines) else {
+        return Ok(Advice::Unknown);
+    };
     let Some(cheapest) = cheapest_case(alloc, log, measured, budget.down, lines)? else {
         return Ok(Advice::OverDown(nearest));
     };

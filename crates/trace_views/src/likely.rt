@@ -1,7 +1,7 @@
 //! Which cases are likely to keep a downtime, with the errors of a sample.
 
 ghost use Rattle.std.specs.Prelude.{◌≡◌, IfOk, false, true};
-ghost use Rattle.trace_views.specs.Advice.{AreCaseErrors, KeepsDown, case_with, is_likely_with};
+ghost use Rattle.trace_views.specs.Advice.{AreCaseErrors, KeepsDown, case_with, ends_within, is_likely_with};
 
 use crate::view::Measured;
 use guest_log::last_tick;
@@ -57,7 +57,15 @@ fn is_likely_case(
     }
 }
 
-/// Returns whether a case is likely to keep a downtime. Its errors are counted only if its plan keeps it.
+/// Returns whether a case ends within a log.
+pub(crate) fn ends_within(log: &TouchLog, line: &Line) -> bool
+    ensures { result ≡ ends_within log.now line.now }
+{
+    line.stop <= last_tick(log)
+}
+
+/// Returns whether a case is likely to keep a downtime. Its errors are counted only if it ends within the log, and its
+/// plan keeps the downtime.
 pub(crate) fn is_kept(
     alloc: Global,
     log: &TouchLog,
@@ -68,7 +76,7 @@ pub(crate) fn is_kept(
     ensures kept { IfOk result (λ kept. kept ≡ true → KeepsDown log.now measured.now down line.now) }
     ensures missed { IfOk result (λ kept. kept ≡ false → ¬ KeepsDown log.now measured.now down line.now) }
 {
-    if line.down > down {
+    if !ends_within(log, line) || line.down > down {
         return Ok(false);
     }
     let errors = case_errors(alloc, log, measured, line)?;

@@ -109,6 +109,7 @@ pub enum View {
 pub struct ViewText {
     /// The text.
     pub text: Vec<u8>,
-    /// Whether the limit is kept: that of a prediction, or from the best of some starts. A view without limit keeps it.
+    /// Whether the limit is kept: that of a prediction, or from the best of some starts; of advice whether it is known.
+    /// A view without limit keeps it.
     pub kept: Verdict,
 }

@@ -20,12 +20,13 @@ use crate::sweep_document::json_sweep;
 use crate::sweeping::planned;
 use crate::view::{Measured, View, ViewText};
 use guest_log::last_tick;
+use predictions::redrawn::Errors;
 use predictions::units::Scale;
 use predictions::{Cost, Verdict};
 use rate_limit::Settings;
 use report_pictures::{Style, measured_screen, report_chart, report_screen};
 use round_planner::{Plan, plan};
-use std::alloc::Global;
+use std::alloc::{AllocError, Global};
 use std::thread::Threads;
 use sweep_report::Line;
 use trace_readers::TouchLog;
@@ -132,7 +133,59 @@ fn cost_of(measured: &Option<Measured>, line: &Line, last_tick: u64) -> Option<C
     }
 }
 
-/// Returns the advice for a budget, as a text.
+/// What is told of a case to take, and the errors that it has.
+#[derive(Drop)]
+struct ToldChoice {
+    errors: Option<Errors>,
+    text: Vec<u8>,
+}
+
+impl ToldChoice {
+    ghost use Rattle.std.specs.Prelude.{◌≡◌, ◌<◌, IfErr, IfOk, Some, length};
+    ghost use Rattle.trace_views.specs.Views.{IsCaseTold, IsChoiceTold};
+
+    /// Returns what is told of a case over a log, by its number.
+    fn of_case(
+        alloc: Global,
+        log: &TouchLog,
+        measured: &Option<Measured>,
+        lines: &[Line],
+        case: usize,
+    ) -> Result<ToldChoice, AllocError>
+        requires { case < length lines.now }
+        ensures { IfOk result (λ told. IsCaseTold log.now measured.now lines.now case told.errors told.text.items) }
+    {
+        let line = &lines[case];
+        let errors = case_errors(alloc, log, measured, line)?;
+        let cost = cost_of(measured, line, last_tick(log));
+        let mut text = Vec::new(alloc);
+        push_choice(&mut text, case, line, &cost, &errors)?;
+        Ok(ToldChoice { errors, text })
+    }
+
+    /// Returns what is told of the case to take over a log, or nothing if there is none.
+    fn of_choice(
+        alloc: Global,
+        log: &TouchLog,
+        measured: &Option<Measured>,
+        lines: &[Line],
+        choice: Option<usize>,
+    ) -> Result<ToldChoice, AllocError>
+        requires { (case : ℕ) → choice ≡ Some case → case < length lines.now }
+        ensures { IfOk result (λ told. IsChoiceTold log.now measured.now lines.now choice told.errors
+            told.text.items) }
+    {
+        match choice {
+            Some(case) => ToldChoice::of_case(alloc, log, measured, lines, case),
+            None => Ok(ToldChoice {
+                errors: None,
+                text: Vec::new(alloc),
+            }),
+        }
+    }
+}
+
+/// Returns the advice for a budget, as a text, and whether it is known.
 fn advice_view<R: Threads + Sync>(
     rt: &R,
     alloc: Global,
@@ -140,8 +193,8 @@ fn advice_view<R: Threads + Sync>(
     settings: &Settings,
     measured: &Option<Measured>,
     log: &TouchLog,
-) -> Result<Vec<u8>, ViewError>
-    ensures made { IfOk result (λ v. IsAdviceView log.now settings.now budget.now measured.now v.items) }
+) -> Result<ViewText, ViewError>
+    ensures made { IfOk result (λ v. IsAdviceView log.now settings.now budget.now measured.now v.text.items v.kept) }
     ensures refused { IfErr result (λ e. e ≡ ViewError.Memory) }
 {
     let grid = Grid::new(settings, budget);
@@ -149,13 +202,14 @@ fn advice_view<R: Threads + Sync>(
     let workers = settings.asked().workers as usize;
     let lines = planned(rt, alloc, &cases, workers, log)?;
     let advice = advise(alloc, log, measured, budget, &lines)?;
-    let line = &lines[advice.case()];
-    let errors = case_errors(alloc, log, measured, line)?;
-    let cost = cost_of(measured, line, last_tick(log));
-    let count = lines.len();
-    let mut text = advice_head(alloc, budget, settings, &grid, count, &advice, &errors)?;
-    push_choice(&mut text, advice.case(), line, &cost, &errors)?;
-    Ok(text)
+    let told = ToldChoice::of_choice(alloc, log, measured, &lines, advice.case())?;
+    let (count, errors) = (lines.len(), &told.errors);
+    let mut text = advice_head(alloc, budget, settings, &grid, count, &advice, errors)?;
+    text.extend_from_slice(&told.text)?;
+    Ok(ViewText {
+        text,
+        kept: advice.verdict(),
+    })
 }
 
 /// Returns the view with this text, without a limit to keep.
@@ -190,7 +244,7 @@ pub fn view_text<R: Threads + Sync>(
             budget,
             settings,
             measured,
-        } => shown(advice_view(rt, alloc, budget, settings, measured, log)),
+        } => advice_view(rt, alloc, budget, settings, measured, log),
         View::Chart { settings, scale } => shown(chart_view(alloc, settings, scale, log)),
         View::Show {
             settings,
