@@ -29,12 +29,11 @@ NAMED = {
     "dirty_words": "close_drops_one_store close_gives_opening_back harvest_clears_and_answers_nothing "
     "harvest_without_clearing invented_page invented_place mark_before_store one_lock_round_the_table "
     "seats_answer_from_views",
-    "live_engine": "end_image_given_as_stop_image",
     "live_tasks": "latest_bytes_under_old_place nothing_sent_live skipped_page_dropped",
     "migration_jobs": "always_write_error image_writes_its_input report_in_part_then_memory",
     "page_message": "zero_data_frame_accepted",
     "round_planner": "end_tick_in_both_rounds skip_by_whole_round",
-    "stop_copy": "last_partial_word_left_out",
+    "stop_copy": "end_image_given_as_stop_image last_partial_word_left_out",
     "trace_codec": "reader_decodes_what_came reader_ignored trailing_bytes_accepted",
     "working_sets": "window_cut_counts_twice",
 }

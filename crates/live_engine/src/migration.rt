@@ -16,7 +16,7 @@ use crate::rounds::{Migration, Progress};
 use crate::stop_and_copy::stop_and_copy;
 use crate::stopped::StoppedGuest;
 use guest_log::WriteLog;
-use image_build::{Image, resume};
+use image_build::Image;
 use joined_threads::join_all;
 use live_tasks::{CopierState, Gate};
 use rate_limit::Settings;
@@ -26,6 +26,7 @@ use std::sync::Wait;
 use std::sync::atomic::Ordering;
 use std::thread;
 use std::thread::{PromisedHandle, Scope, Threads, scope_env};
+use stop_copy::GuestImages;
 use stream_receivers::{Receiver, join_first};
 
 /// What a run leaves: the state of the migration after its last round, and the receivers.
@@ -214,8 +215,8 @@ pub fn live_run<W: WriteLog + Sync, G: Gate, R: Threads + Wait + Sync>(
         index,
         rounds,
     } = stopped;
-    let at_stop = memory.image(alloc)?;
-    let at_end = resume(at_stop.copy(alloc)?, trace, &index, &versions);
+    let GuestImages { at_stop, at_end } =
+        GuestImages::new(alloc, &memory, trace, &index, &versions)?;
     Ok(Live {
         at_stop,
         at_end,
