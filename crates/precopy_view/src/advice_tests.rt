@@ -5,7 +5,8 @@ use std::alloc::Global;
 use std::process::Abort;
 use sweep_report::Line;
 use trace_readers::TouchLog;
-use trace_views::{Advice, Budget, advise};
+use trace_views::{Advice, advise};
+use view_kinds::Budget;
 use worked_guest::{ASKED, TRACE};
 
 /// A case with this stop, this downtime and this many pages sent.

@@ -4,7 +4,7 @@ use Rattle.std.specs.Fmt.{decimal}
 use Rattle.std.specs.List.{flat_map, fold, range_with_len, sum_by}
 use Rattle.predictions.specs.Starts.Texts.{right_in}
 use Rattle.report_pictures.specs.Bars.{BarPart, bar_text}
-use Rattle.report_pictures.specs.declared.table.Style.{Style}
+use Rattle.view_kinds.specs.declared.style.Style.{Style}
 
 -- the greatest of a number of each of some things, or 0 of none
 abbrev pub most_of : {X : Type 0} → (X → ℕ) → List X → ℕ

@@ -14,7 +14,7 @@ use Rattle.report_pictures.specs.Bars.{bar_text, window_key, window_parts}
 use Rattle.report_pictures.specs.Columns.{most_of}
 use Rattle.report_pictures.specs.HotStrips.{spots_text}
 use Rattle.report_pictures.specs.Screens.{hot_text, trace_words}
-use Rattle.report_pictures.specs.declared.table.Style.{Style}
+use Rattle.view_kinds.specs.declared.style.Style.{Style}
 
 -- some ticks as how long something takes, a tick as when something is, and some pages as a size
 abbrev pub time_words : TraceScale → ℕ → List ℕ

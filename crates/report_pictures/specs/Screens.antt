@@ -9,7 +9,7 @@ use Rattle.sweep_report.specs.Lines.{field}
 use Rattle.report_pictures.specs.Bars.{round_key, round_parts, window_key, window_parts}
 use Rattle.report_pictures.specs.Columns.{most_of, names_text, row_text, widths_of}
 use Rattle.report_pictures.specs.HotStrips.{spots_text}
-use Rattle.report_pictures.specs.declared.table.Style.{Style}
+use Rattle.view_kinds.specs.declared.style.Style.{Style}
 
 unfoldable pub trace_words : ℕ → ℕ → ℕ → List ℕ
 trace_words pages size writes = field (codes "trace: ") pages ++ (field (codes " pages of ") size

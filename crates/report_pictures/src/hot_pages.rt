@@ -6,11 +6,11 @@ ghost use Rattle.report_pictures.specs.HotStrips.{cell_text, count_within, first
 ghost use Rattle.report_pictures.specs.HotStrips.{strip_text};
 ghost use Rattle.report_pictures.specs.Screens.{hot_count, hot_text};
 
-use crate::table::Style;
 use crate::words::push_words;
 use predictions::push_wide;
 use std::alloc::{AllocError, Global};
 use sweep_report::{end_line, push_field};
+use view_kinds::Style;
 
 /// The most lines of runs.
 const MOST_LINES: usize = 8;

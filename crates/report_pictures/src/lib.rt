@@ -18,4 +18,3 @@ mod words;
 pub use chart::report_chart;
 pub use screen::{measured_screen, report_screen};
 pub use start_curves::{Chosen, starts_chart};
-pub use table::Style;

@@ -10,7 +10,7 @@ ghost use Rattle.report_pictures.specs.Screens.{windows_text, windows_with};
 
 use crate::bar::{Part, dark, full, light, push_round_key, push_window_key};
 use crate::hot_pages::push_hot;
-use crate::table::{Style, column_widths, push_names, push_row};
+use crate::table::{column_widths, push_names, push_row};
 use crate::units_screen;
 use crate::words::push_words;
 use guest_log::Shape;
@@ -19,6 +19,7 @@ use rate_limit::Settings;
 use round_planner::{Plan, Round};
 use std::alloc::{AllocError, Global};
 use sweep_report::{end_line, push_field};
+use view_kinds::Style;
 use working_sets::{Tables, Window};
 
 /// The columns of the table of windows.

@@ -11,15 +11,7 @@ use itoa::Buffer;
 use predictions::starts::push_right;
 use std::alloc::{AllocError, Global};
 use sweep_report::end_line;
-
-/// How something is shown on a terminal.
-#[derive(Clone, Copy, Debug, PartialEq, Eq)]
-pub struct Style {
-    /// The most characters of a line.
-    pub width: usize,
-    /// Whether bars have colors.
-    pub colors: bool,
-}
+use view_kinds::Style;
 
 /// Returns how wide a column with this name and no greater number is.
 fn column_width(name: &str, most: u64) -> usize

@@ -13,7 +13,6 @@ ghost use Rattle.predictions.specs.Starts.Texts.{cell_in, right_in};
 
 use crate::bar::{push_bar, push_window_key};
 use crate::screen::{greatest_of_windows, window_bar};
-use crate::table::Style;
 use crate::words::push_words;
 use predictions::starts::{push_cell, push_right};
 use predictions::units::Scale;
@@ -22,6 +21,7 @@ use rate_limit::Settings;
 use round_planner::{Plan, Round};
 use std::alloc::{AllocError, Global};
 use sweep_report::{end_line, push_field};
+use view_kinds::Style;
 use working_sets::Window;
 
 /// How wide the columns of windows are, without the blank before each.

@@ -10,8 +10,8 @@ use Rattle.predictions.specs.Redrawn.Errors.{SampleErrors}
 use Rattle.predictions.proofs.OneError.{one_errors}
 use Rattle.trace_views.specs.Advice.{AreCaseErrors, IsFirst, KeepsBudget, KeepsDown, NoneHas, ends_within, is_cheaper}
 use Rattle.trace_views.specs.Advice.{is_likely_with, is_within}
-use Rattle.trace_views.specs.declared.budget.Budget.{Budget}
-use Rattle.trace_views.specs.declared.view.Measured.{Measured}
+use Rattle.view_kinds.specs.declared.budget.Budget.{Budget}
+use Rattle.view_kinds.specs.declared.view.Measured.{Measured}
 
 -- a case has one value of its errors, or none
 one_case_errors : (log : GuestTouches) (measured : Option Measured) (line : SweepLine) (a b : Option SampleErrors)

@@ -6,10 +6,10 @@ use Rattle.migration_model.specs.Sweeps.{SweepLine, is_better}
 use Rattle.migration_model.specs.Touches.{GuestTouches}
 use Rattle.trace_views.specs.Advice.{EndsWithin, IsAdvice, IsFirst, IsNearest, KeepsBudget, KeepsDown, NoneHas}
 use Rattle.trace_views.specs.Advice.{is_cheaper}
-use Rattle.trace_views.specs.declared.budget.Advice.{Advice}
-use Rattle.trace_views.specs.declared.budget.Advice.TheVariants as advices
-use Rattle.trace_views.specs.declared.budget.Budget.{Budget}
-use Rattle.trace_views.specs.declared.view.Measured.{Measured}
+use Rattle.trace_views.specs.declared.advice.Advice.{Advice}
+use Rattle.trace_views.specs.declared.advice.Advice.TheVariants as advices
+use Rattle.view_kinds.specs.declared.budget.Budget.{Budget}
+use Rattle.view_kinds.specs.declared.view.Measured.{Measured}
 
 module _ (beats : SweepLine → SweepLine → Bool) (Has : SweepLine → Type 0) (lines : List SweepLine) (n : ℕ) where
   -- the first of the best is before no other that is

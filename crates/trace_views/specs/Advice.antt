@@ -10,10 +10,10 @@ use Rattle.migration_model.specs.Touches.{GuestTouches, last_tick_of}
 use Rattle.predictions.specs.Redrawn.Errors.{AreErrors, SampleErrors}
 use Rattle.predictions.specs.Starts.Choices.{is_likely}
 use Rattle.predictions.specs.Starts.Costs.{CostAtStart, cost_at_start}
-use Rattle.trace_views.specs.declared.budget.Budget.{Budget}
-use Rattle.trace_views.specs.declared.budget.Advice.{Advice}
-use Rattle.trace_views.specs.declared.budget.Advice.TheVariants as advices
-use Rattle.trace_views.specs.declared.view.Measured.{Measured}
+use Rattle.view_kinds.specs.declared.budget.Budget.{Budget}
+use Rattle.trace_views.specs.declared.advice.Advice.{Advice}
+use Rattle.trace_views.specs.declared.advice.Advice.TheVariants as advices
+use Rattle.view_kinds.specs.declared.view.Measured.{Measured}
 
 -- whether a case ends within the touches
 abbrev pub ends_within : GuestTouches → SweepLine → Bool

@@ -8,11 +8,11 @@ use Rattle.predictions.specs.Quantities.{bytes_text, time_text}
 use Rattle.predictions.specs.Redrawn.Errors.{SampleErrors}
 use Rattle.predictions.specs.Starts.Texts.{down_spread}
 use Rattle.sweep_report.specs.Lines.{field, line, case_line}
-use Rattle.trace_views.specs.declared.budget.Advice.{Advice}
-use Rattle.trace_views.specs.declared.budget.Advice.TheVariants as advices
-use Rattle.trace_views.specs.declared.budget.Budget.{Budget}
+use Rattle.trace_views.specs.declared.advice.Advice.{Advice}
+use Rattle.trace_views.specs.declared.advice.Advice.TheVariants as advices
+use Rattle.view_kinds.specs.declared.budget.Budget.{Budget}
 use Rattle.trace_views.specs.declared.grid.Grid.{Grid}
-use Rattle.trace_views.specs.declared.view.Measured.{Measured}
+use Rattle.view_kinds.specs.declared.view.Measured.{Measured}
 
 -- the number of the advised case, if there is one
 abbrev pub case_of : Advice → Option ℕ

@@ -4,7 +4,7 @@ use Rattle.std.specs.Prelude.{ℕ, ◌+◌, ◌*◌, ◌/◌, min, max, true, fa
 use Rattle.std.specs.List.{flat_map}
 use Rattle.migration_model.specs.Rates.{MigrationSettings}
 use Rattle.rate_limit.specs.Refusals.{refusal_of}
-use Rattle.trace_views.specs.declared.budget.Budget.{Budget}
+use Rattle.view_kinds.specs.declared.budget.Budget.{Budget}
 use Rattle.trace_views.specs.declared.grid.Grid.{Grid}
 
 -- a part of a number, at least 1

@@ -13,7 +13,7 @@ use Rattle.predictions.specs.Predictions.{prediction_of}
 use Rattle.predictions.specs.Looks.{IsForecast}
 use Rattle.predictions.specs.Redrawn.Errors.{AreErrors}
 use Rattle.trace_views.specs.declared.outlook.Outlook.{Outlook}
-use Rattle.trace_views.specs.declared.view.AskedPrediction.{AskedPrediction}
+use Rattle.view_kinds.specs.declared.view.AskedPrediction.{AskedPrediction}
 
 -- the ranges of what the migration costs from several starts, from each by its own plan
 pub record AreRangesOver (log : GuestTouches) (asked : AskedPrediction) (ranges : Option RangesOfStarts) : Type 0 where

@@ -17,9 +17,9 @@ use Rattle.trace_views.specs.Json.{line_of}
 use Rattle.trace_views.specs.Outlooks.{IsOutlook}
 use Rattle.trace_views.specs.PredictionJson.{prediction_object}
 use Rattle.trace_views.specs.declared.outlook.Outlook.{Outlook}
-use Rattle.trace_views.specs.declared.view.AskedPrediction.{AskedPrediction}
-use Rattle.trace_views.specs.declared.view.PredictionForm.{PredictionForm}
-use Rattle.trace_views.specs.declared.view.PredictionForm.TheVariants as forms
+use Rattle.view_kinds.specs.declared.view.AskedPrediction.{AskedPrediction}
+use Rattle.view_kinds.specs.declared.view.PredictionForm.{PredictionForm}
+use Rattle.view_kinds.specs.declared.view.PredictionForm.TheVariants as forms
 
 -- a prediction beside the limit of its downtime, what comes of it if the hypervisor looks as QEMU does, the ranges over
 -- starts, the shares of the link, and what is enough for the limit

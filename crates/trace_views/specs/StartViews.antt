@@ -16,9 +16,9 @@ use Rattle.trace_views.specs.Json.{line_of}
 use Rattle.trace_views.specs.StartsJson.{starts_object}
 use Rattle.trace_views.specs.declared.error.ViewError.{ViewError}
 use Rattle.trace_views.specs.declared.error.ViewError.TheVariants as errors
-use Rattle.trace_views.specs.declared.view.AskedStarts.{AskedStarts}
-use Rattle.trace_views.specs.declared.view.StartsForm.{StartsForm}
-use Rattle.trace_views.specs.declared.view.StartsForm.TheVariants as forms
+use Rattle.view_kinds.specs.declared.view.AskedStarts.{AskedStarts}
+use Rattle.view_kinds.specs.declared.view.StartsForm.{StartsForm}
+use Rattle.view_kinds.specs.declared.view.StartsForm.TheVariants as forms
 
 -- what a migration over a log costs from each start, by its own plan, and the best and the worst of the known starts;
 -- the best with its standard errors

@@ -12,21 +12,21 @@ use Rattle.predictions.specs.declared.verdict.Verdict.TheVariants.{Unknown, Yes}
 use Rattle.report_pictures.specs.MeasuredScreens.{IsMeasuredScreen}
 use Rattle.report_pictures.specs.ReportCharts.{IsReportChart}
 use Rattle.report_pictures.specs.Screens.{IsScreen}
-use Rattle.report_pictures.specs.declared.table.Style.{Style}
+use Rattle.view_kinds.specs.declared.style.Style.{Style}
 use Rattle.trace_views.specs.Advice.{AreCaseErrors, IsAdvice}
 use Rattle.trace_views.specs.AdviceText.{advice_head, case_of, choice_text, known_cost}
 use Rattle.trace_views.specs.Grid.{cases_for, grid_of}
 use Rattle.trace_views.specs.Json.{line_of, report_object, sweep_object}
 use Rattle.trace_views.specs.PredictionViews.{IsPredictionView}
 use Rattle.trace_views.specs.StartViews.{IsStartsView, RefusesStartsView}
-use Rattle.trace_views.specs.declared.budget.Advice.{Advice}
-use Rattle.trace_views.specs.declared.budget.Advice.TheVariants as advices
-use Rattle.trace_views.specs.declared.budget.Budget.{Budget}
+use Rattle.trace_views.specs.declared.advice.Advice.{Advice}
+use Rattle.trace_views.specs.declared.advice.Advice.TheVariants as advices
+use Rattle.view_kinds.specs.declared.budget.Budget.{Budget}
 use Rattle.trace_views.specs.declared.error.ViewError.{ViewError}
 use Rattle.trace_views.specs.declared.error.ViewError.TheVariants.{Memory}
-use Rattle.trace_views.specs.declared.view.Measured.{Measured}
-use Rattle.trace_views.specs.declared.view.View.{View}
-use Rattle.trace_views.specs.declared.view.View.TheVariants as views
+use Rattle.view_kinds.specs.declared.view.Measured.{Measured}
+use Rattle.view_kinds.specs.declared.view.View.{View}
+use Rattle.view_kinds.specs.declared.view.View.TheVariants as views
 
 -- the facts of a report, as a JSON document: the working sets and the plan, also in times and bytes if it is known what
 -- ticks and pages stand for

@@ -6,7 +6,7 @@ ghost use Rattle.trace_views.specs.AdviceText.{advice_head, base_field, budget_l
 ghost use Rattle.trace_views.specs.AdviceText.{grid_lines, live_line, measures_line, number_fields, numbers_line};
 ghost use Rattle.trace_views.specs.AdviceText.{reason_fields, reason_line, total_field, within_words};
 
-use crate::budget::{Advice, Budget};
+use crate::advice::Advice;
 use crate::grid::Grid;
 use predictions::redrawn::Errors;
 use predictions::starts::push_spread;
@@ -14,6 +14,7 @@ use predictions::{Cost, push_bytes, push_time};
 use rate_limit::Settings;
 use std::alloc::{AllocError, Global};
 use sweep_report::{Line, end_line, push_case, push_field};
+use view_kinds::Budget;
 
 /// Appends numbers, with a blank before each.
 fn push_list(text: &mut Vec<u8>, numbers: &[u64]) -> Result<(), AllocError>

@@ -8,12 +8,12 @@ ghost use Rattle.migration_model.specs.Touches.{last_tick_of};
 ghost use Rattle.trace_views.specs.Advice.{EndsWithin, IsAdvice, IsFound, KeepsDown, beats_found, is_cheaper, is_within};
 ghost use Rattle.trace_views.specs.AdviceText.{case_of};
 
-use crate::budget::{Advice, Budget};
+use crate::advice::Advice;
 use crate::likely::{ends_within, is_kept};
-use crate::view::Measured;
 use std::alloc::{AllocError, Global};
 use sweep_report::Line;
 use trace_readers::TouchLog;
+use view_kinds::{Budget, Measured};
 
 /// Returns whether a number is within a limit, if there is one.
 fn is_within_limit(limit: Option<u64>, n: u64) -> bool

@@ -4,9 +4,9 @@ ghost use Rattle.std.specs.Prelude.{◌≡◌, ◌≤◌, ◌++◌, IfOk, OnOk};
 ghost use Rattle.trace_views.specs.Grid.{cases_on, grid_of, kept, part, threshold_within, with_minima};
 ghost use Rattle.trace_views.specs.Grid.{with_increments, with_thresholds};
 
-use crate::budget::Budget;
 use rate_limit::{Asked, Settings};
 use std::alloc::{AllocError, Global};
+use view_kinds::Budget;
 
 /// One less than the greatest threshold that settings may have, in pages.
 const BELOW_MAX_THRESHOLD: u128 = 65_535;

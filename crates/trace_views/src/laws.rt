@@ -6,9 +6,9 @@ ghost use Rattle.std.specs.Prelude.{◌≡◌, List, Option};
 ghost use Rattle.migration_model.specs.Sweeps.{SweepLine};
 ghost use Rattle.migration_model.specs.Touches.{GuestTouches};
 ghost use Rattle.trace_views.specs.Advice.{IsAdvice};
-ghost use Rattle.trace_views.specs.declared.budget.Advice.{Advice};
-ghost use Rattle.trace_views.specs.declared.budget.Budget.{Budget};
-ghost use Rattle.trace_views.specs.declared.view.Measured.{Measured};
+ghost use Rattle.trace_views.specs.declared.advice.Advice.{Advice};
+ghost use Rattle.view_kinds.specs.declared.budget.Budget.{Budget};
+ghost use Rattle.view_kinds.specs.declared.view.Measured.{Measured};
 
 /// One case is advised for a budget.
 pub fn one_advice()

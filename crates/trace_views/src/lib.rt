@@ -1,10 +1,10 @@
 //! Answers about a trace for people and for programs: reports and sweeps as JSON, advice for a budget, predictions.
-//! A view is one of these, or a report as tables or as a picture.
+//! A view is one of these, or a report as tables or as a picture; `view_kinds` has what may be asked.
 #![tactic(auto)]
 
+mod advice;
 mod advice_writing;
 mod agreement_document;
-mod budget;
 mod choosing;
 mod document;
 mod enough;
@@ -21,14 +21,14 @@ mod prediction_document;
 mod ranges_document;
 mod report_document;
 mod share_document;
+mod shown_text;
 mod starting;
 mod starts_document;
 mod sweep_document;
 mod sweeping;
-mod view;
 mod viewing;
 
-pub use budget::{Advice, Budget};
+pub use advice::Advice;
 pub use choosing::advise;
 pub use error::ViewError;
 pub use grid::Grid;
@@ -36,9 +36,7 @@ pub use laws::one_advice;
 pub use outlook::Outlook;
 pub use prediction_document::json_prediction;
 pub use report_document::json_report;
+pub use shown_text::ViewText;
 pub use starts_document::json_starts;
 pub use sweep_document::json_sweep;
-pub use view::{
-    AskedPrediction, AskedStarts, Measured, PredictionForm, StartsForm, View, ViewText,
-};
 pub use viewing::view_text;

@@ -3,7 +3,6 @@
 ghost use Rattle.std.specs.Prelude.{◌≡◌, IfOk, false, true};
 ghost use Rattle.trace_views.specs.Advice.{AreCaseErrors, KeepsDown, case_with, ends_within, is_likely_with};
 
-use crate::view::Measured;
 use guest_log::last_tick;
 use predictions::Cost;
 use predictions::redrawn::Errors;
@@ -11,6 +10,7 @@ use predictions::starts::{StartCost, is_likely};
 use std::alloc::{AllocError, Global};
 use sweep_report::Line;
 use trace_readers::TouchLog;
+use view_kinds::Measured;
 
 /// Returns the standard errors of a case, if they are known. The only error is that memory runs out. It costs as much
 /// as 20 plans if pages were sampled.

@@ -6,7 +6,6 @@ ghost use Rattle.trace_views.specs.Outlooks.{AreRangesOver, IsOutlook, trial_of}
 
 use crate::error::ViewError;
 use crate::sweeping::planned;
-use crate::view::AskedPrediction;
 use guest_log::last_tick;
 use predictions::Prediction;
 use predictions::agreement::Agreement;
@@ -19,6 +18,7 @@ use round_planner::plan;
 use std::alloc::Global;
 use std::thread::Threads;
 use trace_readers::TouchLog;
+use view_kinds::AskedPrediction;
 
 /// What is predicted of a migration.
 #[derive(Debug, Drop)]

@@ -9,7 +9,7 @@ use crate::enough::{is_sure, push_enough};
 use crate::error::ViewError;
 use crate::outlook::{Outlook, outlook_over};
 use crate::prediction_document::json_prediction;
-use crate::view::{AskedPrediction, PredictionForm, ViewText};
+use crate::shown_text::ViewText;
 use predictions::looks::push_forecast;
 use predictions::shares::push_share;
 use predictions::starts::push_ranges;
@@ -19,6 +19,7 @@ use rate_limit::Settings;
 use std::alloc::{AllocError, Global};
 use std::thread::Threads;
 use trace_readers::TouchLog;
+use view_kinds::{AskedPrediction, PredictionForm};
 
 /// Appends what the migration will be, beside the limit of its downtime, what comes of it if the hypervisor looks as
 /// QEMU does, its ranges over starts, the shares of its link, and what is enough for the limit.

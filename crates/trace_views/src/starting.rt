@@ -9,9 +9,9 @@ ghost use Rattle.trace_views.specs.StartViews.{AreStartsOf, IsStartsText, IsStar
 ghost use Rattle.trace_views.specs.StartViews.{kept_from};
 
 use crate::error::ViewError;
+use crate::shown_text::ViewText;
 use crate::starts_document::json_starts;
 use crate::sweeping::planned;
-use crate::view::{AskedStarts, StartsForm, ViewText};
 use guest_log::last_tick;
 use predictions::Verdict;
 use predictions::starts::{
@@ -21,6 +21,7 @@ use report_pictures::{Chosen, starts_chart};
 use std::alloc::Global;
 use std::thread::Threads;
 use trace_readers::TouchLog;
+use view_kinds::{AskedStarts, StartsForm};
 use working_sets::tables;
 
 /// What a migration costs from each start, and the best and the worst start.

@@ -8,28 +8,28 @@ ghost use Rattle.trace_views.specs.Views.{IsAdviceView, IsChartView, IsReportVie
 ghost use Rattle.trace_views.specs.Views.{RefusesView};
 
 use crate::advice_writing::{advice_head, push_choice};
-use crate::budget::Budget;
 use crate::choosing::advise;
 use crate::error::ViewError;
 use crate::grid::Grid;
 use crate::likely::case_errors;
 use crate::predicting::prediction_view;
 use crate::report_document::json_report;
+use crate::shown_text::ViewText;
 use crate::starting::starts_view;
 use crate::sweep_document::json_sweep;
 use crate::sweeping::planned;
-use crate::view::{Measured, View, ViewText};
 use guest_log::last_tick;
 use predictions::redrawn::Errors;
 use predictions::units::Scale;
 use predictions::{Cost, Verdict};
 use rate_limit::Settings;
-use report_pictures::{Style, measured_screen, report_chart, report_screen};
+use report_pictures::{measured_screen, report_chart, report_screen};
 use round_planner::{Plan, plan};
 use std::alloc::{AllocError, Global};
 use std::thread::Threads;
 use sweep_report::Line;
 use trace_readers::TouchLog;
+use view_kinds::{Budget, Measured, Style, View};
 use working_sets::{Tables, tables};
 
 /// Returns the report on a log as a JSON document.

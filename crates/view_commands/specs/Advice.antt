@@ -9,8 +9,8 @@ use Rattle.job_commands.specs.declared.command.WordsRefusal.TheVariants as refus
 use Rattle.migration_model.specs.Rates.{MigrationSettings}
 use Rattle.rate_limit.specs.Refusals.{refusal_of}
 use Rattle.rate_limit.specs.declared.error.SettingsError.{SettingsError}
-use Rattle.trace_views.specs.declared.budget.Budget.{Budget}
-use Rattle.trace_views.specs.declared.view.Measured.{Measured}
+use Rattle.view_kinds.specs.declared.budget.Budget.{Budget}
+use Rattle.view_kinds.specs.declared.view.Measured.{Measured}
 use Rattle.view_commands.specs.Measures.{AsksForMeasure, IsThere, RefusesMeasure}
 use Rattle.view_commands.specs.Units.{HasNoUnits}
 use Rattle.view_commands.specs.declared.limits.LimitsRefusal.{LimitsRefusal}

@@ -8,9 +8,9 @@ use Rattle.job_commands.specs.Options.{IsFlag, Says}
 use Rattle.job_commands.specs.declared.command.WordsError.TheVariants as errors
 use Rattle.migration_model.specs.Rates.{MigrationSettings}
 use Rattle.predictions.specs.declared.starts.cases.Starts.{Starts}
-use Rattle.trace_views.specs.declared.view.AskedStarts.{AskedStarts}
-use Rattle.trace_views.specs.declared.view.StartsForm.{StartsForm}
-use Rattle.trace_views.specs.declared.view.StartsForm.TheVariants as forms
+use Rattle.view_kinds.specs.declared.view.AskedStarts.{AskedStarts}
+use Rattle.view_kinds.specs.declared.view.StartsForm.{StartsForm}
+use Rattle.view_kinds.specs.declared.view.StartsForm.TheVariants as forms
 use Rattle.view_commands.specs.Measures.{AsksForMeasure, RefusesMeasure}
 use Rattle.view_commands.specs.declared.limits.LimitsRefusal.TheVariants as refused
 use Rattle.view_commands.specs.Lacks.{LacksLimits}

@@ -2,7 +2,7 @@
 use Rattle.std.specs.Prelude.{◌<◌, ◌≤◌, ◌⊎◌, ℕ, List, codes}
 use Rattle.clap.specs.Walk.{Row}
 use Rattle.job_commands.specs.Options.{IsFlag, IsGiven}
-use Rattle.report_pictures.specs.declared.table.Style.{Style}
+use Rattle.view_kinds.specs.declared.style.Style.{Style}
 
 -- a width of a terminal's line
 abbrev pub IsWidth : ℕ → Type 0

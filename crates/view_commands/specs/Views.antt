@@ -11,12 +11,12 @@ use Rattle.job_commands.specs.declared.command.WordsError.{WordsError}
 use Rattle.job_commands.specs.declared.command.WordsError.TheVariants as errors
 use Rattle.predictions.specs.Units.Scales.{TraceScale}
 use Rattle.predictions.specs.declared.units.limits.Limits.{Limits}
-use Rattle.trace_views.specs.declared.view.AskedPrediction.{AskedPrediction}
-use Rattle.trace_views.specs.declared.view.PredictionForm.{PredictionForm}
-use Rattle.trace_views.specs.declared.view.PredictionForm.TheVariants as predictions
-use Rattle.trace_views.specs.declared.view.StartsForm.TheVariants as forms
-use Rattle.trace_views.specs.declared.view.View.{View}
-use Rattle.trace_views.specs.declared.view.View.TheVariants as views
+use Rattle.view_kinds.specs.declared.view.AskedPrediction.{AskedPrediction}
+use Rattle.view_kinds.specs.declared.view.PredictionForm.{PredictionForm}
+use Rattle.view_kinds.specs.declared.view.PredictionForm.TheVariants as predictions
+use Rattle.view_kinds.specs.declared.view.StartsForm.TheVariants as forms
+use Rattle.view_kinds.specs.declared.view.View.{View}
+use Rattle.view_kinds.specs.declared.view.View.TheVariants as views
 use Rattle.view_commands.specs.Measures.{AsksForMeasure, AsksForScale, RefusesMeasure, RefusesScaleWords}
 use Rattle.view_commands.specs.declared.limits.LimitsRefusal.TheVariants as refused
 use Rattle.view_commands.specs.Advice.{AsksForAdvice, RefusesAdvice}

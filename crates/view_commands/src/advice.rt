@@ -17,7 +17,7 @@ use clap::ArgMatches;
 use job_commands::{WordsError, WordsRefusal, number_given};
 use predictions::units::{Limits, Scale};
 use rate_limit::Settings;
-use trace_views::{Budget, Measured, View};
+use view_kinds::{Budget, Measured, View};
 
 /// Returns the advice that options in ticks and pages ask for.
 fn advice_in_ticks(options: &ArgMatches) -> Result<AskedView, ViewWordsError>

@@ -29,7 +29,7 @@ use job_commands::{
 };
 use predictions::units::{Limits, Scale};
 use std::alloc::{AllocError, Global};
-use trace_views::{AskedPrediction, AskedStarts, PredictionForm, StartsForm, View};
+use view_kinds::{AskedPrediction, AskedStarts, PredictionForm, StartsForm, View};
 
 /// Why words make no view.
 #[derive(Debug, Drop)]

@@ -11,8 +11,8 @@ use crate::limits::with_units;
 use clap::{ArgMatches, Command};
 use job_commands::{flag, is_flag, number, number_or, sweep_options, with_report, with_sweep};
 use rate_limit::{Asked, Settings, SettingsError};
-use report_pictures::Style;
 use std::alloc::{AllocError, Global};
+use view_kinds::Style;
 
 /// Returns the command with the options of advice.
 pub(crate) fn with_budget<'a>(

@@ -15,7 +15,7 @@ use job_commands::{Number, flag, is_flag, number_given, with_numbers};
 use predictions::starts::Starts;
 use predictions::units::{Limits, Scale};
 use std::alloc::{AllocError, Global};
-use trace_views::{AskedStarts, StartsForm};
+use view_kinds::{AskedStarts, StartsForm};
 
 /// The first tick that can no longer be a start, `2^40`.
 const START_LIMIT: u64 = 1 << 40;

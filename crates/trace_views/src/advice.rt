@@ -1,15 +1,6 @@
-//! What a migration may cost, and what is advised for it.
+//! What is advised for a budget.
 
 use predictions::Verdict;
-
-/// What a migration may cost.
-#[derive(Clone, Copy, Debug, PartialEq, Eq)]
-pub struct Budget {
-    /// The most downtime, in ticks.
-    pub down: u64,
-    /// The most pages sent, over all rounds and after the stop; none if any number will do.
-    pub total: Option<u64>,
-}
 
 /// The advice for some cases, which are named by their numbers from 0. All but the last speak of those cases that end
 /// within the trace.

@@ -1,11 +1,10 @@
 //! What can be shown about a trace.
 
 use crate::budget::Budget;
-use predictions::Verdict;
+use crate::style::Style;
 use predictions::starts::Starts;
 use predictions::units::{Limits, Scale};
 use rate_limit::Settings;
-use report_pictures::Style;
 
 /// How starts are shown.
 #[derive(Clone, Copy, Debug, PartialEq, Eq)]
@@ -102,14 +101,4 @@ pub enum View {
     Predict(AskedPrediction),
     /// What the same migration costs from each of some starts, and which is the best.
     When(AskedStarts),
-}
-
-/// A view as a text.
-#[derive(Drop)]
-pub struct ViewText {
-    /// The text.
-    pub text: Vec<u8>,
-    /// Whether the limit is kept: that of a prediction, or from the best of some starts; of advice whether it is known.
-    /// A view without limit keeps it.
-    pub kept: Verdict,
 }
