@@ -87,9 +87,7 @@ fn takes_the_least_downtime_where_no_case_keeps_it(rt: HostRuntime) {
 fn takes_no_case_that_ends_after_the_trace(rt: HostRuntime) {
     let mut mixed = cases(&rt, rt.alloc(), 2501, &[(0, 6), (100, 6)]);
     let unknown = advised(&rt, rt.alloc(), &mixed, 500, None);
-    mixed
-        .push(case(&rt, 2500, 300, 8))
-        .expect(&rt, "memory");
+    mixed.push(case(&rt, 2500, 300, 8)).expect(&rt, "memory");
     let found = [
         unknown,
         advised(&rt, rt.alloc(), &mixed, 500, None),

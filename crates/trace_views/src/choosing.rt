@@ -115,7 +115,11 @@ fn with_known(log: &TouchLog, lines: &[Line], found: Option<usize>, number: usiz
     if !is_nearer_than(lines, line, found) {
         return found;
     }
-    if ends_within(log, line) { Some(number) } else { found }
+    if ends_within(log, line) {
+        Some(number)
+    } else {
+        found
+    }
 }
 
 /// Returns the case with the least downtime of those that end within a log, the first of equals, if one does.

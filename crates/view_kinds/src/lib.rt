@@ -7,6 +7,4 @@ mod view;
 
 pub use budget::Budget;
 pub use style::Style;
-pub use view::{
-    AskedPrediction, AskedStarts, Measured, PredictionForm, StartsForm, View,
-};
+pub use view::{AskedPrediction, AskedStarts, Measured, PredictionForm, StartsForm, View};
