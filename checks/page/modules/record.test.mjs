@@ -12,7 +12,8 @@ const read = (more) => recordIn(JSON.stringify({ ...FIELDS, ...more }), TRACE);
 
 test("a record says what ticks, pages and the start stand for", () => {
   const record = read({});
-  assert.deepEqual(record, { tick: 1_000, start: 10, sample: { part: 1_000, whole: 1 << 21 }, doubt: "" });
+  const sample = { part: 1_000, whole: 1 << 21 };
+  assert.deepEqual(record, { tick: 1_000, start: 10, sample, doubt: "", still: "" });
   const settings = { tick: { amount: 1_000 }, sample: { part: 1_000, whole: 1 << 21 }, start: 5_000 };
   assert.deepEqual(differencesFrom(record, settings), []);
   const others = { tick: { amount: 2 }, sample: null, start: 0 };
@@ -37,6 +38,17 @@ test("fields that do not go together are refused by their names", () => {
     const isRight = (error) => error instanceof RecordRefusal && error.field === name;
     assert.throws(() => read({ [name]: value }), isRight, name);
   }
+  for (const share of [-0.1, 1.1, "1", null]) {
+    assert.throws(() => read({ ran_share: share }), /\u201cran_share\u201d has a value that it cannot have/);
+  }
   assert.throws(() => recordIn(null, TRACE), /too long/);
   assert.throws(() => recordIn("{", TRACE), /no JSON/);
+});
+
+test("a guest that ran for less than 99 per cent of the recording stood still", () => {
+  for (const share of [0.99, 0.995, 1]) {
+    assert.equal(read({ ran_share: share }).still, "");
+  }
+  assert.equal(read({ ran_share: 0.9 }).still, "The guest stood still for 10.0 % of the recording.");
+  assert.equal(read({ ran_share: 0 }).still, "The guest stood still for 100.0 % of the recording.");
 });
