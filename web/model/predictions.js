@@ -44,7 +44,7 @@ export async function predictionOf(guest, state) {
   const { rows, ...answer } = await guest.predict(question);
   const { reason, stop, down, total, left } = answer;
   return {
-    state, question, settings, scale: scaleOf(state, sizes), limits: limitsOf(state),
+    state, question, settings, scale: scaleOf(state, sizes), limits: limitsOf(state), last: sizes.last,
     plan: { rounds: rows, reason, stop, down, total, left }, cost: costIn(answer),
   };
 }
@@ -57,6 +57,11 @@ export function isGood({ kept, converges }) {
 /** Whether the trace ends before the migration does, so that nothing is known of it. */
 export function isUnknown({ cost }) {
   return cost.kept === "unknown";
+}
+
+/** Whether a migration begins after the last tick of its trace. */
+export function beginsLate({ settings, last }) {
+  return settings.start > last;
 }
 
 /** Whether nothing that is told of a migration is sure. */

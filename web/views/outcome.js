@@ -8,7 +8,7 @@ import {
   bytesText, counted, countOf, errorTimeText, momentText, pagesText, signed, timeText, unbroken,
 } from "../model/numbers.js";
 import {
-  endingOf, isGood, isUncertain, isUnknown, keptWords, reasonWords, warningsOf,
+  beginsLate, endingOf, isGood, isUncertain, isUnknown, keptWords, reasonWords, warningsOf,
 } from "../model/predictions.js";
 import { WorkerEnded } from "../engine/planner-client.js";
 import { Refusal } from "../engine/planner.js";
@@ -57,12 +57,21 @@ const ROWS = [
     text: momentText, more: (some) => tickWords(some, `tick ${counted(some.plan.stop)}`) },
 ];
 
+/** The verdict on a migration that ends after its trace. */
+function unknownVerdict(prediction) {
+  const { cost, last, scale } = prediction;
+  if (beginsLate(prediction)) {
+    return `The trace has ${unbroken(timeText(microsOf(scale, last)))}; it ends before the start.`;
+  }
+  const least = cost.recorded > 0n ? `, which takes more than ${unbroken(timeText(cost.recorded))}` : "";
+  return `The trace ends before the migration does${least}: record longer.`;
+}
+
 /** The verdict on a prediction, in a line. */
 export function verdictOf(prediction) {
   const { cost, limits } = prediction;
   if (isUnknown(prediction)) {
-    const least = cost.recorded > 0n ? `, which takes more than ${unbroken(timeText(cost.recorded))}` : "";
-    return `The trace ends before the migration does${least}: record longer.`;
+    return unknownVerdict(prediction);
   }
   const [down, limit] = [cost.downtime, limits.downtime].map((micros) => unbroken(timeText(micros)));
   if (isUncertain(prediction)) {
@@ -104,7 +113,7 @@ function headlineWords(prediction) {
   const { cost } = prediction;
   if (isUnknown(prediction)) {
     return cost.recorded > 0n ? `Longer than the trace: more than ${briefTime(cost.recorded)}`
-      : "The trace ends at the start";
+      : `The trace ends ${beginsLate(prediction) ? "before" : "at"} the start`;
   }
   return `${pauseWords(prediction)}, ${briefTime(cost.time)}, ${briefBytes(cost.bytes)}:`;
 }

@@ -46,3 +46,10 @@ test("over a guest that stood still nothing is offered as enough, nor asked for"
   const { isUncertain, isKept, link, downtime, speed, ways, offers } = late.remediesOf(still, prediction);
   assert.deepEqual([isUncertain, isKept, link, downtime, speed, ways, offers], [true, false, null, null, null, [], {}]);
 });
+
+test("of a start after the trace is said that the trace ends before it", () => {
+  const cost = { kept: "unknown", recorded: 0n };
+  const verdict = (start) => verdictOf({ cost, settings: { start }, last: 2_399, scale: { tick: 1_000n } });
+  assert.equal(verdict(2_399), "The trace ends before the migration does: record longer.");
+  assert.equal(verdict(2_400).replaceAll("\u00a0", " "), "The trace has 2.399 s; it ends before the start.");
+});
