@@ -6,7 +6,7 @@ const FORMAT = "precopy sample 1";
 const METHODS = ["writes", "values", "trace"];
 
 /** What records of earlier versions do not tell. */
-const OPTIONAL = ["ran_share"];
+export const OPTIONAL = ["ran_share"];
 
 /** A guest that ran for less of the time than this was not recorded as it is. */
 const LEAST_SHARE = 0.99;
@@ -27,7 +27,7 @@ function isCount(value, least) {
 }
 
 /** What each field that the page reads must be. */
-const FIELDS = {
+export const FIELDS = {
   format: (value) => value === FORMAT,
   trace_sha256: (value) => /^[0-9a-f]{64}$/.test(value),
   trace_pages: (value) => isCount(value, 1),
