@@ -22,6 +22,7 @@ part is tried: `node`, `firefox`, or in Chromium `numbers`, `starts`, `damages`,
 
 import copy
 import functools
+import html
 import json
 import os
 import re
@@ -44,6 +45,7 @@ from checks.page.node import node_command, put_web
 from checks.page.shown import COLLECTOR, Page, tried
 from checks.view.limit_cases import Known
 from checks.view.quantity_cases import amounts, quantities, texts_of
+from precopy_dev.packaging import notices
 
 MOST_MODULE, MOST_PAGE = 65_536, 400_000
 VIEW = os.path.join(TOP, "crates", "precopy_view", "out", "precopy_view")
@@ -80,7 +82,11 @@ def check_sizes(tally, folder, module, page):
     tally.add(sizes[module] < MOST_MODULE, f"the module has {sizes[module]} bytes")
     tally.add(sizes[page] < MOST_PAGE, f"the page has {sizes[page]} bytes")
     with open(page, "rb") as file, open(os.path.join(folder, "again.html"), "rb") as again:
-        tally.add(file.read() == again.read(), "the same sources give two pages")
+        text = file.read()
+        tally.add(text == again.read(), "the same sources give two pages")
+    told = re.search('<pre id="notices">(.*?)</pre>', text.decode(), re.DOTALL)
+    wanted = notices.notices(notices.PLANNER)
+    tally.add(told and html.unescape(told[1]) == wanted, "the page has not the notices of its libraries")
 
 
 def node_settings(asked):

@@ -308,6 +308,8 @@ def warnings(asked, report):
 def verdict(asked, report):
     """Words of the verdict."""
     found = figures(asked, report)
+    if asked.start > asked.known.last:
+        return f"The trace has {time_text(asked.known.last * asked.tick)}; it ends before the start."
     if found["kept"] == "unknown":
         least = f", which takes more than {time_text(found['recorded'])}" * (found["recorded"] > 0)
         return f"The trace ends before the migration does{least}: record longer."

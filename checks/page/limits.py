@@ -77,6 +77,21 @@ def check_ways(page):
                 )
 
 
+def check_late_start(page):
+    """Of a start after the last tick of the trace is said that the trace ends before it, and how long it is; a longer
+    one is asked for where the trace has the start."""
+    last = 2_399
+    for start, said, line in (
+        (last, "The trace ends before the migration does: record longer.", "The trace ends at the start"),
+        (last + 1, "The trace has 2.399 s; it ends before the start.", "The trace ends before the start"),
+        (999_999, "The trace has 2.399 s; it ends before the start.", "The trace ends before the start"),
+    ):
+        verdict = page.ask(f"trace=gzip&link=8MiB&downtime=4ms&start={start}")["verdict"].replace("\u00a0", " ")
+        expect(said in verdict and f"{line} Unknown" in verdict, f"start {start}: {verdict}")
+        note = page.browser.value("textOf('rounds-note')")
+        expect(note.startswith(f"{line}. "), f"start {start}: {note}")
+
+
 def check_doubtful(page):
     """The best start is told with the standard error of its downtime, and that it may miss the limit if it may. Of a
     limit that some start is likely to keep, the best does."""

@@ -12,6 +12,7 @@ from checks.page import first, focus, shapes
 from checks.page.acts import typed
 from checks.page.browser import WIDER_THAN_PHONES
 from checks.page.cases import example
+from precopy_dev.packaging import notices
 
 WIDTHS = [360, 800, 1400, 1920]
 LEAST_CONTRAST = 4.5
@@ -332,6 +333,25 @@ def check_stillness(page):
         expect((seconds == 0) == is_still, f"{seconds} s of a transition, still {is_still}")
 
 
+def check_licences(page):
+    """The notices of the libraries whose code the page holds are at its foot: closed until they are asked for, and not
+    on paper."""
+    browser = page.browser
+    open_example(page)
+    seen = "document.getElementById('notices').checkVisibility({ visibilityProperty: true })"
+    expect(not browser.value(seen), "the notices are shown before they are asked for")
+    foot = "document.querySelector('footer').lastElementChild.id"
+    expect(browser.value(foot) == "licences", f"the last part of the foot is {browser.value(foot)!r}")
+    browser.value("document.querySelector('#licences summary').click()")
+    expect(browser.value(seen), "the notices are not shown where they are asked for")
+    said, wanted = browser.value("textOf('notices')"), notices.notices(notices.PLANNER).strip()
+    expect(said == wanted, f"the notices are {said[:300]!r} in place of {wanted[:300]!r}")
+    browser.call("Emulation.setEmulatedMedia", media="print")
+    is_printed = browser.value(seen)
+    browser.call("Emulation.setEmulatedMedia", media="")
+    expect(not is_printed, "the notices are printed")
+
+
 LOOKS = {
     "stillness": check_stillness,
     "the first look": first.check_first_look,
@@ -345,6 +365,7 @@ LOOKS = {
     "fingers": focus.check_fingers,
     "forced colours": focus.check_forced_colours,
     "old browser": check_old_browser,
+    "licences": check_licences,
 }
 
 

@@ -7,6 +7,8 @@ from checks.lib.tally import expect
 from checks.page import shapes
 from checks.page.acts import read
 from checks.page.cases import example
+from checks.page.first import MOST_WORDS, WORDS
+from checks.page.limits import ALSO
 from checks.page.shown import tried
 
 VALUES = (
@@ -159,12 +161,49 @@ def check_doubts(page):
     expect("2 writes in 23\u00a0h\u00a059\u00a0min" in said, said)
 
 
+MARK = "(({ className, textContent }) => [className, textContent])(document.querySelector('#headline .mark'))"
+TAKES = "document.querySelectorAll('[data-takes]').length"
+STILL = "Enough for the limit: uncertain, since the guest stood still while it was recorded."
+
+
+def check_still(page):
+    """Of a guest that stood still while it was recorded the line of the trace says for how long, the verdict is
+    uncertain, and nothing is offered as enough, in few words; one that ran for 99 per cent of the time has a
+    verdict."""
+    trace, record = (text for _, text in guest_with_record())
+    page.open("#link=1Gbit&downtime=300ms")
+    page.drop(("a.pcwt", trace), ("a.json", record))
+    for share, told in ((0.5, "50.0 %"), (0.99, ""), (0, "100.0 %"), (1, "")):
+        said = page.drop(("a.json", json.dumps({**json.loads(record), "ran_share": share}).encode()))
+        expect(("a.json: The guest stood still for " in said) == bool(told) and told in said, f"{share}: {said}")
+        enough, found = page.enough(), page.shown()
+        page.rest()
+        mark = ["mark", "Uncertain"] if told else ["mark good", "Keeps the limit"]
+        expect(page.browser.value(MARK) == mark, f"{share}: {page.browser.value(MARK)}")
+        expect(("It is uncertain whether it converges" in found["verdict"]) == bool(told), found["verdict"])
+        expect(("uncertain" in found["comparison"]["downtime"][1]) == bool(told), f"{share}: {found['comparison']}")
+        expect(enough == [STILL] if told else enough[0] == ALSO, f"{share}: {enough}")
+        expect((page.browser.value(TAKES) == 0) == bool(told), f"{share}: {enough}")
+        like = page.browser.value("textOf('like-qemu')")
+        expect(like.endswith("uncertain") == bool(told) and like.startswith("Like"), f"{share}: {like!r}")
+        bar = page.browser.value("document.querySelector('#limit-bar .unsure') !== null")
+        expect(bar == bool(told), f"{share}: the bar of the limit is {'' if bar else 'not '}unsure")
+        page.browser.dress(1280, 900)
+        page.rest()
+        words = page.browser.value(WORDS)
+        page.browser.dress(1400, 900)
+        expect(len(words) <= MOST_WORDS, f"{share}: {len(words)} words above the fold: {' '.join(words)}")
+    said = page.drop(("b.json", json.dumps({**json.loads(record), "ran_share": 1.5}).encode()))
+    expect("b.json is not used: " in said and "\u201cran_share\u201d" in said, said)
+
+
 RECORDS = {
     "records": check_records,
     "a record and an address": check_addressed,
     "a record and an address of its trace": check_own_address,
     "limits that were fitted": check_fitted,
     "doubts of a record": check_doubts,
+    "a guest that stood still": check_still,
 }
 
 

@@ -382,6 +382,7 @@ USES = {
     "back": check_back,
     "limits": limits.check_limits,
     "ways out": limits.check_ways,
+    "a start after the trace": limits.check_late_start,
     "like QEMU": forecasts.check_forecasts,
     "links": links.check_links,
     "curves of links": links.check_curves,

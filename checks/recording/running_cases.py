@@ -23,6 +23,8 @@ from precopy_tools.record import series
 LAYOUT = {"nodes": [["a", "private", 600], ["b", "memfd", 500]], "code": 5000}
 # A record of drawn pages, with its NAME.json.
 RECORDED = os.path.join(TOP, "examples", "guests", "sqlite.light.pcwt")
+# Values of all kinds, with which each field of such a file is tried; also by checks/page.
+VALUES = os.path.join(TOP, "checks", "recording", "field_values.json")
 UNIT = "precopy-record@.service"
 SYSTEMD = "/lib/systemd/systemd"
 
@@ -218,13 +220,15 @@ def schema_of_records(_, folder):
     """The published schema of NAME.json takes what the reader takes, and refuses what it refuses field by field."""
     with open(os.path.join(TOP, "docs", "record.schema.json"), encoding="utf-8") as file:
         schema = json.load(file)
+    with open(VALUES, encoding="utf-8") as file:
+        values = json.load(file)
     fields = {**sample_in(RECORDED), "ran_share": 0.5}
     expect(list(schema["properties"]) == list(samples.FIELDS), f"{list(schema['properties'])}")
     expect(set(schema["required"]) == set(samples.FIELDS) - samples.OPTIONAL, f"{schema['required']}")
     check = module("jsonschema").Draft202012Validator(schema)
     expect(check.is_valid(fields), "a record is refused")
     for name in fields:
-        for value in (None, [], {}, True, "", "x", "x" * 64, -1, 0, 1, 1.5, 2.5, 1 << 53, 1 << 60, 1e9):
+        for value in values:
             holds = samples.FIELDS[name][1](value)
             found = check.is_valid({**fields, name: value})
             # The schema knows texts, and not which of them is a moment; and for it 1.0 is a whole number.

@@ -5,14 +5,15 @@
 MODULE is the WebAssembly module of the proved planner, and PAGE the file to write. The rest comes from web/ and
 examples/ of this repository. The scripts follow one another in the order of their imports, as one script; so no two of
 them may name something alike. Comments on lines of their own stay out. Module and examples are gzipped, in base64; of
-an example each write has one byte, which plans as the whole does. The page's policy names the script and the style by
-their hashes, and allows no connection. The same inputs give the same bytes. The status is 0 if the page was written,
-and 1 if not.
+an example each write has one byte, which plans as the whole does. The notices of the libraries whose code the module
+holds are at the page's foot. The page's policy names the script and the style by their hashes, and allows no
+connection. The same inputs give the same bytes. The status is 0 if the page was written, and 1 if not.
 """
 
 import base64
 import gzip
 import hashlib
+import html
 import os
 import posixpath
 import re
@@ -30,6 +31,8 @@ NAMED = re.compile(r"^(export )?(?:async )?(?:function\*?|class|const|let) (\w+)
 # The page, its pictures, and the page on paper.
 STYLES = ["style/page.css", "style/pictures.css", "style/paper.css"]
 COMMENT = re.compile(r"^[ \t]*(?:/\*.*?\*/|//[^\n]*)\n", re.MULTILINE | re.DOTALL)
+# Where the page has the notices of libraries.
+NOTICES = '<pre id="notices"></pre>'
 # What a page that opens no connection has no use for.
 CALLS = r"\b(fetch|XMLHttpRequest|WebSocket|EventSource|sendBeacon|importScripts|RTCPeerConnection|import\()"
 FORBIDDEN = re.compile(CALLS + r"|https?://(?!www\.w3\.org/)")
@@ -104,8 +107,8 @@ def page_of(module):
     page = replaced(page, links, f"<style>{style}</style>")
     program = f'<script type="module" id="program">{script}</script>'
     page = replaced(page, '<script type="module" src="page.js"></script>', "".join(holders) + program)
-    # A comment of HTML has no two dashes in a row.
-    return f"{page}<!--\n{notices.notices(notices.PLANNER).replace('--', '- -')}-->\n"
+    told = html.escape(notices.notices(notices.PLANNER), quote=False)
+    return replaced(page, NOTICES, NOTICES.replace("></", f">{told}</"))
 
 
 def main(words):

@@ -4,7 +4,7 @@
 
 import { fewDigitsOffers } from "../model/offers.js";
 import { PlannerClient, WorkerEnded } from "./planner-client.js";
-import { isGood, isUnknown } from "../model/predictions.js";
+import { answerOver, isGood, isUnknown, remediesOver } from "../model/predictions.js";
 import { Refusal } from "./planner.js";
 import { firstWay, waysOf } from "../model/ways.js";
 
@@ -42,7 +42,8 @@ export class LateAnswers {
     const ask = (kind, { question }) => ({ kind, trace, question, key: lateKey(kind, trace, question) });
     const errors = predictions.filter(mayHaveErrors).map((some) => ask("errors", some));
     const forecast = prediction ? [ask("forecast", prediction)] : [];
-    const remedies = prediction ? [ask("remedies", prediction)] : [];
+    const isOpen = prediction && this.leastOf(trace, prediction) === undefined;
+    const remedies = isOpen ? [ask("remedies", prediction)] : [];
     const offers = prediction ? this.offersOf(trace, prediction).map((some) => ask("predict", some)) : [];
     const ways = prediction ? Object.values(this.waysOf(trace, prediction)) : [];
     const asked = ways.filter((way) => way.ask).map((way) => ask("predict", way.ask));
@@ -61,17 +62,17 @@ export class LateAnswers {
 
   /** What comes of a prediction like QEMU: null if there is no answer, and undefined if it is still to come. */
   forecastOf(trace, prediction) {
-    return this.known.get(lateKey("forecast", trace, prediction.question));
+    return answerOver(trace, this.known.get(lateKey("forecast", trace, prediction.question)));
   }
 
   /** What keeps the limit of a prediction: null if there is no answer, and undefined if it is still to come. */
   leastOf(trace, prediction) {
-    return this.known.get(lateKey("remedies", trace, prediction.question));
+    return remediesOver(trace, this.known.get(lateKey("remedies", trace, prediction.question)));
   }
 
   /** The answer to a question: null if there is none, and undefined if it is still to come. */
   answerTo(trace, question) {
-    return this.known.get(lateKey("predict", trace, question));
+    return answerOver(trace, this.known.get(lateKey("predict", trace, question)));
   }
 
   /** The ways out of a prediction that ends after the trace: each is found, or to be asked for. */

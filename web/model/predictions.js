@@ -10,7 +10,29 @@ import { limitsOf, RATE_UNITS, scaleOf, TIME_UNITS } from "./units.js";
 /** If fewer pages than these are left, chance moves the downtime by more than a tenth. */
 const MANY_PAGES = 100;
 
-/** What a migration costs by an answer, in microseconds and bytes, and the verdicts: `yes`, `no` or `unknown`. */
+/** What keeps a limit where nothing is sure: nothing is offered. */
+const NOTHING_SURE = {
+  isUncertain: true, isKept: false, ends: true, link: null, downtime: null, speed: null, endingLink: null,
+  endingStart: null,
+};
+
+/** Whether no verdict over a trace is sure: its guest stood still while it was recorded. */
+function isUnsure({ record }) {
+  return Boolean(record?.still);
+}
+
+/** An answer over a trace. Where none is sure its verdicts are `uncertain`, but for what is unknown in any case. */
+export function answerOver(trace, answer) {
+  return answer && isUnsure(trace) && answer.kept !== "unknown"
+    ? { ...answer, converges: "uncertain", kept: "uncertain" } : answer;
+}
+
+/** What keeps a limit over a trace, by the module's answer: undefined while that is still to come. */
+export function remediesOver(trace, remedies) {
+  return isUnsure(trace) ? NOTHING_SURE : remedies;
+}
+
+/** What a migration costs by an answer, in microseconds and bytes, and the verdicts. */
 export function costIn({ time, bytes, downtime, recorded, converges, kept }) {
   return { time, bytes, downtime, recorded, converges, kept };
 }
@@ -22,7 +44,7 @@ export async function predictionOf(guest, state) {
   const { rows, ...answer } = await guest.predict(question);
   const { reason, stop, down, total, left } = answer;
   return {
-    state, question, settings, scale: scaleOf(state, sizes), limits: limitsOf(state),
+    state, question, settings, scale: scaleOf(state, sizes), limits: limitsOf(state), last: sizes.last,
     plan: { rounds: rows, reason, stop, down, total, left }, cost: costIn(answer),
   };
 }
@@ -37,9 +59,19 @@ export function isUnknown({ cost }) {
   return cost.kept === "unknown";
 }
 
+/** Whether a migration begins after the last tick of its trace. */
+export function beginsLate({ settings, last }) {
+  return settings.start > last;
+}
+
+/** Whether nothing that is told of a migration is sure. */
+export function isUncertain({ cost }) {
+  return cost.kept === "uncertain";
+}
+
 /** Whether the limit is kept, in words. */
 export function keptWords({ kept }) {
-  return { yes: "kept", no: "not kept", unknown: "unknown" }[kept];
+  return { yes: "kept", no: "not kept", unknown: "unknown", uncertain: "uncertain" }[kept];
 }
 
 /** Why pre-copy ends, in words. */

@@ -5,6 +5,12 @@ import { counted, countOf } from "./numbers.js";
 const FORMAT = "precopy sample 1";
 const METHODS = ["writes", "values", "trace"];
 
+/** What records of earlier versions do not tell. */
+export const OPTIONAL = ["ran_share"];
+
+/** A guest that ran for less of the time than this was not recorded as it is. */
+const LEAST_SHARE = 0.99;
+
 /** The longest of such a file, in bytes. */
 export const MOST_RECORD_BYTES = 65_536;
 
@@ -21,7 +27,7 @@ function isCount(value, least) {
 }
 
 /** What each field that the page reads must be. */
-const FIELDS = {
+export const FIELDS = {
   format: (value) => value === FORMAT,
   trace_sha256: (value) => /^[0-9a-f]{64}$/.test(value),
   trace_pages: (value) => isCount(value, 1),
@@ -36,6 +42,7 @@ const FIELDS = {
   sampled_pages: (value) => isCount(value, 1) && value <= 65_536,
   sampled_nonzero: (value) => isCount(value, 0),
   method: (value) => METHODS.includes(value),
+  ran_share: (value) => typeof value === "number" && value >= 0 && value <= 1,
 };
 
 /** What the fields of a record must be by the trace beside it, and by one another. */
@@ -74,10 +81,11 @@ function fieldsOf(text) {
     throw new RecordRefusal("JSON", "It is no JSON object.");
   }
   for (const [name, holds] of Object.entries(FIELDS)) {
-    if (!Object.hasOwn(fields, name)) {
+    const isGiven = Object.hasOwn(fields, name);
+    if (!isGiven && !OPTIONAL.includes(name)) {
       throw new RecordRefusal(name, `The field \u201c${name}\u201d is missing.`);
     }
-    if (!holds(fields[name])) {
+    if (isGiven && !holds(fields[name])) {
       throw new RecordRefusal(name, `The field \u201c${name}\u201d has a value that it cannot have.`);
     }
   }
@@ -110,6 +118,11 @@ function doubtOf({
     + `${counted(guest)} in the guest, are said to be not zero, which is unlikely.`;
 }
 
+/** For how much of a recording the guest stood still, in a sentence; nothing if it ran, or if that is not told. */
+function stillOf({ ran_share: share = 1 }) {
+  return share >= LEAST_SHARE ? "" : `The guest stood still for ${(100 * (1 - share)).toFixed(1)} % of the recording.`;
+}
+
 function isSameSample(one, other) {
   const wordOf = (some) => (some === null || some.part === some.whole ? "all" : `${some.part}/${some.whole}`);
   return wordOf(one) === wordOf(other);
@@ -135,5 +148,6 @@ export function recordIn(text, trace) {
     start: fields.first_tick,
     sample: sample.whole > sample.part ? sample : null,
     doubt: doubtOf(fields),
+    still: stillOf(fields),
   };
 }

@@ -9,6 +9,9 @@ const BAR_TOP = 24;
 const BAR_HEIGHT = 16;
 const SIDE = 6;
 
+/** The class of the bar, by whether the limit is kept. */
+const BARS = { yes: "kept", no: "missed", uncertain: "unsure" };
+
 /** How far the bar reaches beyond the greater of the limit and the downtime. */
 const BEYOND = 1.15;
 
@@ -32,7 +35,7 @@ export function limitBar(width, { cost, limits, errors }) {
   const words = briefTime(cost.downtime) + (error === 0 ? "" : ` \u00b1 ${briefTime(errors.downtime)}`);
   return pictureOf(width, HEIGHT, [
     area("track", SIDE, BAR_TOP, width - 2 * SIDE, BAR_HEIGHT),
-    area(cost.kept === "yes" ? "kept" : "missed", SIDE, BAR_TOP, Math.max(2, place(down) - SIDE), BAR_HEIGHT),
+    area(BARS[cost.kept], SIDE, BAR_TOP, Math.max(2, place(down) - SIDE), BAR_HEIGHT),
     ...whisker,
     area("halo", place(limit) - 2, BAR_TOP - 5, 4, BAR_HEIGHT + 10),
     area("limit", place(limit) - 1, BAR_TOP - 5, 2, BAR_HEIGHT + 10),

@@ -17,8 +17,14 @@ const SHORT_WORDS = { link: "link", downtime: "limit" };
 /** What the answer says of a migration that ends after the trace. */
 const UNKNOWN = "unknown, since the trace ends before the migration does.";
 
+/** What it says of a guest that stood still: no amount, since none is sure. */
+const UNCERTAIN = "uncertain, since the guest stood still while it was recorded.";
+
 /** What the answer says first. */
-function headOf({ isKept, ends, link, downtime, speed }) {
+function headOf({ isUncertain, isKept, ends, link, downtime, speed }) {
+  if (isUncertain) {
+    return UNCERTAIN;
+  }
   const isAlone = [link, downtime, speed].every((amount) => amount === null);
   if (!ends) {
     return `${UNKNOWN}${isAlone ? "" : " One of these, changed alone, is enough:"}`;

@@ -7,7 +7,9 @@ import { briefBytes, briefTime } from "../model/brief.js";
 import {
   bytesText, counted, countOf, errorTimeText, momentText, pagesText, signed, timeText, unbroken,
 } from "../model/numbers.js";
-import { endingOf, isGood, isUnknown, keptWords, reasonWords, warningsOf } from "../model/predictions.js";
+import {
+  beginsLate, endingOf, isGood, isUncertain, isUnknown, keptWords, reasonWords, warningsOf,
+} from "../model/predictions.js";
 import { WorkerEnded } from "../engine/planner-client.js";
 import { Refusal } from "../engine/planner.js";
 import { microsOf } from "../model/units.js";
@@ -55,15 +57,29 @@ const ROWS = [
     text: momentText, more: (some) => tickWords(some, `tick ${counted(some.plan.stop)}`) },
 ];
 
+/** The verdict on a migration that ends after its trace. */
+function unknownVerdict(prediction) {
+  const { cost, last, scale } = prediction;
+  if (beginsLate(prediction)) {
+    return `The trace has ${unbroken(timeText(microsOf(scale, last)))}; it ends before the start.`;
+  }
+  const least = cost.recorded > 0n ? `, which takes more than ${unbroken(timeText(cost.recorded))}` : "";
+  return `The trace ends before the migration does${least}: record longer.`;
+}
+
 /** The verdict on a prediction, in a line. */
 export function verdictOf(prediction) {
   const { cost, limits } = prediction;
   if (isUnknown(prediction)) {
-    const least = cost.recorded > 0n ? `, which takes more than ${unbroken(timeText(cost.recorded))}` : "";
-    return `The trace ends before the migration does${least}: record longer.`;
+    return unknownVerdict(prediction);
   }
-  return `${endingOf(prediction)} The guest stands still for ${unbroken(timeText(cost.downtime))}; the limit of `
-    + `${unbroken(timeText(limits.downtime))} ${cost.kept === "yes" ? "is kept" : "is not kept"}.`;
+  const [down, limit] = [cost.downtime, limits.downtime].map((micros) => unbroken(timeText(micros)));
+  if (isUncertain(prediction)) {
+    return "It is uncertain whether it converges and keeps the limit: while it was recorded, the guest stood still, "
+      + `and wrote nothing then. By the plan alone the downtime is ${down}; the limit is ${limit}.`;
+  }
+  return `${endingOf(prediction)} The guest stands still for ${down}; the limit of ${limit} `
+    + `${cost.kept === "yes" ? "is kept" : "is not kept"}.`;
 }
 
 /** The word for a prediction, and whether it is good, bad or neither. */
@@ -71,6 +87,9 @@ function verdictMark(prediction) {
   const { cost, plan } = prediction;
   if (isUnknown(prediction)) {
     return ["mark", "Unknown"];
+  }
+  if (isUncertain(prediction)) {
+    return ["mark", "Uncertain"];
   }
   if (plan.total === 0) {
     return ["mark", "Nothing to send"];
@@ -94,7 +113,7 @@ function headlineWords(prediction) {
   const { cost } = prediction;
   if (isUnknown(prediction)) {
     return cost.recorded > 0n ? `Longer than the trace: more than ${briefTime(cost.recorded)}`
-      : "The trace ends at the start";
+      : `The trace ends ${beginsLate(prediction) ? "before" : "at"} the start`;
   }
   return `${pauseWords(prediction)}, ${briefTime(cost.time)}, ${briefBytes(cost.bytes)}:`;
 }

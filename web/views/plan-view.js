@@ -12,7 +12,7 @@ import {
 } from "./outcome.js";
 import { WorkerEnded } from "../engine/planner-client.js";
 import { watchWidths, widthOf } from "./plot.js";
-import { forecastWords, isUnknown, keptWords } from "../model/predictions.js";
+import { beginsLate, forecastWords, isUnknown, keptWords } from "../model/predictions.js";
 import { quantityWords } from "../model/quantities.js";
 import { reachOf, roundsLook, roundsPicture } from "./rounds-chart.js";
 import { roundsFile, roundsTable } from "./tables.js";
@@ -136,8 +136,8 @@ export class PlanView {
     const plans = [["the start", this.last],
       ...kept.map(({ found }, place) => [`the start of kept plan ${place + 1}`, found.value])];
     const beyond = plans.filter(([, some]) => some && isUnknown(some));
-    const ends = beyond.map(([start, { cost }]) =>
-      (cost.recorded > 0n ? `${timeText(cost.recorded)} after ${start}` : `at ${start}`));
+    const ends = beyond.map(([start, some]) => (some.cost.recorded > 0n
+      ? `${timeText(some.cost.recorded)} after ${start}` : `${beginsLate(some) ? "before" : "at"} ${start}`));
     byId("rounds-note").hidden = ends.length === 0;
     if (ends.length > 0) {
       byId("rounds-note").textContent = `The trace ends ${ends.join(", ")}. What is drawn later is of a guest that `

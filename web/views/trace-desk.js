@@ -6,6 +6,7 @@ import { bytesText, counted, countOf, lengthText, unbroken } from "../model/numb
 import { refusalPart } from "./outcome.js";
 import { PlannerClient, WorkerEnded } from "../engine/planner-client.js";
 import { READ_FAULT, Refusal } from "../engine/planner.js";
+import { answerOver } from "../model/predictions.js";
 import { differencesFrom, MOST_RECORD_BYTES, recordIn, RecordRefusal } from "../model/record.js";
 import { exampleSource } from "../engine/trace-source.js";
 import { microsOf, scaleOf } from "../model/units.js";
@@ -53,8 +54,8 @@ class OpenTrace {
   }
 
   /** The answer to a question about the trace, with the rounds of its plan. */
-  predict(question) {
-    return this.ask("predict", { question });
+  async predict(question) {
+    return answerOver(this, await this.ask("predict", { question }));
   }
 
   /** How often pages are written over time, counted into a grid. */
@@ -72,9 +73,10 @@ class OpenTrace {
   }
 
   /** The answers to a question from each of some starts, and which are chosen; null if they were cancelled. */
-  starts(question, ticks, told) {
+  async starts(question, ticks, told) {
     const questions = ticks.map((start) => ({ ...question, start }));
-    return this.ask("answers", { questions }, told);
+    const found = await this.ask("answers", { questions }, told);
+    return found && { ...found, answers: found.answers.map((answer) => answerOver(this, answer)) };
   }
 
   cancelStarts() {
@@ -228,15 +230,16 @@ export class TraceDesk {
     performance.measure(isTaken ? "opened" : "refused", { start: 0, end: performance.now() });
   }
 
-  /** Reads a record for the open trace. Returns why it was refused, or what of it is unlikely. */
+  /** Reads a record for the open trace. Returns why it was refused, or what speaks against it. */
   recordNotes(record) {
     if (!record) {
       return [];
     }
     try {
       this.trace.record = recordIn(record.text, this.trace);
-      const { doubt } = this.trace.record;
-      return doubt ? [html("p", { class: "note" }, named(record.name), `: ${doubt}`)] : [];
+      const { doubt, still } = this.trace.record;
+      return [doubt, still].filter(Boolean)
+        .map((sentence) => html("p", { class: "note" }, named(record.name), `: ${sentence}`));
     } catch (error) {
       if (!(error instanceof RecordRefusal)) {
         throw error;
