@@ -215,8 +215,9 @@ pub fn live_run<W: WriteLog + Sync, G: Gate, R: Threads + Wait + Sync>(
         index,
         rounds,
     } = stopped;
-    let GuestImages { at_stop, at_end } =
-        GuestImages::new(alloc, &memory, trace, &index, &versions)?;
+    let GuestImages { at_stop, at_end } = GuestImages::new(
+        alloc, &memory, trace, &index, &versions,
+    )?;
     Ok(Live {
         at_stop,
         at_end,

@@ -8,7 +8,7 @@ returns g c =
       plan = stopped.plan;
       is_plan = stopped.is_plan;
       stop_is = stopped.stop_is;
-      at_stop_is = c.in_ok-new.ensures.at_stop ∙ stopped.at_stop_is;
+      at_stop_is = c.in_ok-at_stop.ensures.at_stop ∙ stopped.at_stop_is;
       at_end_is = search rules;
       law = stopped.law;
     }
