@@ -428,7 +428,7 @@ uint32_t precopy_agreement(const uint8_t *trace, size_t trace_length, const stru
  * limit is kept, the least link may be up to 124 bytes a second more than what is asked.
  */
 struct precopy_amounts {
-    uint64_t link;             /* the least link, in bytes a second, if has_link isn't 0 */
+    uint64_t link;             /* the least link, in bytes a second, a multiple of 125, if has_link isn't 0 */
     uint64_t downtime;         /* the least downtime, in microseconds, if has_downtime isn't 0 */
     uint64_t speed;            /* to how many per cent of its speed the guest is slowed, if has_speed isn't 0 */
     uint64_t ending_link;      /* the least link that ends the migration within the trace, if has_ending_link isn't 0 */

@@ -1,11 +1,12 @@
 """Tries the tests: they pass on this code, and on a wrong body that only tests refuse exactly those fail that it names.
 
-    checks/run bodies [--list] [--seconds N] [WORD ...]
+    checks/run bodies [--list] [--seconds N] [--seed N] [--today] [WORD ...]
 
 A wrong body of crates/NAME/wrong-bodies (CONTRIBUTING.md) that tests refuse has lines 'tests: CRATE TEST ..', which
-name the tests of one crate that fail on it. A test that does not end within N seconds, 40 if none are
-given, fails. WORD picks the bodies whose names contain it; if none is given, all are tried. Nothing is proved, and
-nothing in this folder changes: the tests run in a copy elsewhere. The tests of a crate are a case, and so is a body.
+name the tests of one crate that fail on it. A test that does not end within N seconds, 40 if none are given, fails.
+WORD picks the bodies whose names contain it; if none is given, all are tried. Of these --today takes one, which the
+seed tells, but none of LONG. Nothing is proved, and nothing in this folder changes: the tests run in a copy elsewhere.
+The tests of a crate are a case, and so is a body.
 """
 
 import re
@@ -13,12 +14,14 @@ import shutil
 import subprocess
 import tempfile
 
-from checks.lib.harness import Failure, expect, run_main
+from checks.lib.harness import Draw, Failure, expect, run_main, seed
 from precopy_dev.edits.files import TESTS, TOP, BadEdit, crates, read_edits, text_of
 
 SECONDS = 40
 # How many of its last lines are shown if the tests did not run.
 SHOWN = 12
+# Bodies on which six tests or more wait in vain, so that they take longer than others: the gate's time stays as it is.
+LONG = "live_run_in_sequence"
 
 
 def read_bodies(words):
@@ -30,6 +33,15 @@ def read_bodies(words):
     bodies = [edit for crate in crates() for edit in read_edits(crate, stop) if edit.kind == TESTS]
     chosen = [body for body in bodies if not words or any(word in str(body) for word in words)]
     return sorted(chosen, key=lambda body: (body.tested, str(body)))
+
+
+def of_today(bodies):
+    """One of the bodies, by the seed."""
+    fit = [body for body in bodies if not body.name.startswith(LONG)]
+    expect(fit, "there is no such body")
+    body = Draw("body of a day", 0, seed()).choice(fit)
+    print(f"of {len(bodies)} bodies today's is {body}", flush=True)
+    return [body]
 
 
 def copy_sources(room):
@@ -114,11 +126,14 @@ def try_bodies(tally, bodies, seconds):
 def more(parser):
     parser.add_argument("--list", action="store_true", help="name the bodies and the tests that fail on them")
     parser.add_argument("--seconds", type=int, default=SECONDS, help=f"how long a test may take; {SECONDS}")
+    parser.add_argument("--today", action="store_true", help="one of the bodies, by the seed")
     parser.add_argument("word", nargs="*", help="a part of the name of a body")
 
 
 def check(tally, given):
     bodies = read_bodies(given.word)
+    if given.today:
+        bodies = of_today(bodies)
     if given.list:
         for body in bodies:
             print(f"{body}: {body.tested}: {' '.join(sorted(body.tests))}")

@@ -33,7 +33,9 @@ BUILT = {
 GUESTS = "examples/guests/mid.light.pcwt examples/guests/sqlite.light.pcwt"
 BUG = "examples/left_out.py examples/gzip.pcwt --mended"
 PLAN = "-Iinclude examples/c/plan.c out/library/libprecopy.a"
-
+RUST = "cargo run --offline --manifest-path examples/rust/Cargo.toml < examples/gzip.pcwt"
+THIN = "tools/thin examples/guests/mid.light.pcwt quarter.light.pcwt --one-in 4 --start 1000"
+CHECK = "tools/check examples/a.pcwt examples/a.stream --tick 2000"
 
 # The tools that some of a command's words need.
 NEEDED = {"make": ("make",), "lib": ("cc",), "install-lib": ("cc",), "cc": ("cc",), "cargo": ("cargo", "cc")}
@@ -63,7 +65,13 @@ COMMANDS = (
     FirstRun("make lib && cargo test --offline --manifest-path bindings/rust/Cargo.toml && touch done", (), "done"),
     FirstRun("make lib && python3 -m venv of && of/bin/pip install ./bindings/python && touch done", (), "done"),
     FirstRun(f"make lib && PYTHONPATH=bindings/python {BUG} > said", ("library",), "said"),
+    FirstRun(f"make lib && {RUST} > said", ("library",), "said"),
+    FirstRun(f"make lib && {CHECK} > said; [ $? -eq 3 ]", ("library",), "said"),
+    FirstRun("make page && tools/page > said", ("page",), "said"),
     FirstRun("tools/export examples/gzip.pcwt said", (), "said"),
+    FirstRun("tools/export examples/a.pcwt said && tools/import said made.pcwt", (), "made.pcwt"),
+    FirstRun("tools/release --after 100 examples/gzip.pcwt released.pcwt", (), "released.pcwt"),
+    FirstRun(THIN, (), "quarter.light.pcwt"),
     FirstRun("make && tools/predict examples/guests/mid.light.pcwt --link 1Gbit > said; [ $? -le 3 ]", (), "said"),
     FirstRun(f"make && tools/evacuate {GUESTS} --link 10Gbit > said", ("precopy_schedule",), "said"),
 )

@@ -121,7 +121,7 @@ def check(tally, given):
 
 # Checks of which little can be tried without some tools: their words, and how much they try and leave out.
 PROGRAM = [sys.executable]
-WITHOUT_TOOLS = (("baselines", PROGRAM, 0, 1), ("qemu", PROGRAM, 0, 1), ("lint", [], 1, 7))
+WITHOUT_TOOLS = (("baselines", PROGRAM, 0, 1), ("qemu", PROGRAM, 0, 1), ("lint", [], 2, 7))
 FEW_TOOLS = ("sh", "dirname", "readlink", "git", "env")
 
 

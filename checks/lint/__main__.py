@@ -3,13 +3,17 @@
     checks/run lint
 
 The tools are those of TOOLS. One that is missing and cannot be installed is left out. A tool is a case. One more says
-that no line outside of crates/ has more than 120 columns, in whatever language.
+that no line outside of crates/ has more than 120 columns, in whatever language, and one that REUSE.toml gives each file
+a license whose text is in LICENSES/.
 """
 
+import fnmatch
 import os
 import re
 import subprocess
 from collections.abc import Callable, Iterator
+
+import tomllib
 
 from checks.lib.harness import run_main
 from checks.lib.tally import has
@@ -71,9 +75,18 @@ def too_wide() -> Iterator[str]:
                         yield f"{path}:{number}"
 
 
+def without_license() -> list[str]:
+    with open(os.path.join(TOP, "REUSE.toml"), "rb") as file:
+        rows = tomllib.load(file)["annotations"]
+    texts = os.listdir(os.path.join(TOP, "LICENSES"))
+    known = [row["path"] for row in rows if f"{row['SPDX-License-Identifier']}.txt" in texts]
+    return [path for path in sources() if not any(fnmatch.fnmatch(path, each) for each in known)]
+
+
 def check(tally, _) -> None:
-    wide = list(too_wide())
+    wide, free = list(too_wide()), without_license()
     tally.add(not wide, f"lines of more than {COLUMNS} columns: {', '.join(wide)}")
+    tally.add(not free, f"files without a license: {', '.join(free[:9])}")
     for command, package, words, files in TOOLS:
         if has(command, package, "its rules"):
             done = subprocess.run([command, *words, *files()], cwd=TOP, capture_output=True, text=True)

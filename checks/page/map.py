@@ -3,17 +3,15 @@
 import bisect
 import json
 import re
-import struct
 import xml.etree.ElementTree
 from typing import NamedTuple
 
 from checks.lib.tally import expect
+from checks.lib.traces import Trace
 from checks.page import shapes
-from checks.page.acts import read
 from checks.page.cases import example
 from checks.page.round_pages import Asked, RoundPages, map_rows, rounds_by_page
 from checks.page.saves import saved_files
-from precopy_dev.models.redrawn import by_page
 
 PAGES, ROWS, LAST = 4_154, 256, 37_500
 PLAIN = {"trace": "sqlite", "link": "64MiB", "first": "50", "downtime": "300ms", "start": "1000", "window": "500"}
@@ -71,12 +69,6 @@ PRESS = """((keys) => {
   keys.forEach((key) => plot.dispatchEvent(new KeyboardEvent("keydown", { key, bubbles: true, cancelable: true })));
   return textOf("map-readout");
 })"""
-
-
-def writes_of(path):
-    """The ticks and pages of a trace that has a byte for each write."""
-    text = read(path)
-    return [struct.unpack_from("<QI", text, at) for at in range(16, len(text), 17)]
 
 
 def counted(writes, first, last, pages):
@@ -221,7 +213,7 @@ def check_said(page, seen):
 def check_map(page):
     """The map has a colour for each cell with a write, and says how many writes there are at each place; a stretch that
     is taken nearer is counted anew; keys go through pages and time."""
-    writes = writes_of(example("guests/sqlite.light.pcwt"))
+    writes = Trace.at(example("guests/sqlite.light.pcwt")).writes
     page.ask(fragment_of(PLAIN))
     page.browser.value("document.getElementById('zoom-out').click()")
     page.rest()
@@ -250,7 +242,7 @@ def check_map(page):
 
 def check_map_rounds(page):
     """What the rounds of the plan do with which pages is on the map, in its file and in its table."""
-    guest = by_page(PAGES, writes_of(example("guests/sqlite.light.pcwt")))
+    guest = Trace.at(example("guests/sqlite.light.pcwt")).guest
     page.ask(fragment_of(PLAIN))
     page.browser.value("document.getElementById('zoom-out').click()")
     for asked in PLANS:

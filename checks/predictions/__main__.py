@@ -1,13 +1,13 @@
 """Asks the same questions at each door of a prediction, and compares the answers to the last digit.
 
-    checks/run predictions [--seed N] [--module MODULE] [PRECOPY_VIEW]
+    checks/run predictions [--seed N] [--questions COUNT] [--module MODULE] [PRECOPY_VIEW]
 
-MODULE is out/browser_planner.wasm, which `make page` builds, if none is given. 136 random questions are about eight
-traces, and 64 about four records. They are asked of precopy-view, in lines and in JSON, of the page's module, if Node
-is there, of the library in C and in Python, if `make lib` has built it, and those about records of tools/predict. All
-must answer what a plain model does, which plans page by page, in all that they tell, or refuse by the same words or
-number. At most a fifth is refused, and of each verdict, of each end like QEMU and of each kind of shares of the link
-there are a number. A question at a door is a case.
+MODULE is out/browser_planner.wasm, which `make page` builds, if none is given. Of 200 random questions, or of COUNT if
+that is more, two thirds are about eight traces and a third about four records. They are asked of precopy-view, in lines
+and in JSON, of the page's module, if Node is there, of the library in C and in Python, if `make lib` has built it, and
+those about records of tools/predict. All must answer what a plain model does, which plans page by page, in all that
+they tell, or refuse by the same words or number. At most a fifth is refused, and of each verdict, of each end like QEMU
+and of each kind of shares of the link there are a number. A question at a door is a case.
 """
 
 import collections
@@ -79,7 +79,7 @@ def check(tally, given):
     seed()
     kinds = collections.Counter()
     with tempfile.TemporaryDirectory() as folder, concurrent.futures.ProcessPoolExecutor(AT_ONCE) as pool:
-        asked = questions.all_asked(folder)
+        asked = questions.all_asked(folder, given.questions)
         programs = programs_of(folder, given.precopy_view, given.module)
         groups = by_trace(asked)
         for group, (told, found) in zip(groups, pool.map(tried, [programs] * len(groups), groups)):
@@ -90,6 +90,8 @@ def check(tally, given):
 
 
 def more(parser):
+    told = f"at least so many questions; {questions.LEAST}"
+    parser.add_argument("--questions", type=int, default=questions.LEAST, metavar="COUNT", help=told)
     parser.add_argument("--module", default=os.path.join(TOP, "out", "browser_planner.wasm"), help="the page's module")
 
 

@@ -26,7 +26,8 @@ from precopy_tools.formats import samples
 
 EXAMPLES = os.path.join(TOP, "examples")
 SMALL, SHAPES, RECORDS = 2, 4, 2
-OF_TRACE, OF_RECORD = 17, 16
+# How many questions there are at least, and of these about each trace and about each record.
+LEAST, OF_TRACE, OF_RECORD = 200, 17, 16
 # One of so many questions about a trace is refused, and one of so many begins after it.
 SELDOM, AFTER = 8, 10
 # More pages than these take the model too long, and fewer writes decide nothing.
@@ -182,29 +183,30 @@ def of_record(draw: random.Random, folder: str, trace: Trace, told: dict) -> Ask
     return Asked(longer, Trace.at(put(folder, name, text)), words)
 
 
-def asked_of_trace(draw: Draw, path: str) -> list[Asked]:
+def asked_of_trace(draw: Draw, path: str, count: int) -> list[Asked]:
     trace = Trace.at(path)
-    return [Asked(in_range(draw, trace, number % SELDOM == 0), trace, draw=draw) for number in range(OF_TRACE)]
+    return [Asked(in_range(draw, trace, number % SELDOM == 0), trace, draw=draw) for number in range(count)]
 
 
-def asked_of_record(draw: Draw, folder: str, path: str) -> list[Asked]:
+def asked_of_record(draw: Draw, folder: str, path: str, count: int) -> list[Asked]:
     with open(samples.path_beside(path), encoding="utf-8") as file:
         trace, told = Trace.at(path), json.load(file)
-    return [of_record(draw, folder, trace, told)._replace(draw=draw) for _ in range(OF_RECORD)]
+    return [of_record(draw, folder, trace, told)._replace(draw=draw) for _ in range(count)]
 
 
-def all_asked(folder: str) -> list[Asked]:
-    """The questions about eight traces, and those about four records. Each draw makes its trace and what is asked."""
+def all_asked(folder: str, least: int) -> list[Asked]:
+    """At least so many questions about eight traces and four records. Each draw makes its trace and what is asked."""
     found = []
+    of_trace, of_record = (math.ceil(count * max(least, LEAST) / LEAST) for count in (OF_TRACE, OF_RECORD))
     for name in ("gzip.pcwt", "released.pcwt"):
         for draw in drawn(f"questions about {name}", range(1)):
-            found += asked_of_trace(draw, os.path.join(EXAMPLES, name))
+            found += asked_of_trace(draw, os.path.join(EXAMPLES, name), of_trace)
     for make, count in ((small, SMALL), (shape, SHAPES)):
         for draw in drawn(f"questions about a {make.__name__} trace", range(count)):
-            found += asked_of_trace(draw, make(draw, folder))
+            found += asked_of_trace(draw, make(draw, folder), of_trace)
     for path in (os.path.join(EXAMPLES, "guests", "sqlite.light.pcwt"), thinned(folder)):
         for draw in drawn(f"questions about {os.path.basename(path)}", range(1)):
-            found += asked_of_record(draw, folder, path)
+            found += asked_of_record(draw, folder, path, of_record)
     for draw in drawn("questions about a record", range(RECORDS)):
-        found += asked_of_record(draw, folder, recorded(draw, shape(draw, folder)))
+        found += asked_of_record(draw, folder, recorded(draw, shape(draw, folder)), of_record)
     return found

@@ -25,8 +25,11 @@ LAYOUT = {"nodes": [["a", "private", 600], ["b", "memfd", 500]], "code": 5000}
 RECORDED = os.path.join(TOP, "examples", "guests", "sqlite.light.pcwt")
 # Values of all kinds, with which each field of such a file is tried; also by checks/page.
 VALUES = os.path.join(TOP, "checks", "recording", "field_values.json")
-UNIT = "precopy-record@.service"
+UNIT, UNIT_OF_ALL = "precopy-record@.service", "precopy-watch.service"
 SYSTEMD = "/lib/systemd/systemd"
+# What both units protect. No setting is among them that filters system calls.
+PROTECTED = "CapabilityBoundingSet NoNewPrivileges ProtectSystem ProtectHome PrivateTmp PrivateNetwork IPAddressDeny"
+PROTECTED += " ProtectControlGroups DevicePolicy ReadOnlyPaths InaccessiblePaths UMask"
 
 
 def sample_in(path):
@@ -161,6 +164,17 @@ def services_with_dashes(_, folder):
             plain = re.sub(r"\\(.)", r"\1", told.replace('"', ""))
             wanted = f"--domain={name} --segment 10m --keep 144 $OPTIONS /var/lib/precopy/{name}.light.pcwt"
             expect(plain.endswith(wanted), f"{name}: {told}")
+
+
+def services_with_protections(_, __):
+    """Both services have the same protections, so that one guest is recorded with no more rights than all."""
+    found = []
+    for name in (UNIT, UNIT_OF_ALL):
+        with open(os.path.join(TOP, "packaging", name), encoding="utf-8") as file:
+            found.append(dict(line.split("=", 1) for line in file.read().splitlines() if "=" in line))
+    for name in PROTECTED.split():
+        rights = [unit.get(name) for unit in found]
+        expect(rights[0] and rights[0] == rights[1], f"{name}: {rights}")
 
 
 def words_too_little(_, folder):

@@ -5,12 +5,13 @@
 The traces are examples/*.pcwt, and some that are made. Each JSON document must have the facts of the text of `precopy
 report` or `precopy sweep`, under the names of that text; both must be what a model makes of the trace
 (checks/lib/migration_model.py), and keep its schema in docs/. Tables for a terminal must have the same numbers, in
-lines that are no wider than asked. A picture must have its bars and texts inside, and no text over another, also with
-1, 30 and 10,000 windows; 200 random pictures of reports and starts are read back, each mark to the numbers that it may
-stand for. Random questions in time and bytes are asked of `json report`, `when`, `json when`, `advise` and `json
-sweep`; of each answer there are a number, and at most a fifth is refused, in the words of the model. Words of limits
-are tried at the ends of their ranges, and with misspellings; times, rates and sizes as words are those of
-checks/view/quantities.tsv and random decimals, for the program and for the tools.
+lines that are no wider than asked; runs of hot pages fill up to eight such lines, and only then some may be left out. A
+picture must have its bars and texts inside, and no text over another, also with 1, 30 and 10,000 windows; 200 random
+pictures of reports and starts are read back, each mark to the numbers that it may stand for. Random questions in time
+and bytes are asked of `json report`, `when`, `json when`, `advise` and `json sweep`; of each answer there are a number,
+and at most a fifth is refused, in the words of the model. Words of limits are tried at the ends of their ranges, and
+with misspellings; times, rates and sizes as words are those of checks/view/quantities.tsv and random decimals, for the
+program and for the tools.
 """
 
 import collections
@@ -33,6 +34,8 @@ from checks.view.quantity_cases import quantity_tries
 from precopy_dev.models import redrawn
 
 SVG = "{http://www.w3.org/2000/svg}"
+# The most lines of runs of hot pages.
+MOST_LINES = 8
 SETTINGS = [
     [],
     ["--min=2", "--max=4", "--inc=1", "--threshold=1", "--rounds=8"],
@@ -90,16 +93,29 @@ def rows_below(lines, name):
     return [dict(zip(columns, map(int, row.split()[: len(columns)]))) for row in rows]
 
 
+def hot_lines(hot, width):
+    """The runs of hot pages, in lines that are as full as the width allows, and of how many pages no run is listed."""
+    gaps = itertools.groupby(enumerate(hot), lambda it: it[1] - it[0])
+    runs = [[page for _, page in group] for _, group in gaps]
+    lines, shown = [""], 0
+    for number, run in enumerate(runs, 1):
+        words = " " + "-".join(map(str, sorted({run[0], run[-1]}))) + ("," if number < len(runs) else "")
+        if len(lines[-1] + words) > width:
+            if len(lines) == MOST_LINES:
+                return [*lines, f" and {len(hot) - shown} more"]
+            lines.append("")
+        lines[-1] += words
+        shown += len(run)
+    return lines
+
+
 def check_hot(lines, width, pages, hot):
-    """The runs of hot pages are the first of them, and the strip shows in which cells there are any."""
+    """The lines of hot pages are those of the model, and the strip shows in which cells there are any."""
     head = next(number for number, line in enumerate(lines) if line.startswith("hot pages, in "))
     below = list(itertools.takewhile(str.strip, lines[head + 1 :]))
-    listed = " ".join(line for line in below if not line.startswith((" |", " and ")))
-    runs = re.findall("([0-9]+)(?:-([0-9]+))?", listed)
-    shown = [page for first, last in runs for page in range(int(first), int(last or first) + 1)]
-    more = sum(int(line.split()[1]) for line in below if line.startswith(" and "))
-    if not lines[head].endswith(f": {len(hot)}") or shown != hot[: len(shown)] or len(shown) + more != len(hot):
-        raise Failure(f"hot pages {shown} and {more} more in place of {hot}")
+    wanted = hot_lines(hot, width) if hot else []
+    if not lines[head].endswith(f": {len(hot)}") or below[:-1] != wanted:
+        raise Failure(f"hot pages {lines[head]!r} {below[:-1]} in place of {wanted}")
     if hot:
         cells = min(width - 3, pages)
         marked = {page * cells // pages for page in hot}
@@ -164,6 +180,15 @@ def windows_trace(folder, windows, step):
     return Trace.at(path)
 
 
+def hot_trace(folder, pages):
+    """Writes a trace that writes runs of one page and of two in two windows."""
+    path = os.path.join(folder, f"hot-{pages}.pcwt")
+    runs = [page for page in range(pages) if page % 5 in (0, 2, 3)]
+    with open(path, "wb") as file:
+        file.write(made(pages, [(tick, page) for tick in (0, 1000) for page in runs]))
+    return Trace.at(path)
+
+
 def tries_of(folder):
     examples = [Trace.at(path) for path in EXAMPLES]
     windows = [windows_trace(folder, *some) for some in ((1, 1000), (30, 1000), (10_000, 1000), (30, 10**10))]
@@ -172,6 +197,7 @@ def tries_of(folder):
         yield from ((check_document, "report", words, trace) for words in SETTINGS)
         yield from ((check_document, "sweep", words, trace) for words in CASES)
         yield from ((check_screen, words, trace) for words in SETTINGS)
+    yield from ((check_screen, [], hot_trace(folder, pages)) for pages in (10, 80, 300, 1_000))
     yield from ((check_picture, words, trace) for trace in examples + windows for words in SETTINGS)
     for tries in (report_tries, start_tries):
         yield from tries(known)

@@ -109,7 +109,7 @@ class Host:
         running = []
         for name, path in records.items():
             command = [RECORD, "--qmp", self.guests[name].socket, "--by", "writes", "--pages", str(PAGES)]
-            command += ["--for", words.time_word(self.options.length), path]
+            command += ["--for", words.given_time(self.options.length), path]
             running.append(subprocess.Popen(command, stdout=subprocess.DEVNULL))
         for name, process in zip(records, running):
             if process.wait():
@@ -164,7 +164,7 @@ class Host:
 def planned(options, records, folder):
     """All answers of tools/evacuate."""
     path = os.path.join(folder, "plan.json")
-    limits = ["--link", words.rate_word(options.link), "--downtime", words.time_word(options.downtime)]
+    limits = ["--link", words.given_rate(options.link), "--downtime", words.given_time(options.downtime)]
     command = [EVACUATE, *records, *limits]
     done = subprocess.run([*command, "--json", path], capture_output=True, text=True)
     if done.returncode not in (0, 3, 4):

@@ -67,7 +67,7 @@ def shares(word: str) -> tuple[float, float]:
     return low, high
 
 
-def rate_word(bandwidth: float) -> str:
+def given_rate(bandwidth: float) -> str:
     """A word that `rate` takes for so many bytes a second; if they are not whole, to the nearest Kbit."""
     if bandwidth % 1:
         return f"{bandwidth / 125:.0f}Kbit"
@@ -75,7 +75,7 @@ def rate_word(bandwidth: float) -> str:
     return f"{size >> 20}MiB" if size % (1 << 20) == 0 else f"{size // 1_000}.{size % 1_000:03}KB"
 
 
-def time_word(length: float) -> str:
+def given_time(length: float) -> str:
     """A word that `seconds` takes for a length of time."""
     micros = round(1_000_000 * length)
     return f"{micros // 1_000}ms" if micros % 1_000 == 0 else f"{micros}us"

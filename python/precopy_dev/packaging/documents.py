@@ -8,7 +8,7 @@ import re
 ONLY_SOURCES = {
     "README.md": [("**A package** installs", "## Four commands")],
     "docs/COMMANDS.md": [("## The script `./precopy`", "## Large pages")],
-    "docs/LIBRARY.md": [("    make lib ", "## A plan in C")],
+    "docs/LIBRARY.md": [("    make lib ", "## Testing your own migration")],
 }
 OF_BUILDERS = {
     "CHANGELOG.md",

@@ -5,15 +5,15 @@ import math
 
 from precopy_tools.evacuate import hours
 from precopy_tools.evacuate.schedules import Placed
-from precopy_tools.pictures import picture, round_above
+from precopy_tools.pictures import clock_marks, picture, round_above
 from precopy_tools.quantities import moment_text, size_text, time_text
 
 WIDTH, LEFT, RIGHT, TOP, BELOW = 900, 170, 90, 76, 44
 # Rows are lower if there are many guests, and have no texts if those would touch.
 ROW, ROWS, LEAST_ROW, LEAST_TEXT = 26, 3000, 2, 13
 LEAST_DOWN = 2.0
-# Of an axis of times of day: so many seconds are between two lines, and at most so many lines are in the picture.
-CLOCK_STEPS, CLOCK_LINES = (1, 2, 5, 10, 15, 30, 60, 120, 300, 600, 900, 1800, 3600, 7200, 10_800), 8
+# The most lines of an axis of times of day.
+CLOCK_LINES = 8
 STYLE = """<style>
 .paper { fill: #ffffff } text { fill: #1f2328 } .note { fill: #57606a } .grid { stroke: #d8dee4 }
 .moving { fill: #54aeff } .planned { fill: #b6bfc9 } .missed { fill: #e3a008 }
@@ -132,19 +132,10 @@ def marks(seconds: float) -> list[tuple[float, str]]:
     return found
 
 
-def clock_marks(seconds: float, opens: float) -> list[tuple[float, str]]:
-    """The round times of day after the opening."""
-    step = next((each for each in CLOCK_STEPS if seconds <= CLOCK_LINES * each), CLOCK_STEPS[-1])
-    first = math.ceil(opens / step) * step
-    times = (first + step * number for number in range(int(seconds / step) + 1))
-    length = len("00:00:00" if step < hours.MINUTE else "00:00")
-    return [(at - opens, hours.clock_text(at)[:length]) for at in times if at <= opens + seconds]
-
-
 def axis(rows: Rows, opens: float) -> list[str]:
     """A line for each round number of seconds, or for each round time of day if the schedule opens at one."""
     lines, seconds = [], rows.end / 1e6
-    for at, words in clock_marks(seconds, opens) if opens else marks(seconds):
+    for at, words in clock_marks(opens, seconds, CLOCK_LINES) if opens else marks(seconds):
         x = rows.x_of(at * 1e6)
         lines.append(upright("grid", x, TOP - 6, rows.bottom))
         lines.append(f'<text class="note" x="{x:.1f}" y="{rows.bottom + 18:g}" text-anchor="middle">{words}</text>')

@@ -2,16 +2,15 @@
 
 import datetime
 import html
-import math
 from typing import NamedTuple
 
-from precopy_tools.pictures import picture, round_above
+from precopy_tools.pictures import clock_marks, picture, round_above
 
 WIDTH, LEFT, RIGHT, TOP = 900, 90, 20, 50
 HEIGHT, GAP, BELOW = 150, 45, 40
 KEPT, NOT_KEPT, AXIS = "#2166ac", "#b2182b", "#666"
 DAY = datetime.timedelta(days=1)
-STEPS = [datetime.timedelta(seconds=seconds) for seconds in (1, 5, 15, 60, 300, 900, 3600, 7200, 14400)]
+CLOCK_LINES = 12
 
 
 class Start(NamedTuple):
@@ -45,16 +44,11 @@ class Axis(NamedTuple):
         return LEFT + (moment - self.begin) / (self.end - self.begin) * (WIDTH - LEFT - RIGHT)
 
     def labels(self) -> list[tuple[float, str]]:
-        length = self.end - self.begin
-        step = next((step for step in STEPS if length / step <= 12), STEPS[-1])
-        midnight = self.begin.replace(hour=0, minute=0, second=0, microsecond=0)
-        at = midnight + math.ceil((self.begin - midnight) / step) * step
-        form, found = "%H:%M" if step.seconds >= 60 else "%H:%M:%S", []
-        while at <= self.end:
-            text = "24:00" if self.is_of_day and at - self.begin == DAY else at.strftime(form)
-            found.append((LEFT + (at - self.begin) / length * (WIDTH - LEFT - RIGHT), text))
-            at += step
-        return found
+        seconds = (self.end - self.begin).total_seconds()
+        return [
+            (LEFT + at / seconds * (WIDTH - LEFT - RIGHT), "24:00" if self.is_of_day and at == seconds else text)
+            for at, text in clock_marks(self.begin.timestamp(), seconds, CLOCK_LINES)
+        ]
 
 
 def axis_of(starts: list[Start]) -> Axis:

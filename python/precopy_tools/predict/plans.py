@@ -7,7 +7,7 @@ import subprocess
 from typing import NamedTuple
 
 from precopy_tools.record.memory import PAGE
-from precopy_tools.words import rate_word
+from precopy_tools.words import given_rate
 
 # Bytes in the smallest unit of a link, and the most pages in 1,000 ticks.
 LEAST_LINK, MOST_RATE = 125, 1_000_000
@@ -95,7 +95,7 @@ def limits(bandwidth: float, downtime: float, scale: Scale) -> list[str]:
         raise NoRate(f"a link of {bandwidth:,.0f} bytes a second is too {slow} for this sample: {told}")
     # A threshold above all pages of a trace is refused, and one of all of them says the same.
     most = (1000 * MOST_THRESHOLD - 1) // rate * scale.tick
-    words = ["--link", rate_word(bandwidth), "--downtime", f"{min(round(1e6 * downtime), most)}us"]
+    words = ["--link", given_rate(bandwidth), "--downtime", f"{min(round(1e6 * downtime), most)}us"]
     words += ["--tick", f"{scale.tick}us", "--page", str(scale.page), "--sampled", f"{scale.sampled}/{scale.guest}"]
     return [*words, "--rounds", str(ROUNDS)]
 

@@ -126,8 +126,8 @@ def recorder(source, options, trace, length):
     else:
         command = [RECORD, "--file", source.memories[0], "--qmp", source.socket, "--compact", "--spread"]
         command += ["--light"] if options.light else []
-    command += ["--every", words.time_word(options.every), "--for", words.time_word(length)]
-    limits = ["--bandwidth", words.rate_word(options.bandwidth), "--downtime", words.time_word(options.downtime)]
+    command += ["--every", words.given_time(options.every), "--for", words.given_time(length)]
+    limits = ["--bandwidth", words.given_rate(options.bandwidth), "--downtime", words.given_time(options.downtime)]
     return [*command, *limits, trace]
 
 

@@ -112,7 +112,7 @@ def tell_if_short(recorder, options, rate):
     first = (plans.end_of_first_round(FIRST, recorder.pages(), rate) - FIRST) * options.tick
     length = (recorder.last - FIRST) * options.tick
     if first > length:
-        at = f"at {words.rate_word(options.bandwidth)} a second the first round takes {told_time(first)}"
+        at = f"at {words.given_rate(options.bandwidth)} a second the first round takes {told_time(first)}"
         print(f"short: {at}, and this recording took {told_time(length)}: record longer")
 
 
@@ -121,7 +121,7 @@ def tell_plan(recorder, options):
     weight = recorder.weight() if options.is_sampled else 1.0
     plan = plans.settings_of(options.bandwidth, options.downtime, options.tick, weight)
     if options.is_sampled:
-        limits = f"--link {words.rate_word(options.bandwidth)} --downtime {words.time_word(options.downtime)}"
+        limits = f"--link {words.given_rate(options.bandwidth)} --downtime {words.given_time(options.downtime)}"
         print(f"next: {PREDICT} {shlex.quote(options.output)} {limits}, or what the migration will have")
     elif 1 <= plan.rate <= plans.MOST_RATE:
         if not options.compact:

@@ -96,7 +96,7 @@ def options_of(given: list[str]) -> argparse.Namespace:
 
 
 def asked_of(options: argparse.Namespace) -> Asked:
-    drawn = ["--pages", str(options.pages), "--segment", words.time_word(options.segment), "--keep", str(options.keep)]
+    drawn = ["--pages", str(options.pages), "--segment", words.given_time(options.segment), "--keep", str(options.keep)]
     return Asked(
         options.program,
         os.path.abspath(options.output),

@@ -55,7 +55,7 @@ def of_document(document: dict, limits: Limits) -> Prediction:
 
 def command_of(program: str, path: str, limits: Limits) -> list[str]:
     module = [sys.executable, "-B", "-m", "precopy_tools.predict.command"]
-    asked = ["--link", words.rate_word(limits.link), "--downtime", words.time_word(limits.downtime)]
+    asked = ["--link", words.given_rate(limits.link), "--downtime", words.given_time(limits.downtime)]
     return [*module, "--json", "--starts", "1", "--program", program, *asked, path]
 
 
