@@ -53,7 +53,7 @@ def check_form(tally):
     print(f"libprecopy.so.3 has {size} bytes, libprecopy.a {os.path.getsize(archive)}", flush=True)
     # The contracts say the same numbers, but for two that no call answers: a failed read, and threads out of range.
     names = ("Answers", "Places", "Predictions", "Starts", "StreamChecks")
-    files = ["c_layout/specs/Refusals.antt", *(f"precopy_c/specs/{name}.antt" for name in names)]
+    files = ["c_layout/specs/Refusals.antt", *(f"c_answers/specs/{name}.antt" for name in names)]
     specs = "".join(read(f"crates/{file}", "r") for file in files)
     told = re.findall(r"^number_of\w* .* = (\d+)$", specs, re.M)
     statuses = {number for name, number in numbers.items() if number and name not in REASONS}

@@ -279,7 +279,7 @@ FILES: dict[str, Callable[[Interface], str]] = {
 LEFT = """\
 Left to write by hand, after a new status: docs/FORMATS.md if `precopy` writes its name, the range of its kind in \
 bindings/rust/src/refusals.rs and bindings/python/precopy/_refusals.py, and a row in checks/library/rows.c. After a new
-field: crates/precopy_c (and crates/c_layout), and what callers see of it in bindings/.
+field: crates/c_answers (and crates/c_layout), and what callers see of it in bindings/.
 """
 
 

@@ -25,8 +25,8 @@ from precopy_dev.determined.typed import split_at_commas
 
 FORM, LAW, MEMORY, NOT = "form", "law", "memory", "not"
 OK, ERR = ("id", "$ok"), ("id", "$err")
-# What a status of the library for C says of want of memory.
-NO_MEMORY = "(result ≡ 16)"
+# What says that memory ran out: a status of the library for C, or the number of a refusal there.
+NO_MEMORY = r"\((?:result|\(number_of\w* \S+\)) ≡ 16\)"
 
 
 @dataclass
@@ -199,7 +199,7 @@ class Reading:
     def when(self, solver, other):
         """Returns how it is determined when the call succeeds."""
         tests = {shown(tree[2]) for tree in self.trees if tree[0] == "bin" and tree[1] == "↔"}
-        if tests & {"(IsOk result)", "(IsSome result)"}:
+        if tests & {"(IsOk result)", "(IsSome result)", "(result ≡ None)"}:
             return (FORM, ())
         if self.kind == "result" and (self.is_memory_alone() or says_memory(other.said)):
             return (MEMORY, ())
@@ -224,7 +224,7 @@ class Reading:
                     return (ends[told], ())
                 if re.match(r"\(result ≡ \(Ok ", told):
                     return (FORM, ())
-                if re.search(r"\bMemory\b|\bIsOutside|" + re.escape(NO_MEMORY), told):
+                if re.search(r"\bMemory\b|\bIsOutside|" + NO_MEMORY, told):
                     return (MEMORY, ())
         return (NOT, ())
 

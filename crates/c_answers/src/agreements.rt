@@ -1,0 +1,68 @@
+//! How sure a prediction is: in how many draws of a sample, and from how many starts, its answers are the same.
+
+// `IsAgreement` holds of one value alone: `one_agreement`.
+// `RefusesPrediction` holds of one value alone, but for memory: `one_refused_prediction`.
+
+ghost use Rattle.std.specs.Prelude.{◌≡◌, IfErr, IfOk, OnOk};
+ghost use Rattle.migration_model.specs.Touches.{last_tick_of};
+ghost use Rattle.migration_model.specs.Trace.{GuestTrace, Spells};
+ghost use Rattle.predictions.specs.Predictions.{prediction_of};
+ghost use Rattle.predictions.specs.Questions.{Fits, scale_in};
+ghost use Rattle.c_answers.specs.Agreements.{IsAgreementOf, IsAgreementOver};
+ghost use Rattle.c_answers.specs.Predictions.{IsAsked, RefusesPrediction, number_of_question};
+
+use crate::inquiries::{Inquiry, inquiry_of};
+use crate::questions::{QuestionRefusal, SizedQuestion};
+use guest_log::last_tick;
+use predictions::agreement::{Agreement, AgreementNumbers};
+use predictions::redrawn::Errors;
+use predictions::{Prediction, Terms};
+use round_planner::{Plan, PlanError, plan};
+use std::alloc::Global;
+use trace_readers::TouchLog;
+
+/// Returns what a plan over a log predicts.
+fn prediction_with(terms: &Terms, log: &TouchLog, plan: &Plan) -> Prediction
+    ensures { result ≡ prediction_of terms.now.scale terms.now.limits terms.now.settings.start plan.now
+        (last_tick_of log.now.touches) }
+{
+    let start = terms.settings.asked().start;
+    Prediction::new(&terms.scale, &terms.limits, start, plan, last_tick(log))
+}
+
+/// Returns how sure the answer to a question is over a log.
+fn agreement_over(
+    alloc: Global,
+    terms: &Terms,
+    log: &TouchLog,
+) -> Result<AgreementNumbers, PlanError>
+    ensures { IfOk result (IsAgreementOver terms.now log.now) }
+{
+    let Terms {
+        scale,
+        limits,
+        settings,
+    } = terms;
+    let plan = plan(alloc, log, settings)?;
+    let prediction = prediction_with(terms, log, &plan);
+    let errors = Errors::of_trace(alloc, log, settings, scale)?;
+    let agreement = Agreement::of_trace(alloc, log, settings, scale, limits)?;
+    Ok(AgreementNumbers::new(limits.downtime, &agreement, &prediction, &errors))
+}
+
+/// Returns how sure the answer to a question is over the trace that the bytes encode. The question is tested first.
+pub fn agreed(
+    alloc: Global,
+    bytes: &[u8],
+    asked: &SizedQuestion,
+) -> Result<AgreementNumbers, QuestionRefusal>
+    ensures made { IfOk result (IsAgreementOf bytes.now asked.now.question) }
+    ensures accepted { OnOk result (IsAsked asked.now) }
+    ensures refused { IfErr result (RefusesPrediction bytes.now asked.now) }
+    ensures only { (t : GuestTrace) → Spells bytes.now t → IsAsked asked.now
+        → Fits (scale_in asked.now.question) t.shift t.pages → IfErr result (λ e. number_of_question e ≡ 16) }
+{
+    let Inquiry { terms, log } = inquiry_of(alloc, bytes, asked)?;
+    let found = agreement_over(alloc, &terms, &log)?;
+    Ok(found)
+}

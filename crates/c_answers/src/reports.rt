@@ -1,0 +1,37 @@
+//! Reports.
+
+// `IsPlan` holds of one value alone: `one_plan`.
+// `RefusesPlan` holds of one value alone: `one_refused_plan`.
+// `Spells` holds of one value alone: `one_trace`.
+
+ghost use Rattle.std.specs.Prelude.{◌≡◌, ◌<◌, IfErr, IfOk, OnOk};
+ghost use Rattle.migration_model.specs.Trace.{GuestTrace, Spells};
+ghost use Rattle.c_answers.specs.Answers.{number_of};
+ghost use Rattle.c_answers.specs.Plans.{IsReportOf, RefusesPlan};
+ghost use Rattle.c_answers.specs.Settings.{AreGiven, settings_in};
+
+use crate::answers::Refusal;
+use crate::plans::read_touches;
+use crate::settings::SizedSettings;
+use round_planner::plan;
+use std::alloc::Global;
+use sweep_report::report_text;
+use working_sets::tables;
+
+/// Returns the text of the report on the trace that the bytes encode. The settings are tested first.
+pub fn reported(alloc: Global, trace: &[u8], settings: &SizedSettings) -> Result<Vec<u8>, Refusal>
+    ensures made { IfOk result (λ text. IsReportOf trace.now (settings_in settings.now) text.items) }
+    ensures given { OnOk result (AreGiven settings.now) }
+    ensures refused { IfErr result (RefusesPlan trace.now settings.now) }
+    ensures only { (t : GuestTrace) → Spells trace.now t → AreGiven settings.now
+        → IfErr result (λ e. number_of e ≡ 16) }
+{
+    let settings = match settings.checked() {
+        Ok(settings) => settings,
+        Err(refusal) => return Err(refusal),
+    };
+    let log = read_touches(alloc, trace)?;
+    let sets = tables(alloc, &log, &settings)?;
+    let planned = plan(alloc, &log, &settings)?;
+    Ok(report_text(alloc, &log.shape(), &settings, &sets, &planned)?)
+}

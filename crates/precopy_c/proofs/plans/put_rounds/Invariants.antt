@@ -1,7 +1,0 @@
-use Rattle.std.proofs.Common.{◌≡◌, map, take}
-use Rattle.precopy_c.specs.Buffers.{over}
-use Rattle.round_planner.specs.Rows.{row_of}
-use Rattle.precopy_c.proofs.plans.put_rounds.Given as goal
-
-abbrev pub invariant-loop-number : goal.invariant-loop-number
-invariant-loop-number l = l.room ≡ over (map row_of (take l.number l.rounds)) l.fn.room

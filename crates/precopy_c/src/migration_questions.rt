@@ -1,0 +1,207 @@
+//! Predictions: what a migration will be, how sure that is, what is enough for its limit, and its best start.
+
+// `IsPlan` holds of one value alone: `one_plan`.
+// `RefusesPrediction` holds of one value alone, but for memory: `one_refused_prediction`.
+// `Spells` holds of one value alone: `one_trace`.
+// `IsAgreement` holds of one value alone: `one_agreement`.
+// `IsForecast` holds of one value alone: `one_forecast`.
+// `IsLinkShare` holds of one value alone: `one_link_share`.
+// `IsBest` holds of one value alone: `one_best`.
+
+ghost use Rattle.std.specs.Prelude.{◌≡◌, ◌≢◌, ◌⊎◌};
+ghost use Rattle.migration_model.specs.Trace.{GuestTrace, Spells};
+ghost use Rattle.predictions.specs.Questions.{Fits, scale_in};
+ghost use Rattle.c_answers.specs.Agreements.{IsAgreementOf};
+ghost use Rattle.c_answers.specs.Enough.{AreAmountsOf};
+ghost use Rattle.c_answers.specs.Forecasts.{IsForecastOf};
+ghost use Rattle.c_answers.specs.LinkShares.{AreSharesOf};
+ghost use Rattle.c_answers.specs.Predictions.{IsAsked, IsPredictionOf, IsToldOf, RefusesPrediction};
+ghost use Rattle.c_answers.specs.Starts.{IsAskedOfBest, IsBestOf, IsToldOfBest, RefusesBest};
+
+use c_answers::agreements::agreed;
+use c_answers::enough::enough;
+use c_answers::forecasts::foretold;
+use c_answers::link_shares::shares_of;
+use c_answers::predicting::predicted;
+use c_answers::questions::SizedQuestion;
+use c_answers::starts::{SizedStarts, best_told};
+use c_layout::{BestStartNumbers, ForecastNumbers, ShareNumbers};
+use predictions::agreement::AgreementNumbers;
+use predictions::remedies::RemedyNumbers;
+use predictions::{Answer, ErrorNumbers};
+use std::alloc::Global;
+
+/// Sets what the migration of a trace will be with the limits of a question, and the standard errors of that if pages
+/// were sampled.
+#[unsafe(no_mangle)]
+pub extern "C" fn precopy_predict(
+    alloc: Global,
+    trace: &[u8],
+    question: &SizedQuestion,
+    prediction: &mut Answer,
+    errors: &mut ErrorNumbers,
+    record: &mut u32,
+) -> u32
+    ensures made { result ≡ 0 → IsPredictionOf trace.now question.now.question prediction.new errors.new }
+    ensures accepted { result ≡ 0 → IsAsked question.now }
+    ensures refused { result ≢ 0
+        → IsToldOf result record.old record.new (RefusesPrediction trace.now question.now) }
+    ensures only { (t : GuestTrace) → Spells trace.now t → IsAsked question.now
+        → Fits (scale_in question.now.question) t.shift t.pages → (result ≡ 0) ⊎ (result ≡ 16) }
+    ensures unchanged { result ≢ 0 → (prediction.new ≡ prediction.old) × (errors.new ≡ errors.old) }
+    ensures not_told { result ≡ 0 → record.new ≡ record.old }
+{
+    match predicted(alloc, trace, question) {
+        Ok(told) => {
+            *prediction = told.answer;
+            *errors = told.errors;
+            0
+        }
+        Err(refusal) => refusal.told(record),
+    }
+}
+
+/// Sets whether the migration of a trace keeps the limit of a question; the least link and the least downtime that do,
+/// each by itself; how much the guest has to be slowed if it is not kept; and the least link and the latest start that
+/// end it within the trace if it does not.
+#[unsafe(no_mangle)]
+pub extern "C" fn precopy_enough(
+    alloc: Global,
+    trace: &[u8],
+    question: &SizedQuestion,
+    amounts: &mut RemedyNumbers,
+    record: &mut u32,
+) -> u32
+    ensures made { result ≡ 0 → AreAmountsOf trace.now question.now.question amounts.new }
+    ensures accepted { result ≡ 0 → IsAsked question.now }
+    ensures refused { result ≢ 0
+        → IsToldOf result record.old record.new (RefusesPrediction trace.now question.now) }
+    ensures only { (t : GuestTrace) → Spells trace.now t → IsAsked question.now
+        → Fits (scale_in question.now.question) t.shift t.pages → (result ≡ 0) ⊎ (result ≡ 16) }
+    ensures unchanged { result ≢ 0 → amounts.new ≡ amounts.old }
+    ensures not_told { result ≡ 0 → record.new ≡ record.old }
+{
+    match enough(alloc, trace, question) {
+        Ok(found) => {
+            *amounts = found;
+            0
+        }
+        Err(refusal) => refusal.told(record),
+    }
+}
+
+/// Sets in how many draws, and from how many starts, the migration of a question converges and keeps its limit, and
+/// whether it surely does.
+#[unsafe(no_mangle)]
+pub extern "C" fn precopy_agreement(
+    alloc: Global,
+    trace: &[u8],
+    question: &SizedQuestion,
+    agreement: &mut AgreementNumbers,
+    record: &mut u32,
+) -> u32
+    ensures made { result ≡ 0 → IsAgreementOf trace.now question.now.question agreement.new }
+    ensures accepted { result ≡ 0 → IsAsked question.now }
+    ensures refused { result ≢ 0
+        → IsToldOf result record.old record.new (RefusesPrediction trace.now question.now) }
+    ensures only { (t : GuestTrace) → Spells trace.now t → IsAsked question.now
+        → Fits (scale_in question.now.question) t.shift t.pages → (result ≡ 0) ⊎ (result ≡ 16) }
+    ensures unchanged { result ≢ 0 → agreement.new ≡ agreement.old }
+    ensures not_told { result ≡ 0 → record.new ≡ record.old }
+{
+    match agreed(alloc, trace, question) {
+        Ok(found) => {
+            *agreement = found;
+            0
+        }
+        Err(refusal) => refusal.told(record),
+    }
+}
+
+/// Sets what comes of the migration of a question if its hypervisor looks at its dirty bitmap again only when few pages
+/// are left, as QEMU does.
+#[unsafe(no_mangle)]
+pub extern "C" fn precopy_forecast(
+    alloc: Global,
+    trace: &[u8],
+    question: &SizedQuestion,
+    forecast: &mut ForecastNumbers,
+    record: &mut u32,
+) -> u32
+    ensures made { result ≡ 0 → IsForecastOf trace.now question.now.question forecast.new }
+    ensures accepted { result ≡ 0 → IsAsked question.now }
+    ensures refused { result ≢ 0
+        → IsToldOf result record.old record.new (RefusesPrediction trace.now question.now) }
+    ensures only { (t : GuestTrace) → Spells trace.now t → IsAsked question.now
+        → Fits (scale_in question.now.question) t.shift t.pages → (result ≡ 0) ⊎ (result ≡ 16) }
+    ensures unchanged { result ≢ 0 → forecast.new ≡ forecast.old }
+    ensures not_told { result ≡ 0 → record.new ≡ record.old }
+{
+    match foretold(alloc, trace, question) {
+        Ok(found) => {
+            *forecast = found;
+            0
+        }
+        Err(refusal) => refusal.told(record),
+    }
+}
+
+/// Sets whether the migration of a question converges, and down to which share of its link each whole per cent has that
+/// verdict.
+#[unsafe(no_mangle)]
+pub extern "C" fn precopy_link_shares(
+    alloc: Global,
+    trace: &[u8],
+    question: &SizedQuestion,
+    shares: &mut ShareNumbers,
+    record: &mut u32,
+) -> u32
+    ensures made { result ≡ 0 → AreSharesOf trace.now question.now.question shares.new }
+    ensures accepted { result ≡ 0 → IsAsked question.now }
+    ensures refused { result ≢ 0
+        → IsToldOf result record.old record.new (RefusesPrediction trace.now question.now) }
+    ensures only { (t : GuestTrace) → Spells trace.now t → IsAsked question.now
+        → Fits (scale_in question.now.question) t.shift t.pages → (result ≡ 0) ⊎ (result ≡ 16) }
+    ensures unchanged { result ≢ 0 → shares.new ≡ shares.old }
+    ensures not_told { result ≡ 0 → record.new ≡ record.old }
+{
+    match shares_of(alloc, trace, question) {
+        Ok(found) => {
+            *shares = found;
+            0
+        }
+        Err(refusal) => refusal.told(record),
+    }
+}
+
+/// Sets the best of the starts of the migration of a question, and the standard errors of what it costs from there if
+/// pages were sampled. The question's start is the first.
+#[unsafe(no_mangle)]
+pub extern "C" fn precopy_best_start(
+    alloc: Global,
+    trace: &[u8],
+    question: &SizedQuestion,
+    starts: &SizedStarts,
+    best: &mut BestStartNumbers,
+    errors: &mut ErrorNumbers,
+    record: &mut u32,
+) -> u32
+    ensures made { result ≡ 0 → IsBestOf trace.now question.now.question starts.now best.new errors.new }
+    ensures accepted { result ≡ 0 → IsAsked question.now }
+    ensures size { result ≡ 0 → starts.now.size ≡ 32 }
+    ensures refused { result ≢ 0
+        → IsToldOfBest result record.old record.new (RefusesBest trace.now question.now starts.now) }
+    ensures only { (t : GuestTrace) → IsAskedOfBest trace.now question.now starts.now t
+        → (result ≡ 0) ⊎ (result ≡ 16) }
+    ensures unchanged { result ≢ 0 → (best.new ≡ best.old) × (errors.new ≡ errors.old) }
+    ensures not_told { result ≡ 0 → record.new ≡ record.old }
+{
+    match best_told(alloc, trace, question, starts) {
+        Ok(told) => {
+            *best = told.best;
+            *errors = told.errors;
+            0
+        }
+        Err(refusal) => refusal.told(record),
+    }
+}
