@@ -71,7 +71,7 @@ function placesFrom(base) {
     record: 8, sizes: SIZES_SIZE, settings: SETTINGS.size, sums: SUMS.size, count: 8, rounds: MOST_ROUNDS * ROUND.size,
     question: QUESTION.size, answers: MOST_ANSWERS * START_SIZE, errors: ERRORS.size, choice: CHOICE_SIZE,
     remedies: REMEDIES.size, forecast: FORECAST.size,
-    marks: MOST_PAGES / 8, otherMarks: MOST_PAGES / 8, list: MOST_PAGES * 4, pageMarks: MOST_PAGES * PAGE_MARK_SIZE,
+    marks: MOST_PAGES / 8, bits: 3 * MOST_PAGES / 8, list: 2 * MOST_PAGES * 4, pageMarks: MOST_PAGES * PAGE_MARK_SIZE,
   };
   const places = {};
   let at = alignedUp(base);
@@ -228,12 +228,10 @@ export class Planner {
 
   /** The standard errors of the answer to a question, or null if there are none. */
   errors(question) {
-    const { pages, writes } = this.sizes;
-    const words = Math.ceil(pages / 64);
     writeQuestion(this.view(), this.places.question, question);
     this.ask("lent_errors", "question", [
-      ...this.slice("touches", writes), ...this.slice("list", MOST_PAGES), ...this.slice("marks", words),
-      ...this.slice("otherMarks", words), BigInt(this.places.errors),
+      ...this.slice("touches", this.sizes.writes), ...this.slice("list", 2 * MOST_PAGES),
+      ...this.slice("bits", 3 * MOST_PAGES / 64), BigInt(this.places.errors),
     ]);
     return readErrors(this.view(), this.places.errors);
   }

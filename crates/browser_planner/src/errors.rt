@@ -5,6 +5,7 @@ ghost use Rattle.migration_model.specs.Touches.{touches_of};
 ghost use Rattle.migration_model.specs.Trace.{GuestTrace, Spells};
 ghost use Rattle.predictions.specs.Questions.{AcceptsQuestion, Fits, scale_in, terms_of};
 ghost use Rattle.predictions.specs.Redrawn.Errors.{AreErrors, AreErrorsOf, HasErrors};
+ghost use Rattle.predictions.specs.declared.course.Manner.TheVariants as manners;
 ghost use Rattle.browser_planner.specs.Answers.{IsNumberOf};
 ghost use Rattle.browser_planner.specs.Errors.{AreNumbersOf, HasRoom, HasRoomFor, room_of};
 ghost use Rattle.browser_planner.specs.Predictions.{OfTrace, RefusesAsked};
@@ -14,7 +15,7 @@ use crate::touches::{LentLog, LentTouch, put_touches};
 use guest_log::Shape;
 use page_bitmap::word_count;
 use predictions::redrawn::{Errors, has_errors, sample_errors};
-use predictions::{ErrorNumbers, Question, Terms, check_fit};
+use predictions::{ErrorNumbers, Manner, Question, Terms, check_fit};
 use trace_codec::TraceView;
 
 /// How long what is lent for standard errors is.
@@ -22,8 +23,7 @@ use trace_codec::TraceView;
 pub(crate) struct ErrorRoom {
     touches: usize,
     sample: usize,
-    listed: usize,
-    marks: usize,
+    bits: usize,
 }
 
 impl ErrorRoom {
@@ -35,11 +35,10 @@ impl ErrorRoom {
         ensures { IsTrue result ↔ HasRoom terms.now self.now trace.now }
     {
         let Shape { pages, writes, .. } = trace.shape();
-        let words = word_count(pages as usize);
-        writes as usize <= self.touches
-            && terms.scale.sampled() <= self.sample as u64
-            && words <= self.listed
-            && words <= self.marks
+        let _in_range = terms.scale.guest();
+        let sampled = terms.scale.sampled() as usize;
+        let words = 2 * word_count(pages as usize) + word_count(sampled);
+        writes as usize <= self.touches && 2 * sampled <= self.sample && words <= self.bits
     }
 }
 
@@ -49,20 +48,23 @@ fn errors_in(
     terms: &Terms,
     touches: &mut [LentTouch],
     sample: &mut [u32],
-    listed: &mut [u64],
-    marks: &mut [u64],
+    bits: &mut [u64],
 ) -> Errors
     requires sampled { HasErrors terms.now.scale }
-    requires room { HasRoom terms.now (room_of (length touches.old) (length sample.old) (length listed.old)
-        (length marks.old)) trace.now }
-    ensures { AreErrorsOf trace.now.pages (touches_of trace.now) terms.now.settings terms.now.scale result }
+    requires room { HasRoom terms.now (room_of (length touches.old) (length sample.old) (length bits.old))
+        trace.now }
+    ensures { AreErrorsOf manners.Rounds trace.now.pages (touches_of trace.now) terms.now.settings terms.now.scale result }
 {
-    let words = word_count(trace.shape().pages as usize);
     put_touches(trace, touches);
     let log = LentLog::of(trace, touches);
-    let (listed, _) = listed.split_at_mut(words);
-    let (marks, _) = marks.split_at_mut(words);
-    sample_errors(&log, &terms.settings, &terms.scale, sample, listed, marks)
+    sample_errors(
+        &log,
+        &terms.settings,
+        &terms.scale,
+        Manner::Rounds,
+        sample,
+        bits,
+    )
 }
 
 /// Returns the standard errors of the answer to a question about the trace that the bytes encode, if there are any. The
@@ -72,19 +74,18 @@ fn asked_errors(
     question: &Question,
     touches: &mut [LentTouch],
     sample: &mut [u32],
-    listed: &mut [u64],
-    marks: &mut [u64],
+    bits: &mut [u64],
 ) -> Result<Option<Errors>, Refusal>
-    ensures made { IfOk result (λ errors. OfTrace bytes.now question.now (λ trace. AreErrors trace.pages
-        (touches_of trace) (terms_of question.now).settings (terms_of question.now).scale errors)) }
+    ensures made { IfOk result (λ errors. OfTrace bytes.now question.now (λ trace. AreErrors manners.Rounds
+        trace.pages (touches_of trace) (terms_of question.now).settings (terms_of question.now).scale errors)) }
     ensures accepted { IfOk result (λ errors. AcceptsQuestion question.now) }
     ensures refused { IfErr result (RefusesAsked bytes.now question.now (HasRoomFor (terms_of question.now)
-        (room_of (length touches.old) (length sample.old) (length listed.old) (length marks.old)))) }
+        (room_of (length touches.old) (length sample.old) (length bits.old)))) }
     ensures only { (t : GuestTrace) → Spells bytes.now t → AcceptsQuestion question.now
         → Fits (scale_in question.now) t.shift t.pages → HasRoomFor (terms_of question.now)
-        (room_of (length touches.old) (length sample.old) (length listed.old) (length marks.old)) t → IsOk result }
+        (room_of (length touches.old) (length sample.old) (length bits.old)) t → IsOk result }
     ensures unchanged { OnErr result ((touches.new ≡ touches.old) × (sample.new ≡ sample.old)
-        × (listed.new ≡ listed.old) × (marks.new ≡ marks.old)) }
+        × (bits.new ≡ bits.old)) }
 {
     let terms = question.terms()?;
     let trace = TraceView::parse(bytes)?;
@@ -95,40 +96,37 @@ fn asked_errors(
     let room = ErrorRoom {
         touches: touches.len(),
         sample: sample.len(),
-        listed: listed.len(),
-        marks: marks.len(),
+        bits: bits.len(),
     };
     if !room.is_enough(&trace, &terms) {
         return Err(Refusal::ShortBuffer);
     }
-    Ok(Some(errors_in(&trace, &terms, touches, sample, listed, marks)))
+    Ok(Some(errors_in(&trace, &terms, touches, sample, bits)))
 }
 
 /// Answers the standard errors of what the migration of a trace will be: how far the draw of a sample moves them. If
-/// pages were sampled it is refused if anything lent is too short: a slot of `touches` for each write, one of `sample`
-/// for each page of the sample, and a bit of `listed` and one of `marks` for each page.
+/// pages were sampled it is refused if anything lent is too short: a slot of `touches` for each write, two of `sample`
+/// for each page of the sample, and in whole words two bits of `bits` for each page and one for each of the sample.
 #[unsafe(no_mangle)]
 pub extern "C" fn lent_errors(
     trace: &[u8],
     question: &Question,
     touches: &mut [LentTouch],
     sample: &mut [u32],
-    listed: &mut [u64],
-    marks: &mut [u64],
+    bits: &mut [u64],
     errors: &mut ErrorNumbers,
 ) -> u32
     ensures made { result ≡ 0 → OfTrace trace.now question.now (AreNumbersOf (terms_of question.now) errors.new) }
     ensures accepted { result ≡ 0 → AcceptsQuestion question.now }
     ensures refused { result ≢ 0 → IsNumberOf result (RefusesAsked trace.now question.now (HasRoomFor
-        (terms_of question.now) (room_of (length touches.old) (length sample.old) (length listed.old)
-        (length marks.old)))) }
+        (terms_of question.now) (room_of (length touches.old) (length sample.old) (length bits.old)))) }
     ensures only { (t : GuestTrace) → Spells trace.now t → AcceptsQuestion question.now
         → Fits (scale_in question.now) t.shift t.pages → HasRoomFor (terms_of question.now)
-        (room_of (length touches.old) (length sample.old) (length listed.old) (length marks.old)) t → result ≡ 0 }
+        (room_of (length touches.old) (length sample.old) (length bits.old)) t → result ≡ 0 }
     ensures unchanged { result ≢ 0 → (errors.new ≡ errors.old) × (touches.new ≡ touches.old)
-        × (sample.new ≡ sample.old) × (listed.new ≡ listed.old) × (marks.new ≡ marks.old) }
+        × (sample.new ≡ sample.old) × (bits.new ≡ bits.old) }
 {
-    match asked_errors(trace, question, touches, sample, listed, marks) {
+    match asked_errors(trace, question, touches, sample, bits) {
         Ok(found) => {
             *errors = ErrorNumbers::new(&found);
             0

@@ -215,8 +215,8 @@ fn times_beyond_64_bits_are_capped(rt: HostRuntime) {
 
 /// What is told of standard errors, with this many slots for the sample.
 fn errors(question: &Question, slots: usize) -> (u32, [u64; 3], u32) {
-    let mut sample = [9; 4];
-    let (lent, _) = sample.split_at_mut(slots.min(4));
+    let mut sample = [9; 8];
+    let (lent, _) = sample.split_at_mut(slots.min(8));
     let mut told = ErrorNumbers {
         bytes: 7,
         time: 7,
@@ -228,8 +228,7 @@ fn errors(question: &Question, slots: usize) -> (u32, [u64; 3], u32) {
         question,
         &mut [TOUCH; 5],
         lent,
-        &mut [u64::MAX; 1],
-        &mut [u64::MAX; 1],
+        &mut [u64::MAX; 3],
         &mut told,
     );
     (
@@ -241,15 +240,15 @@ fn errors(question: &Question, slots: usize) -> (u32, [u64; 3], u32) {
 
 #[test]
 fn errors_are_those_of_redrawn_pages(rt: HostRuntime) {
-    assert!(rt; errors(&ASKED, 4) == (0, [64, 54_082, 60_686], 1));
+    assert!(rt; errors(&ASKED, 8) == (0, [64, 54_082, 60_686], 1));
     let all = Question {
         sampled: 16,
         guest: 16,
         ..ASKED
     };
     assert!(rt; errors(&all, 0) == (0, [0; 3], 0));
-    assert!(rt; errors(&ASKED, 3) == (61, [7; 3], 7));
-    assert!(rt; errors(&Question { tick: 0, ..ASKED }, 4) == (81, [7; 3], 7));
+    assert!(rt; errors(&ASKED, 7) == (61, [7; 3], 7));
+    assert!(rt; errors(&Question { tick: 0, ..ASKED }, 8) == (81, [7; 3], 7));
 }
 
 const NO_ERRORS: ErrorNumbers = ErrorNumbers {

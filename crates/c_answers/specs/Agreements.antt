@@ -8,6 +8,7 @@ use Rattle.predictions.specs.Agreements.{IsAgreement}
 use Rattle.predictions.specs.Predictions.{prediction_of}
 use Rattle.predictions.specs.Questions.{Fits, scale_in, terms_of}
 use Rattle.predictions.specs.Redrawn.Errors.{AreErrors, SampleErrors}
+use Rattle.predictions.specs.declared.course.Manner.TheVariants as manners
 use Rattle.predictions.specs.declared.agreement.numbers.AgreementNumbers.{AgreementNumbers}
 use Rattle.predictions.specs.declared.agreement.verdicts.Agreement.{Agreement}
 use Rattle.predictions.specs.declared.question.Question.{Question}
@@ -19,9 +20,10 @@ pub record IsAgreementOver (terms : Terms) (log : GuestTouches) (numbers : Agree
   pub plan : MigrationPlan
   pub is_plan : IsPlan log.pages log.touches terms.settings plan
   pub errors : Option SampleErrors
-  pub are_errors : AreErrors log.pages log.touches terms.settings terms.scale errors
+  pub are_errors : AreErrors manners.Rounds log.pages log.touches terms.settings terms.scale errors
   pub agreement : Agreement
-  pub is_agreement : IsAgreement log.pages log.touches terms.settings terms.scale terms.limits agreement
+  pub is_agreement : IsAgreement manners.Rounds log.pages log.touches terms.settings terms.scale terms.limits
+      agreement
   pub numbers_are : numbers ≡ sure_numbers terms.limits.downtime agreement
       (prediction_of terms.scale terms.limits terms.settings.start plan (last_tick_of log.touches)) errors
 

@@ -13,6 +13,7 @@ use Rattle.predictions.specs.declared.answer.ErrorNumbers.{ErrorNumbers}
 use Rattle.predictions.specs.declared.question.Question.{Question}
 use Rattle.predictions.specs.declared.question.Terms.{Terms}
 use Rattle.predictions.specs.Redrawn.Errors.{AreErrors, SampleErrors}
+use Rattle.predictions.specs.declared.course.Manner.TheVariants as manners
 use Rattle.trace_codec.specs.Refusals.{RefusesUnlessMemory}
 use Rattle.c_answers.specs.declared.inquiries.Inquiry.{Inquiry}
 use Rattle.c_answers.specs.declared.questions.QuestionRefusal.{QuestionRefusal}
@@ -62,7 +63,7 @@ pub record IsAnswerOver (terms : Terms) (log : GuestTouches) (answer : Answer) :
 -- the standard errors of what that plan predicts, if there are any
 pub record AreNumbersOver (terms : Terms) (log : GuestTouches) (numbers : ErrorNumbers) : Type 0 where
   pub errors : Option SampleErrors
-  pub are_errors : AreErrors log.pages log.touches terms.settings terms.scale errors
+  pub are_errors : AreErrors manners.Rounds log.pages log.touches terms.settings terms.scale errors
   pub numbers_are : numbers ≡ error_numbers errors
 
 -- both, over the trace that these bytes encode, which has the question's scale

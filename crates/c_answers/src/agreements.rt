@@ -16,7 +16,7 @@ use crate::questions::{QuestionRefusal, SizedQuestion};
 use guest_log::last_tick;
 use predictions::agreement::{Agreement, AgreementNumbers};
 use predictions::redrawn::Errors;
-use predictions::{Prediction, Terms};
+use predictions::{Manner, Measure, Prediction, Terms};
 use round_planner::{Plan, PlanError, plan};
 use std::alloc::Global;
 use trace_readers::TouchLog;
@@ -45,8 +45,13 @@ fn agreement_over(
     } = terms;
     let plan = plan(alloc, log, settings)?;
     let prediction = prediction_with(terms, log, &plan);
-    let errors = Errors::of_trace(alloc, log, settings, scale)?;
-    let agreement = Agreement::of_trace(alloc, log, settings, scale, limits)?;
+    let errors = Errors::of_trace(alloc, log, settings, scale, Manner::Rounds)?;
+    let measure = Measure {
+        scale: *scale,
+        limits: *limits,
+        manner: Manner::Rounds,
+    };
+    let agreement = Agreement::of_trace(alloc, log, settings, &measure)?;
     Ok(AgreementNumbers::new(limits.downtime, &agreement, &prediction, &errors))
 }
 

@@ -17,7 +17,7 @@ use crate::inquiries::{Inquiry, inquiry_of};
 use crate::questions::{QuestionRefusal, SizedQuestion};
 use guest_log::last_tick;
 use predictions::redrawn::Errors;
-use predictions::{Answer, ErrorNumbers, Prediction, Terms};
+use predictions::{Answer, ErrorNumbers, Manner, Prediction, Terms};
 use round_planner::{Plan, PlanError, plan};
 use std::alloc::{AllocError, Global};
 use trace_readers::TouchLog;
@@ -52,7 +52,7 @@ fn answered(alloc: Global, terms: &Terms, log: &TouchLog) -> Result<Answer, Plan
 fn numbers(alloc: Global, terms: &Terms, log: &TouchLog) -> Result<ErrorNumbers, AllocError>
     ensures { IfOk result (AreNumbersOver terms.now log.now) }
 {
-    let errors = Errors::of_trace(alloc, log, &terms.settings, &terms.scale)?;
+    let errors = Errors::of_trace(alloc, log, &terms.settings, &terms.scale, Manner::Rounds)?;
     Ok(ErrorNumbers::new(&errors))
 }
 

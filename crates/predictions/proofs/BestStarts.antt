@@ -10,6 +10,7 @@ use Rattle.predictions.specs.Starts.Choices.{IsBest, IsBestOf, IsKnownAt, IsPass
 use Rattle.predictions.specs.Starts.Choices.{is_better_start, is_known}
 use Rattle.predictions.specs.Starts.Costs.{CostAtStart, IsRated, cost_at_start}
 use Rattle.predictions.specs.Units.Scales.{TraceScale}
+use Rattle.predictions.specs.declared.course.Manner.TheVariants.{Rounds}
 use Rattle.predictions.specs.declared.units.limits.Limits.{Limits}
 use Rattle.predictions.proofs.OneError.{one_errors}
 use Rattle.predictions.proofs.Orders.{better_order, no_better_with_errors}
@@ -23,7 +24,7 @@ module _ (pages : ℕ) (touches : List GuestTouch) (scale : TraceScale) (limits 
       → IsRated pages touches scale limits line b → a ≡ b
   one_rated line a b x y =
       let same = x.plain_is ∙ sym y.plain_is in
-      let errors = one_errors pages touches line.settings scale a.errors b.errors x.errors_are y.errors_are in
+      let errors = one_errors Rounds pages touches line.settings scale a.errors b.errors x.errors_are y.errors_are in
       λ i. record { start = (same i).start; cost = (same i).cost; errors = errors i }
 
   not_itself : (a : CostAtStart) → beats a a ≡ false

@@ -9,13 +9,14 @@ use Rattle.std.proofs.lemmas.List.FromFn.{map-range_with_len_more}
 use Rattle.std.proofs.lemmas.List.{length-map}
 use Rattle.std.proofs.lemmas.Slice.Zip.{AllZip-long}
 use Rattle.migration_model.specs.Rates.{MigrationSettings}
-use Rattle.migration_model.specs.Sweeps.{IsOutcome, PlanOutcome}
 use Rattle.migration_model.specs.Touches.{GuestTouch}
-use Rattle.look_planner.specs.DrawnPages.{redrawn_touches}
 use Rattle.std.proofs.Math.Nat.{le_of_mul-le-mul_right, mul-sub}
 use Rattle.std.proofs.lemmas.Nat.{mul-le}
-use Rattle.predictions.specs.Redrawn.Errors.{AreRedrawn, IsErrorOf, spread_of, weight_of}
+use Rattle.predictions.specs.Redrawn.Errors.{AreRedrawn, IsErrorOf, IsRedrawn, spread_of, weight_of}
 use Rattle.predictions.specs.Redrawn.Sums.{IsSpread}
+use Rattle.predictions.specs.Units.Scales.{TraceScale}
+use Rattle.predictions.specs.declared.course.Course.{Course}
+use Rattle.predictions.specs.declared.course.Manner.{Manner}
 use Rattle.predictions.specs.declared.redrawn.spread.Spread.{Spread}
 use Rattle.predictions.specs.Redrawn.Draws.{draws_of, drawn_after, next_state, page_at, state_after}
 
@@ -57,37 +58,33 @@ drawn_low sampled pages steps = All-from_recursion (λ page. page < pages) (draw
 
 -- ---- one more plan
 
-pub zip_push : {X : Type 0} (R : X → PlanOutcome → Type 0) (xs : List X) (ys : List PlanOutcome) (x : X)
-    (y : PlanOutcome) → AllZip R xs ys → R x y → AllZip R (xs ++ x ∷ []) (ys ++ y ∷ [])
+pub zip_push : {X Y : Type 0} (R : X → Y → Type 0) (xs : List X) (ys : List Y) (x : X) (y : Y) → AllZip R xs ys
+    → R x y → AllZip R (xs ++ x ∷ []) (ys ++ y ∷ [])
 zip_push R [] [] x y all one = (one, tt)
 zip_push R [] (b ∷ ys) x y all one = absurd all
 zip_push R (a ∷ xs) [] x y all one = absurd all
 zip_push R (a ∷ xs) (b ∷ ys) x y all one = (all.0, zip_push R xs ys x y all.1 one)
 
-pub redrawn_more : (sampled pages n : ℕ) (touches : List GuestTouch) (s : MigrationSettings)
-    (outcomes : List PlanOutcome) (outcome : PlanOutcome) (drawn : List ℕ)
-    → drawn ≡ drawn_after sampled pages (n * sampled)
-    → AreRedrawn pages touches s (draws_of sampled pages n) outcomes
-    → IsOutcome (length drawn) (redrawn_touches drawn touches) s outcome
-    → AreRedrawn pages touches s (draws_of sampled pages (n + 1)) (outcomes ++ outcome ∷ [])
-redrawn_more sampled pages n touches s outcomes outcome drawn is before one =
+pub redrawn_more : (manner : Manner) (sampled pages n : ℕ) (touches : List GuestTouch) (scale : TraceScale)
+    (s : MigrationSettings) (courses : List Course) (course : Course)
+    → AreRedrawn manner touches scale s (draws_of sampled pages n) courses
+    → IsRedrawn manner touches scale s (drawn_after sampled pages (n * sampled)) course
+    → AreRedrawn manner touches scale s (draws_of sampled pages (n + 1)) (courses ++ course ∷ [])
+redrawn_more manner sampled pages n touches scale s courses course before one =
     let f : ℕ → List ℕ = λ draw. drawn_after sampled pages (draw * sampled) in
-    let R : List ℕ → PlanOutcome → Type 0 = λ some outcome. IsOutcome (length some) (redrawn_touches some touches) s
-    outcome in
+    let R : List ℕ → Course → Type 0 = IsRedrawn manner touches scale s in
     let more : map f (range_with_len 0 (n + 1)) ≡ map f (range_with_len 0 n) ++ f n ∷ [] =
     map-range_with_len_more f 0 n n (omega arith) in
-    let here : R (f n) outcome = subst (λ (l : List ℕ). R l outcome) is one in
-    subst (λ (draws : List (List ℕ)). AllZip R draws (outcomes ++ outcome ∷ [])) (sym more)
-    (zip_push R (map f (range_with_len 0 n)) outcomes (f n) outcome before here)
+    subst (λ (draws : List (List ℕ)). AllZip R draws (courses ++ course ∷ [])) (sym more)
+    (zip_push R (map f (range_with_len 0 n)) courses (f n) course before one)
 
--- there are as many results as draws
-pub results_count : (sampled pages n : ℕ) (touches : List GuestTouch) (s : MigrationSettings)
-    (outcomes : List PlanOutcome) (f : PlanOutcome → ℕ)
-    → AreRedrawn pages touches s (draws_of sampled pages n) outcomes → length (map f outcomes) ≡ n
-results_count sampled pages n touches s outcomes f are =
-    length-map outcomes f
-    ∙ AllZip-long (λ drawn outcome. IsOutcome (length drawn) (redrawn_touches drawn touches) s outcome)
-    (draws_of sampled pages n) outcomes are
+-- there are as many courses as draws
+pub courses_count : (manner : Manner) (sampled pages n : ℕ) (touches : List GuestTouch) (scale : TraceScale)
+    (s : MigrationSettings) (courses : List Course) (f : Course → ℕ)
+    → AreRedrawn manner touches scale s (draws_of sampled pages n) courses → length (map f courses) ≡ n
+courses_count manner sampled pages n touches scale s courses f are =
+    length-map courses f
+    ∙ AllZip-long (IsRedrawn manner touches scale s) (draws_of sampled pages n) courses are
     ∙ length-map-range_with_len (λ draw. drawn_after sampled pages (draw * sampled)) 0 n
 
 -- ---- shares

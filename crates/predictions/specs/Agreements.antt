@@ -6,10 +6,9 @@ use Rattle.std.specs.Prelude.{◌≡◌, ℕ, ◌-◌, ◌*◌, ◌&&◌, ◌||�
 use Rattle.std.specs.Prelude.{Option, None, Some}
 use Rattle.std.specs.List.{AllZip, count_by, range_with_len}
 use Rattle.migration_model.specs.Rates.{MigrationSettings}
-use Rattle.migration_model.specs.Sweeps.{IsOutcome, PlanOutcome}
 use Rattle.migration_model.specs.Touches.{GuestTouch, last_tick_of}
-use Rattle.predictions.specs.Predictions.{GuestPrediction, MigrationCost, downtime_of, ends_with_few, kept_of}
-use Rattle.predictions.specs.Predictions.{verdict_of}
+use Rattle.predictions.specs.Courses.{IsCourseOver, converges}
+use Rattle.predictions.specs.Predictions.{GuestPrediction, MigrationCost, downtime_of, kept_of, verdict_of}
 use Rattle.predictions.specs.Redrawn.Draws.{draws_of}
 use Rattle.predictions.specs.Redrawn.Errors.{AreRedrawn, HasErrors, SampleErrors}
 use Rattle.predictions.specs.Starts.Choices.{is_likely}
@@ -19,69 +18,72 @@ use Rattle.predictions.specs.Starts.{case_from, count_of}
 use Rattle.predictions.specs.Units.Scales.{TraceScale}
 use Rattle.predictions.specs.declared.agreement.counts.AnswerCounts.{AnswerCounts}
 use Rattle.predictions.specs.declared.agreement.verdicts.Agreement.{Agreement}
+use Rattle.predictions.specs.declared.course.Course.{Course}
+use Rattle.predictions.specs.declared.course.Manner.{Manner}
 use Rattle.predictions.specs.declared.units.limits.Limits.{Limits}
 use Rattle.predictions.specs.declared.verdict.Verdict.{Verdict}
 use Rattle.predictions.specs.declared.verdict.Verdict.TheVariants as verdicts
 
--- whether a plan with this result stops by a tick, and then converges, and then keeps its limit
-abbrev pub stops_by : ℕ → PlanOutcome → Bool
-stops_by last_tick outcome = nat_le outcome.stop last_tick
+-- whether a plan that comes to this stops by a tick, and then converges, and then keeps its limit
+abbrev pub stops_by : ℕ → Course → Bool
+stops_by last_tick course = nat_le course.stop last_tick
 
-abbrev pub converges_by : ℕ → PlanOutcome → Bool
-converges_by last_tick outcome = stops_by last_tick outcome && ends_with_few outcome.reason
+abbrev pub converges_by : ℕ → Course → Bool
+converges_by last_tick course = stops_by last_tick course && converges course.ending
 
-abbrev pub keeps_by : TraceScale → Limits → ℕ → PlanOutcome → Bool
-keeps_by scale limits last_tick outcome =
-    stops_by last_tick outcome && nat_le (downtime_of scale limits outcome.down) limits.downtime
+abbrev pub keeps_by : TraceScale → Limits → ℕ → Course → Bool
+keeps_by scale limits last_tick course =
+    stops_by last_tick course && nat_le (downtime_of scale limits course.down) limits.downtime
 
--- of how many plans these are the results, how many of them stop by the last tick, converge, and keep their limit
-abbrev pub counts_of : TraceScale → Limits → ℕ → List PlanOutcome → AnswerCounts
-counts_of scale limits last_tick outcomes = record {
-  whole = length outcomes;
-  known = count_by (stops_by last_tick) outcomes;
-  converging = count_by (converges_by last_tick) outcomes;
-  kept = count_by (keeps_by scale limits last_tick) outcomes;
+-- how many plans come to these, how many of them stop by the last tick, converge, and keep their limit
+abbrev pub counts_of : TraceScale → Limits → ℕ → List Course → AnswerCounts
+counts_of scale limits last_tick courses = record {
+  whole = length courses;
+  known = count_by (stops_by last_tick) courses;
+  converging = count_by (converges_by last_tick) courses;
+  kept = count_by (keeps_by scale limits last_tick) courses;
 }
 
--- the counts of the plans of the first `count` draws
-pub record AreCountsOf (pages : ℕ) (touches : List GuestTouch) (s : MigrationSettings) (scale : TraceScale)
-    (limits : Limits) (count : ℕ) (counts : AnswerCounts) : Type 0 where
-  pub outcomes : List PlanOutcome
-  pub redrawn : AreRedrawn pages touches s (draws_of scale.sampled pages count) outcomes
-  pub counts_are : counts ≡ counts_of scale limits (last_tick_of touches) outcomes
+-- the counts of the plans of the first `count` draws, by a manner
+pub record AreCountsOf (manner : Manner) (pages : ℕ) (touches : List GuestTouch) (s : MigrationSettings)
+    (scale : TraceScale) (limits : Limits) (count : ℕ) (counts : AnswerCounts) : Type 0 where
+  pub courses : List Course
+  pub redrawn : AreRedrawn manner touches scale s (draws_of scale.sampled pages count) courses
+  pub counts_are : counts ≡ counts_of scale limits (last_tick_of touches) courses
 
 -- the counts of 20 draws, if pages were sampled
-abbrev pub AreDrawCounts : ℕ → List GuestTouch → MigrationSettings → TraceScale → Limits → Option AnswerCounts → Type 0
-AreDrawCounts pages touches s scale limits None = ¬ HasErrors scale
-AreDrawCounts pages touches s scale limits (Some counts) =
-    HasErrors scale × AreCountsOf pages touches s scale limits 20 counts
+abbrev pub AreDrawCounts : Manner → ℕ → List GuestTouch → MigrationSettings → TraceScale → Limits → Option AnswerCounts
+    → Type 0
+AreDrawCounts manner pages touches s scale limits None = ¬ HasErrors scale
+AreDrawCounts manner pages touches s scale limits (Some counts) =
+    HasErrors scale × AreCountsOf manner pages touches s scale limits 20 counts
 
 -- the cases of the starts that are spread over a record, each by its number
 abbrev pub spread_case : MigrationSettings → ℕ → ℕ → MigrationSettings
 spread_case s last_tick = case_from s (spread_starts s last_tick) last_tick
 
--- these are the results of the plans of the first `count` of these starts
-abbrev pub AreStarted : ℕ → List GuestTouch → MigrationSettings → ℕ → List PlanOutcome → Type 0
-AreStarted pages touches s count outcomes = AllZip (IsOutcome pages touches)
-    (map (spread_case s (last_tick_of touches)) (range_with_len 0 count)) outcomes
+-- what the plans from the first `count` of these starts come to, by a manner
+abbrev pub AreStarted : Manner → ℕ → List GuestTouch → TraceScale → MigrationSettings → ℕ → List Course → Type 0
+AreStarted manner pages touches scale s count courses = AllZip (IsCourseOver manner pages touches scale)
+    (map (spread_case s (last_tick_of touches)) (range_with_len 0 count)) courses
 
 -- of these, the counts of those that end within the trace: the record allows no other start
 abbrev pub of_known : AnswerCounts → AnswerCounts
 of_known counts = record counts { whole = counts.known }
 
--- the counts of the plans from the starts that a record allows
-pub record AreStartCounts (pages : ℕ) (touches : List GuestTouch) (s : MigrationSettings) (scale : TraceScale)
-    (limits : Limits) (counts : AnswerCounts) : Type 0 where
-  pub outcomes : List PlanOutcome
-  pub started : AreStarted pages touches s (count_of (spread_starts s (last_tick_of touches)) (last_tick_of touches))
-      outcomes
-  pub counts_are : counts ≡ of_known (counts_of scale limits (last_tick_of touches) outcomes)
+-- the counts of the plans from the starts that a record allows, by a manner
+pub record AreStartCounts (manner : Manner) (pages : ℕ) (touches : List GuestTouch) (s : MigrationSettings)
+    (scale : TraceScale) (limits : Limits) (counts : AnswerCounts) : Type 0 where
+  pub courses : List Course
+  pub started : AreStarted manner pages touches scale s
+      (count_of (spread_starts s (last_tick_of touches)) (last_tick_of touches)) courses
+  pub counts_are : counts ≡ of_known (counts_of scale limits (last_tick_of touches) courses)
 
 -- the counts of the draws and of the starts
-pub record IsAgreement (pages : ℕ) (touches : List GuestTouch) (s : MigrationSettings) (scale : TraceScale)
-    (limits : Limits) (a : Agreement) : Type 0 where
-  pub draws : AreDrawCounts pages touches s scale limits a.draws
-  pub starts : AreStartCounts pages touches s scale limits a.starts
+pub record IsAgreement (manner : Manner) (pages : ℕ) (touches : List GuestTouch) (s : MigrationSettings)
+    (scale : TraceScale) (limits : Limits) (a : Agreement) : Type 0 where
+  pub draws : AreDrawCounts manner pages touches s scale limits a.draws
+  pub starts : AreStartCounts manner pages touches s scale limits a.starts
 
 -- Nearly all of some: 19 of 20. Two standard errors leave out as many.
 abbrev pub nearly_all : ℕ → ℕ → Bool

@@ -7,7 +7,7 @@ use Rattle.look_planner.specs.declared.sums.LookSums.{LookSums}
 use Rattle.migration_model.specs.Looks.{HypervisorSettings}
 use Rattle.migration_model.specs.Rates.{MigrationSettings, StopReason, few_remain, rounds_done, too_fast}
 use Rattle.migration_model.specs.Sweeps.{IsOutcome, PlanOutcome}
-use Rattle.migration_model.specs.Touches.{GuestTouch}
+use Rattle.migration_model.specs.Touches.{GuestTouch, last_tick_of}
 use Rattle.predictions.specs.Looks.{look_settings}
 use Rattle.predictions.specs.Predictions.{answer}
 use Rattle.predictions.specs.Units.Scales.{TraceScale}
@@ -73,6 +73,10 @@ IsCourse manners.Looks pages touches scale s last_tick course = (sums : LookSums
     × AreSums pages touches (course_settings scale s last_tick) sums × (course ≡ course_of_looks sums)
 IsCourse manners.Rounds pages touches scale s last_tick course =
     (outcome : PlanOutcome) × IsOutcome pages touches s outcome × (course ≡ course_of_rounds outcome)
+
+-- what it comes to over the record of these touches
+abbrev pub IsCourseOver : Manner → ℕ → List GuestTouch → TraceScale → MigrationSettings → Course → Type 0
+IsCourseOver manner pages touches scale s course = IsCourse manner pages touches scale s (last_tick_of touches) course
 
 -- whether a migration converges by its course, over a record with this last tick
 abbrev pub converges : CourseEnd → Bool

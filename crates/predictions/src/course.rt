@@ -2,12 +2,13 @@
 
 // `IsCourse` holds of one value alone: `one_course`.
 
-ghost use Rattle.std.specs.Prelude.{◌≡◌, ◌≤◌, ◌<◌, ◌^◌, ℕ, IfErr, IfOk, List};
+ghost use Rattle.std.specs.Prelude.{◌≡◌, ◌≤◌, ◌<◌, ◌^◌, ℕ, List, length};
 ghost use Rattle.migration_model.specs.Looks.{AreHypervisorSettings};
 ghost use Rattle.migration_model.specs.Rates.{MigrationSettings};
-ghost use Rattle.migration_model.specs.Touches.{GuestTouch, last_tick_of};
-ghost use Rattle.predictions.specs.Courses.{IsCourse, course_settings, look_ending, record_end, round_ending};
-ghost use Rattle.predictions.specs.Courses.{stop_after};
+ghost use Rattle.migration_model.specs.Touches.{GuestTouch};
+ghost use Rattle.page_bitmap.specs.Listing.{word_count};
+ghost use Rattle.predictions.specs.Courses.{IsCourse, IsCourseOver, course_settings, look_ending, record_end};
+ghost use Rattle.predictions.specs.Courses.{round_ending, stop_after};
 ghost use Rattle.predictions.specs.Units.Scales.{TraceScale};
 ghost use Rattle.predictions.specs.declared.course.Manner.TheVariants as manners;
 ghost use Rattle.rate_limit.specs.Pacing.{reason_of};
@@ -19,14 +20,27 @@ use guest_log::{Timeline, last_tick};
 use look_planner::{LookAsked, LookSettings, LookSums, PlanEnd, look_sums};
 use page_bitmap::word_count;
 use rate_limit::{Reason, Settings};
-use round_planner::{Outcome, PlanError, plan};
-use std::alloc::Global;
+use round_planner::{Outcome, RoundRow, plan_rows};
+use std::alloc::{AllocError, Global};
 
 /// After so many looks the planner gives up.
 const MOST_LOOKS: u64 = 2_000;
 
 /// How long a record is at most, in ticks. Clark's rounds last no longer than that and one tick more.
 const LONGEST: u64 = 4_194_303_999;
+
+/// An empty row of a round.
+pub(crate) const NO_ROW: RoundRow = RoundRow {
+    from: 0,
+    to: 0,
+    rate: 0,
+    pages: 0,
+    sent: 0,
+    dirtied: 0,
+};
+
+/// The most rounds.
+pub(crate) const MOST_ROUNDS: usize = 64;
 
 /// By whose plan a migration goes.
 #[derive(Clone, Copy, Debug, PartialEq, Eq)]
@@ -135,9 +149,8 @@ fn stop_after(ending: CourseEnd, tick: u64) -> u64
 }
 
 impl Course {
-    ghost use Rattle.std.specs.Prelude.{◌≡◌, ◌≤◌, ◌^◌, IfErr, IfOk};
-    ghost use Rattle.predictions.specs.Courses.{IsCourse, course_of_looks, course_of_rounds, course_verdict};
-    ghost use Rattle.migration_model.specs.Touches.{last_tick_of};
+    ghost use Rattle.std.specs.Prelude.{◌≡◌, ◌≤◌, ◌^◌, IfOk};
+    ghost use Rattle.predictions.specs.Courses.{IsCourseOver, course_of_looks, course_of_rounds, course_verdict};
 
     /// Returns what a plan of rounds with these sums comes to.
     pub fn of_outcome(outcome: &Outcome) -> Course
@@ -174,18 +187,18 @@ impl Course {
         settings: &Settings,
         scale: &Scale,
         manner: Manner,
-    ) -> Result<Course, PlanError>
-        ensures made { IfOk result (IsCourse manner (T.pages timeline.now) (T.touches timeline.now) scale.now
-            settings.now (last_tick_of (T.touches timeline.now))) }
-        ensures refused { IfErr result (λ e. e ≡ PlanError.Memory) }
+    ) -> Result<Course, AllocError>
+        ensures { IfOk result (IsCourseOver manner (T.pages timeline.now) (T.touches timeline.now) scale.now
+            settings.now) }
     {
-        match manner {
-            Manner::Looks => look_course(alloc, timeline, settings, scale),
-            Manner::Rounds => {
-                let plan = plan(alloc, timeline, settings)?;
-                Ok(Course::of_outcome(&plan.outcome()))
-            }
-        }
+        let pages = timeline.page_count() as usize;
+        let mut marks = Vec::from_elem(alloc, 0, word_count(pages))?;
+        let mut list = Vec::from_elem(alloc, 0, pages)?;
+        let mut rows = Vec::from_elem(alloc, NO_ROW, MOST_ROUNDS)?;
+        let course = course_in(
+            timeline, settings, scale, manner, &mut marks, &mut list, &mut rows,
+        );
+        Ok(course)
     }
 
     /// Returns whether the migration converges, over a record with this last tick.
@@ -198,21 +211,62 @@ impl Course {
 
 /// Returns what a hypervisor's plan of a trace comes to.
 fn look_course<T: Timeline>(
-    alloc: Global,
     timeline: &T,
     settings: &Settings,
     scale: &Scale,
-) -> Result<Course, PlanError>
-    ensures made { IfOk result (IsCourse manners.Looks (T.pages timeline.now) (T.touches timeline.now) scale.now
-        settings.now (last_tick_of (T.touches timeline.now))) }
-    ensures refused { IfErr result (λ e. e ≡ PlanError.Memory) }
+    marks: &mut [u64],
+    list: &mut [u32],
+) -> Course
+    requires marks { length marks.old ≡ word_count (T.pages timeline.now) }
+    requires list { length list.old ≡ T.pages timeline.now }
+    ensures { IsCourseOver manners.Looks (T.pages timeline.now) (T.touches timeline.now) scale.now settings.now result }
 {
-    let pages = timeline.page_count() as usize;
-    let mut marks = Vec::from_elem(alloc, 0, word_count(pages))?;
-    let mut room = Vec::from_elem(alloc, 0, pages)?;
+    let _pages = timeline.page_count();
     let looks = course_settings(scale, settings, last_tick(timeline));
-    let sums = look_sums(timeline, &looks, &mut marks, &mut room);
-    Ok(Course::of_sums(&sums))
+    let sums = look_sums(timeline, &looks, marks, list);
+    Course::of_sums(&sums)
+}
+
+/// Returns what Clark's plan of a trace comes to.
+fn round_course<T: Timeline>(
+    timeline: &T,
+    settings: &Settings,
+    marks: &mut [u64],
+    list: &mut [u32],
+    rows: &mut [RoundRow],
+) -> Course
+    requires marks { length marks.old ≡ word_count (T.pages timeline.now) }
+    requires list { length list.old ≡ T.pages timeline.now }
+    requires rows { 64 ≤ length rows.old }
+    ensures { (scale : TraceScale) → IsCourseOver manners.Rounds (T.pages timeline.now) (T.touches timeline.now) scale
+        settings.now result }
+{
+    let _in_range = settings.asked();
+    Course::of_outcome(&plan_rows(timeline, settings, marks, list, rows))
+}
+
+/// Returns what the plan of a trace comes to, by a manner.
+///
+/// It allocates nothing: the caller lends a bit of `marks` and a slot of `list` for each page, and 64 slots of `rows`.
+/// What they hold does not matter.
+pub fn course_in<T: Timeline>(
+    timeline: &T,
+    settings: &Settings,
+    scale: &Scale,
+    manner: Manner,
+    marks: &mut [u64],
+    list: &mut [u32],
+    rows: &mut [RoundRow],
+) -> Course
+    requires marks { length marks.old ≡ word_count (T.pages timeline.now) }
+    requires list { length list.old ≡ T.pages timeline.now }
+    requires rows { 64 ≤ length rows.old }
+    ensures { IsCourseOver manner (T.pages timeline.now) (T.touches timeline.now) scale.now settings.now result }
+{
+    match manner {
+        Manner::Looks => look_course(timeline, settings, scale, marks, list),
+        Manner::Rounds => round_course(timeline, settings, marks, list, rows),
+    }
 }
 
 /// The plan of a guest by a manner comes to one thing.

@@ -19,6 +19,7 @@ ghost use Rattle.predictions.specs.Starts.Ranges.{AreRanges, RangesOfStarts};
 ghost use Rattle.predictions.specs.Units.Limits.{RefusesLimits};
 ghost use Rattle.predictions.specs.Units.Scales.{TraceScale};
 ghost use Rattle.predictions.specs.declared.agreement.verdicts.Agreement.{Agreement};
+ghost use Rattle.predictions.specs.declared.course.Manner.{Manner};
 ghost use Rattle.predictions.specs.declared.question.Question.{Question};
 ghost use Rattle.predictions.specs.declared.remedies.finding.Remedies.{Remedies};
 ghost use Rattle.predictions.specs.declared.shares.share.LinkShare.{LinkShare};
@@ -29,15 +30,16 @@ ghost use Rattle.rate_limit.specs.declared.error.SettingsError.{SettingsError};
 
 /// The plan of a sample has one value of its standard errors, or none.
 pub fn one_errors()
-    ensures { (pages : ℕ) (touches : List GuestTouch) (s : MigrationSettings) (scale : TraceScale)
-        (a b : Option SampleErrors) → AreErrors pages touches s scale a → AreErrors pages touches s scale b → a ≡ b }
+    ensures { (manner : Manner) (pages : ℕ) (touches : List GuestTouch) (s : MigrationSettings) (scale : TraceScale)
+        (a b : Option SampleErrors) → AreErrors manner pages touches s scale a
+        → AreErrors manner pages touches s scale b → a ≡ b }
 {}
 
 /// A migration converges and keeps its limit in one number of draws, if there are any, and from one number of starts.
 pub fn one_agreement()
-    ensures { (pages : ℕ) (touches : List GuestTouch) (s : MigrationSettings) (scale : TraceScale) (limits : Limits)
-        (a b : Agreement) → IsAgreement pages touches s scale limits a → IsAgreement pages touches s scale limits b
-        → a ≡ b }
+    ensures { (manner : Manner) (pages : ℕ) (touches : List GuestTouch) (s : MigrationSettings) (scale : TraceScale)
+        (limits : Limits) (a b : Agreement) → IsAgreement manner pages touches s scale limits a
+        → IsAgreement manner pages touches s scale limits b → a ≡ b }
 {}
 
 /// Some cases have one best start, or none.

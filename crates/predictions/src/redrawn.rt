@@ -12,7 +12,7 @@ mod spread;
 mod sums;
 mod walk;
 
+pub(crate) use courses::drawn_course;
 pub use courses::redrawn_course;
-pub(crate) use draws::draw;
 pub use errors::{Errors, has_errors, sample_errors};
 pub use plans::{are_drawn, redrawn_outcome};

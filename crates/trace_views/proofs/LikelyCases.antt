@@ -7,6 +7,7 @@ use Rattle.std.proofs.lemmas.List.{get_or_default}
 use Rattle.migration_model.specs.Sweeps.{SweepLine}
 use Rattle.migration_model.specs.Touches.{GuestTouches}
 use Rattle.predictions.specs.Redrawn.Errors.{SampleErrors}
+use Rattle.predictions.specs.declared.course.Manner.TheVariants.{Rounds}
 use Rattle.predictions.proofs.OneError.{one_errors}
 use Rattle.trace_views.specs.Advice.{AreCaseErrors, IsFirst, KeepsBudget, KeepsDown, NoneHas, ends_within, is_cheaper}
 use Rattle.trace_views.specs.Advice.{is_likely_with, is_within}
@@ -18,7 +19,7 @@ one_case_errors : (log : GuestTouches) (measured : Option Measured) (line : Swee
     → AreCaseErrors log measured line a → AreCaseErrors log measured line b → a ≡ b
 one_case_errors log None line a b x y = x ∙ sym y
 one_case_errors log (Some known) line a b x y =
-    one_errors log.pages log.touches line.settings known.scale a b x y
+    one_errors Rounds log.pages log.touches line.settings known.scale a b x y
 
 module _ (log : GuestTouches) (measured : Option Measured) where
   -- a case that ends after the touches does not keep a downtime

@@ -10,6 +10,7 @@ use Rattle.migration_model.specs.Touches.{GuestTouches, last_tick_of}
 use Rattle.predictions.specs.Redrawn.Errors.{AreErrors, SampleErrors}
 use Rattle.predictions.specs.Starts.Choices.{is_likely}
 use Rattle.predictions.specs.Starts.Costs.{CostAtStart, cost_at_start}
+use Rattle.predictions.specs.declared.course.Manner.TheVariants as manners
 use Rattle.view_kinds.specs.declared.budget.Budget.{Budget}
 use Rattle.trace_views.specs.declared.advice.Advice.{Advice}
 use Rattle.trace_views.specs.declared.advice.Advice.TheVariants as advices
@@ -25,7 +26,8 @@ EndsWithin log line = ends_within log line ≡ true
 -- the standard errors of a case, if it is known what ticks and pages stand for and a part of the pages was sampled
 abbrev pub AreCaseErrors : GuestTouches → Option Measured → SweepLine → Option SampleErrors → Type 0
 AreCaseErrors log None line errors = errors ≡ None
-AreCaseErrors log (Some known) line errors = AreErrors log.pages log.touches line.settings known.scale errors
+AreCaseErrors log (Some known) line errors =
+    AreErrors manners.Rounds log.pages log.touches line.settings known.scale errors
 
 -- a case with its errors as a start
 abbrev pub case_with : GuestTouches → Measured → SweepLine → SampleErrors → CostAtStart

@@ -1,5 +1,5 @@
 -- What is predicted of a migration over a log.
-use Rattle.std.specs.Prelude.{◌≡◌, List, Option, None, Some}
+use Rattle.std.specs.Prelude.{◌≡◌, List, Option}
 use Rattle.predictions.specs.Agreements.{IsAgreement}
 use Rattle.predictions.specs.Remedies.{AreRemedies}
 use Rattle.predictions.specs.Remedies.Trials.{MigrationTrial}
@@ -12,6 +12,7 @@ use Rattle.predictions.specs.Starts.{cases_from}
 use Rattle.predictions.specs.Predictions.{prediction_of}
 use Rattle.predictions.specs.Looks.{IsForecast}
 use Rattle.predictions.specs.Redrawn.Errors.{AreErrors}
+use Rattle.predictions.specs.declared.course.Manner.TheVariants as manners
 use Rattle.trace_views.specs.declared.outlook.Outlook.{Outlook}
 use Rattle.view_kinds.specs.declared.view.AskedPrediction.{AskedPrediction}
 
@@ -39,9 +40,10 @@ pub record IsOutlook (log : GuestTouches) (asked : AskedPrediction) (outlook : O
   pub is_plan : IsPlan log.pages log.touches asked.settings plan
   pub prediction_is : outlook.prediction
       ≡ prediction_of asked.scale asked.limits asked.settings.start plan (last_tick_of log.touches)
-  pub are_errors : AreErrors log.pages log.touches asked.settings asked.scale outlook.errors
+  pub are_errors : AreErrors manners.Rounds log.pages log.touches asked.settings asked.scale outlook.errors
   pub is_forecast : IsForecast log.pages log.touches asked.scale asked.limits asked.settings outlook.looks
   pub are_ranges : AreRangesOver log asked outlook.ranges
-  pub is_agreement : IsAgreement log.pages log.touches asked.settings asked.scale asked.limits outlook.agreement
+  pub is_agreement : IsAgreement manners.Rounds log.pages log.touches asked.settings asked.scale asked.limits
+      outlook.agreement
   pub is_share : IsLinkShare (VerdictAt log.pages log.touches (trial_of asked)) outlook.share
   pub are_remedies : AreRemedies log.pages log.touches (trial_of asked) outlook.remedies

@@ -4,9 +4,9 @@ ghost use Rattle.std.specs.Prelude.{◌≡◌, IfOk, false, true};
 ghost use Rattle.trace_views.specs.Advice.{AreCaseErrors, KeepsDown, case_with, ends_within, is_likely_with};
 
 use guest_log::last_tick;
-use predictions::Cost;
 use predictions::redrawn::Errors;
 use predictions::starts::{StartCost, is_likely};
+use predictions::{Cost, Manner};
 use std::alloc::{AllocError, Global};
 use sweep_report::Line;
 use trace_readers::TouchLog;
@@ -23,7 +23,9 @@ pub(crate) fn case_errors(
     ensures { IfOk result (AreCaseErrors log.now measured.now line.now) }
 {
     match measured {
-        Some(Measured { scale, .. }) => Errors::of_trace(alloc, log, &line.settings, scale),
+        Some(Measured { scale, .. }) => {
+            Errors::of_trace(alloc, log, &line.settings, scale, Manner::Rounds)
+        }
         None => Ok(None),
     }
 }

@@ -7,13 +7,13 @@ ghost use Rattle.trace_views.specs.Outlooks.{AreRangesOver, IsOutlook, trial_of}
 use crate::error::ViewError;
 use crate::sweeping::planned;
 use guest_log::last_tick;
-use predictions::Prediction;
 use predictions::agreement::Agreement;
 use predictions::looks::LookForecast;
 use predictions::redrawn::Errors;
 use predictions::remedies::{Remedies, Trial};
 use predictions::shares::LinkShare;
 use predictions::starts::{StartRanges, ranges_over, spread_cases};
+use predictions::{Manner, Measure, Prediction};
 use round_planner::plan;
 use std::alloc::Global;
 use std::thread::Threads;
@@ -97,10 +97,15 @@ pub(crate) fn outlook_over<R: Threads + Sync>(
     let plan = plan(alloc, log, &asked.settings).or(Err(ViewError::Memory))?;
     let start = asked.settings.asked().start;
     let prediction = Prediction::new(scale, limits, start, &plan, last_tick(log));
-    let errors = Errors::of_trace(alloc, log, &asked.settings, scale)?;
+    let errors = Errors::of_trace(alloc, log, &asked.settings, scale, Manner::Rounds)?;
     let looks = looks_over(alloc, asked, log)?;
     let ranges = ranges_from(rt, alloc, asked, log)?;
-    let agreement = Agreement::of_trace(alloc, log, &asked.settings, scale, limits)?;
+    let measure = Measure {
+        scale: *scale,
+        limits: *limits,
+        manner: Manner::Rounds,
+    };
+    let agreement = Agreement::of_trace(alloc, log, &asked.settings, &measure)?;
     let trial = trial_of(asked);
     let share = LinkShare::of_trace(alloc, log, &trial)?;
     let remedies = Remedies::of_trace(alloc, log, &trial)?;

@@ -141,7 +141,7 @@ struct ToldChoice {
 }
 
 impl ToldChoice {
-    ghost use Rattle.std.specs.Prelude.{◌≡◌, ◌<◌, IfErr, IfOk, Some, length};
+    ghost use Rattle.std.specs.Prelude.{◌≡◌, ◌<◌, ℕ, IfOk, Some, length};
     ghost use Rattle.trace_views.specs.Views.{IsCaseTold, IsChoiceTold};
 
     /// Returns what is told of a case over a log, by its number.

@@ -11,7 +11,7 @@ use predictions::agreement::{
 };
 use predictions::redrawn::{Errors, has_errors};
 use predictions::units::{Limits, Scale};
-use predictions::{Prediction, Verdict};
+use predictions::{Manner, Measure, Prediction, Verdict};
 use rate_limit::{Reason, Settings};
 use round_planner::Outcome;
 use std::alloc::Global;
@@ -46,33 +46,24 @@ fn lent(
     alloc: Global,
     trace: &Trace,
     settings: &Settings,
-    scale: &Scale,
-    limits: &Limits,
+    measure: &Measure,
 ) -> Agreement {
     let pages = trace.page_count() as usize;
     let mut marks = Vec::from_elem(alloc, u64::MAX, word_count(pages)).expect(rt, "memory");
-    let mut listed = Vec::from_elem(alloc, u64::MAX, word_count(pages)).expect(rt, "memory");
     let mut list = Vec::from_elem(alloc, u32::MAX, pages).expect(rt, "memory");
     let mut rows = Vec::from_elem(alloc, OLD_ROW, 64).expect(rt, "memory");
-    let starts = start_counts(
-        trace, settings, scale, limits, &mut marks, &mut list, &mut rows,
-    );
-    if !has_errors(scale) {
+    let starts = start_counts(trace, settings, measure, &mut marks, &mut list, &mut rows);
+    if !has_errors(&measure.scale) {
         return Agreement {
             draws: None,
             starts,
         };
     }
-    let mut room = Vec::from_elem(alloc, u32::MAX, scale.sampled() as usize).expect(rt, "memory");
-    let draws = draw_counts(
-        trace,
-        settings,
-        scale,
-        limits,
-        &mut room,
-        &mut listed,
-        &mut marks,
-    );
+    let sampled = measure.scale.sampled() as usize;
+    let words = 2 * word_count(pages) + word_count(sampled);
+    let mut room = Vec::from_elem(alloc, u32::MAX, 2 * sampled).expect(rt, "memory");
+    let mut bits = Vec::from_elem(alloc, u64::MAX, words).expect(rt, "memory");
+    let draws = draw_counts(trace, settings, measure, &mut room, &mut bits);
     Agreement {
         draws: Some(draws),
         starts,
@@ -90,9 +81,13 @@ fn both_counts(
 ) -> [Agreement; 2] {
     let settings = Settings::new(case.asked()).expect(rt, "settings");
     let scale = Scale::new(tick, page, sampled, pages).expect(rt, "a scale");
-    let limits = limits(times);
-    let owned = Agreement::of_trace(alloc, trace, &settings, &scale, &limits).expect(rt, "memory");
-    [owned, lent(rt, alloc, trace, &settings, &scale, &limits)]
+    let measure = Measure {
+        scale,
+        limits: limits(times),
+        manner: Manner::Rounds,
+    };
+    let owned = Agreement::of_trace(alloc, trace, &settings, &measure).expect(rt, "memory");
+    [owned, lent(rt, alloc, trace, &settings, &measure)]
 }
 
 #[test]

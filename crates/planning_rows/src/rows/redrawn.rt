@@ -4,6 +4,7 @@
 use super::plan::{Told, guest, told};
 use guest_log::Timeline;
 use page_bitmap::word_count;
+use predictions::Manner;
 use predictions::redrawn::{Errors, are_drawn, has_errors, redrawn_outcome, sample_errors};
 use predictions::units::Scale;
 use rate_limit::{Asked, Reason, Settings};
@@ -144,7 +145,7 @@ fn errors(
     scale: &Scale,
 ) -> Option<Numbers> {
     let settings = Settings::new(asked).expect(rt, "settings");
-    Errors::of_trace(alloc, trace, &settings, scale)
+    Errors::of_trace(alloc, trace, &settings, scale, Manner::Rounds)
         .expect(rt, "memory")
         .map(numbers)
 }
@@ -161,11 +162,18 @@ fn lent_errors(
         return None;
     }
     let settings = Settings::new(asked).expect(rt, "settings");
-    let words = word_count(trace.page_count() as usize);
-    let mut room = Vec::from_elem(alloc, u32::MAX, scale.sampled() as usize).expect(rt, "memory");
-    let mut listed = Vec::from_elem(alloc, u64::MAX, words).expect(rt, "memory");
-    let mut marks = Vec::from_elem(alloc, u64::MAX, words).expect(rt, "memory");
-    let errors = sample_errors(trace, &settings, scale, &mut room, &mut listed, &mut marks);
+    let sampled = scale.sampled() as usize;
+    let words = 2 * word_count(trace.page_count() as usize) + word_count(sampled);
+    let mut room = Vec::from_elem(alloc, u32::MAX, 2 * sampled).expect(rt, "memory");
+    let mut bits = Vec::from_elem(alloc, u64::MAX, words).expect(rt, "memory");
+    let errors = sample_errors(
+        trace,
+        &settings,
+        scale,
+        Manner::Rounds,
+        &mut room,
+        &mut bits,
+    );
     Some(numbers(errors))
 }
 

@@ -1,6 +1,6 @@
 -- How pages are drawn again: by a linear congruential generator with the numbers of Knuth's MMIX ("The Art of Computer
 -- Programming", volume 2, section 3.3.4). It begins at state 0, so that the same sample has the same draws each time.
-use Rattle.std.specs.Prelude.{ℕ, zero, suc, ◌+◌, ◌*◌, ◌/◌, ◌%◌, ◌^◌, nat_lt, List, map}
+use Rattle.std.specs.Prelude.{◌≡◌, ℕ, zero, suc, ◌+◌, ◌*◌, ◌/◌, ◌%◌, ◌^◌, nat_lt, List, map}
 use Rattle.std.specs.List.{filter, range_with_len}
 
 unfoldable pub next_state : ℕ → ℕ
@@ -10,6 +10,11 @@ next_state state = (6_364_136_223_846_793_005 * state + 1_442_695_040_888_963_40
 unfoldable pub state_after : ℕ → ℕ
 state_after zero = 0
 state_after (suc steps) = next_state (state_after steps)
+
+-- a state that the generator comes to
+pub record IsState (state : ℕ) : Type 0 where
+  pub steps : ℕ
+  pub state_is : state ≡ state_after steps
 
 -- the page that a state draws from a sample, by its upper 32 bits
 abbrev pub page_at : ℕ → ℕ → ℕ

@@ -6,9 +6,11 @@ use Rattle.std.specs.Prelude.{◌≡◌, ℕ, ◌+◌, ◌-◌, ◌*◌, ◌<◌
 use Rattle.std.specs.List.{AllZip, sum, sum_by}
 use Rattle.predictions.specs.Units.Scales.{TraceScale, micros_of}
 use Rattle.migration_model.specs.Rates.{MigrationSettings}
-use Rattle.migration_model.specs.Sweeps.{PlanOutcome, IsOutcome}
-use Rattle.migration_model.specs.Touches.{GuestTouch}
+use Rattle.migration_model.specs.Touches.{GuestTouch, last_tick_of}
+use Rattle.predictions.specs.Courses.{IsCourse}
 use Rattle.predictions.specs.Redrawn.Draws.{draws_of}
+use Rattle.predictions.specs.declared.course.Course.{Course}
+use Rattle.predictions.specs.declared.course.Manner.{Manner}
 use Rattle.look_planner.specs.DrawnPages.{redrawn_touches}
 
 -- n numbers' sum of squared deviations from their mean, times n
@@ -23,18 +25,21 @@ pub record IsErrorOf (numbers : List ℕ) (upper lower error : ℕ) : Type 0 whe
   pub enough : spread_of numbers * upper ≤ error * error * (weight_of numbers * lower)
   pub least : (k : ℕ) → spread_of numbers * upper ≤ k * k * (weight_of numbers * lower) → error ≤ k
 
--- the result of the plan of each draw
-abbrev pub AreRedrawn : ℕ → List GuestTouch → MigrationSettings → List (List ℕ) → List PlanOutcome → Type 0
-AreRedrawn pages touches s draws outcomes =
-    AllZip (λ drawn outcome. IsOutcome (length drawn) (redrawn_touches drawn touches) s outcome) draws outcomes
+-- what the plan of a guest comes to that consists of drawn pages, over the record of all, and that of each draw
+abbrev pub IsRedrawn : Manner → List GuestTouch → TraceScale → MigrationSettings → List ℕ → Course → Type 0
+IsRedrawn manner touches scale s drawn course =
+    IsCourse manner (length drawn) (redrawn_touches drawn touches) scale s (last_tick_of touches) course
+
+abbrev pub AreRedrawn : Manner → List GuestTouch → TraceScale → MigrationSettings → List (List ℕ) → List Course → Type 0
+AreRedrawn manner touches scale s draws courses = AllZip (IsRedrawn manner touches scale s) draws courses
 
 -- How long a migration takes and how long the guest does not run, in microseconds, but for what is reserved: that is
 -- the same for each plan.
-abbrev pub time_of : TraceScale → MigrationSettings → PlanOutcome → ℕ
-time_of scale s outcome = micros_of scale (outcome.stop - s.start + outcome.down)
+abbrev pub time_of : TraceScale → MigrationSettings → Course → ℕ
+time_of scale s course = micros_of scale (course.stop - s.start + course.down)
 
-abbrev pub pause_of : TraceScale → PlanOutcome → ℕ
-pause_of scale outcome = micros_of scale outcome.down
+abbrev pub pause_of : TraceScale → Course → ℕ
+pause_of scale course = micros_of scale course.down
 
 -- standard errors: of the bytes of the guest that are sent, and of the time and the downtime in microseconds
 pub record SampleErrors : Type 0 where
@@ -42,17 +47,17 @@ pub record SampleErrors : Type 0 where
   pub time : ℕ
   pub downtime : ℕ
 
--- the standard errors of the plan of a trace; that of the bytes is in whole pages of the guest
-pub record AreErrorsOf (pages : ℕ) (touches : List GuestTouch)
+-- the standard errors of the plan of a trace, by a manner; that of the bytes is in whole pages of the guest
+pub record AreErrorsOf (manner : Manner) (pages : ℕ) (touches : List GuestTouch)
     (s : MigrationSettings) (scale : TraceScale) (errors : SampleErrors) : Type 0 where
-  pub outcomes : List PlanOutcome
-  pub redrawn : AreRedrawn pages touches s (draws_of scale.sampled pages 20) outcomes
+  pub courses : List Course
+  pub redrawn : AreRedrawn manner touches scale s (draws_of scale.sampled pages 20) courses
   pub sent : ℕ
-  pub sent_is : IsErrorOf (map (λ outcome. outcome.total) outcomes) ((scale.guest - scale.sampled) * scale.guest)
+  pub sent_is : IsErrorOf (map (λ course. course.total) courses) ((scale.guest - scale.sampled) * scale.guest)
       (scale.sampled * scale.sampled) sent
   pub bytes_is : errors.bytes ≡ sent * scale.page
-  pub time_is : IsErrorOf (map (time_of scale s) outcomes) (scale.guest - scale.sampled) scale.guest errors.time
-  pub downtime_is : IsErrorOf (map (pause_of scale) outcomes) (scale.guest - scale.sampled) scale.guest errors.downtime
+  pub time_is : IsErrorOf (map (time_of scale s) courses) (scale.guest - scale.sampled) scale.guest errors.time
+  pub downtime_is : IsErrorOf (map (pause_of scale) courses) (scale.guest - scale.sampled) scale.guest errors.downtime
 
 -- Standard errors are given if a part of the guest's pages was sampled, of two pages or more. A trace has no more than
 -- 65,536 pages, and so has a sample.
@@ -60,6 +65,6 @@ abbrev pub HasErrors : TraceScale → Type 0
 HasErrors scale = (2 ≤ scale.sampled) × (scale.sampled < scale.guest) × (scale.sampled ≤ 65_536)
 
 -- the standard errors, if they are given
-abbrev pub AreErrors : ℕ → List GuestTouch → MigrationSettings → TraceScale → Option SampleErrors → Type 0
-AreErrors pages touches s scale None = ¬ HasErrors scale
-AreErrors pages touches s scale (Some errors) = HasErrors scale × AreErrorsOf pages touches s scale errors
+abbrev pub AreErrors : Manner → ℕ → List GuestTouch → MigrationSettings → TraceScale → Option SampleErrors → Type 0
+AreErrors manner pages touches s scale None = ¬ HasErrors scale
+AreErrors manner pages touches s scale (Some errors) = HasErrors scale × AreErrorsOf manner pages touches s scale errors

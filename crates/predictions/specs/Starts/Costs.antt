@@ -6,6 +6,7 @@ use Rattle.migration_model.specs.Sweeps.{SweepLine}
 use Rattle.migration_model.specs.Touches.{GuestTouch, last_tick_of}
 use Rattle.predictions.specs.Predictions.{MigrationCost, cost_of}
 use Rattle.predictions.specs.Redrawn.Errors.{AreErrors, SampleErrors}
+use Rattle.predictions.specs.declared.course.Manner.TheVariants as manners
 
 -- a start, what the migration costs that begins there, and the standard errors of that, if they are counted
 pub record CostAtStart : Type 0 where
@@ -32,4 +33,4 @@ plain_of at = record at { errors = None }
 pub record IsRated (pages : ℕ) (touches : List GuestTouch) (scale : TraceScale) (limits : Limits) (line : SweepLine)
     (at : CostAtStart) : Type 0 where
   pub plain_is : plain_of at ≡ cost_at_start scale limits (last_tick_of touches) line
-  pub errors_are : AreErrors pages touches line.settings scale at.errors
+  pub errors_are : AreErrors manners.Rounds pages touches line.settings scale at.errors

@@ -1,14 +1,13 @@
 //! How many migrations have an answer.
 
 ghost use Rattle.std.specs.Prelude.{◌≡◌, ◌≤◌, ◌<◌, ◌+◌, ◌^◌, ◌++◌, ◌∷◌, [], if◌then◌else◌, List};
-ghost use Rattle.migration_model.specs.Sweeps.{PlanOutcome};
 ghost use Rattle.predictions.specs.Agreements.{converge_as, converges_by, counts_of, count_same, keep_as};
 ghost use Rattle.predictions.specs.Agreements.{keeps_by, nearly_all, of_known, stops_by};
+ghost use Rattle.predictions.specs.declared.course.Course.{Course};
 
+use crate::course::{Course, CourseEnd};
 use crate::units::{Limits, Scale};
 use crate::verdict::Verdict;
-use rate_limit::Reason;
-use round_planner::Outcome;
 
 /// Of some migrations, how many converge and how many keep their limit.
 #[derive(Clone, Copy, Debug, PartialEq, Eq)]
@@ -23,26 +22,26 @@ pub struct AnswerCounts {
     pub kept: u64,
 }
 
-/// Returns whether a plan with these sums stops by a tick.
-fn stops_by(outcome: &Outcome, last_tick: u64) -> bool
-    ensures { result ≡ stops_by last_tick outcome.now }
+/// Returns whether a plan that comes to this stops by a tick.
+fn stops_by(course: &Course, last_tick: u64) -> bool
+    ensures { result ≡ stops_by last_tick course.now }
 {
-    outcome.stop <= last_tick
+    course.stop <= last_tick
 }
 
-/// Returns whether a plan with these sums stops by a tick, and converges.
-fn converges_by(outcome: &Outcome, last_tick: u64) -> bool
-    ensures { result ≡ converges_by last_tick outcome.now }
+/// Returns whether a plan that comes to this stops by a tick, and converges.
+fn converges_by(course: &Course, last_tick: u64) -> bool
+    ensures { result ≡ converges_by last_tick course.now }
 {
-    stops_by(outcome, last_tick) && matches!(outcome.reason, Reason::Few)
+    stops_by(course, last_tick) && matches!(course.ending, CourseEnd::Few)
 }
 
-/// Returns whether a plan with these sums stops by a tick, and keeps its limit.
-fn keeps_by(scale: &Scale, limits: &Limits, outcome: &Outcome, last_tick: u64) -> bool
-    ensures { result ≡ keeps_by scale.now limits.now last_tick outcome.now }
+/// Returns whether a plan that comes to this stops by a tick, and keeps its limit.
+fn keeps_by(scale: &Scale, limits: &Limits, course: &Course, last_tick: u64) -> bool
+    ensures { result ≡ keeps_by scale.now limits.now last_tick course.now }
 {
-    let downtime = scale.micros(outcome.down) + limits.reserve as u128;
-    stops_by(outcome, last_tick) && downtime <= limits.downtime as u128
+    let downtime = scale.micros(course.down) + limits.reserve as u128;
+    stops_by(course, last_tick) && downtime <= limits.downtime as u128
 }
 
 /// Returns a number, and one more if something holds.
@@ -86,7 +85,7 @@ impl AnswerCounts {
         self,
         scale: &Scale,
         limits: &Limits,
-        outcome: &Outcome,
+        course: &Course,
         last_tick: u64,
     ) -> AnswerCounts
         requires whole { self.whole < 100 }
@@ -97,14 +96,14 @@ impl AnswerCounts {
         ensures known { result.known ≤ self.known + 1 }
         ensures converging { result.converging ≤ self.converging + 1 }
         ensures kept { result.kept ≤ self.kept + 1 }
-        ensures counts { (outcomes : List PlanOutcome) → self ≡ counts_of scale.now limits.now last_tick outcomes
-            → result ≡ counts_of scale.now limits.now last_tick (outcomes ++ outcome.now ∷ []) }
+        ensures counts { (courses : List Course) → self ≡ counts_of scale.now limits.now last_tick courses
+            → result ≡ counts_of scale.now limits.now last_tick (courses ++ course.now ∷ []) }
     {
         AnswerCounts {
             whole: self.whole + 1,
-            known: with_one(self.known, stops_by(outcome, last_tick)),
-            converging: with_one(self.converging, converges_by(outcome, last_tick)),
-            kept: with_one(self.kept, keeps_by(scale, limits, outcome, last_tick)),
+            known: with_one(self.known, stops_by(course, last_tick)),
+            converging: with_one(self.converging, converges_by(course, last_tick)),
+            kept: with_one(self.kept, keeps_by(scale, limits, course, last_tick)),
         }
     }
 

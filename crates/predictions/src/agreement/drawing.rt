@@ -1,13 +1,13 @@
 //! The answers of the plans of a sample's draws.
 
-ghost use Rattle.std.specs.Prelude.{◌≡◌, ◌≤◌, length, IfOk};
+ghost use Rattle.std.specs.Prelude.{◌≡◌, ◌≤◌, ◌+◌, ◌*◌, length, IfOk};
 ghost use Rattle.page_bitmap.specs.Listing.{word_count};
 ghost use Rattle.predictions.specs.Agreements.{AreCountsOf, AreDrawCounts};
 ghost use Rattle.predictions.specs.Redrawn.Errors.{HasErrors};
 
 use crate::agreement::counts::AnswerCounts;
-use crate::redrawn::{draw, has_errors, redrawn_outcome};
-use crate::units::{Limits, Scale};
+use crate::measure::Measure;
+use crate::redrawn::{drawn_course, has_errors};
 use guest_log::{Timeline, last_tick};
 use page_bitmap::word_count;
 use rate_limit::Settings;
@@ -18,31 +18,33 @@ const DRAWS: u64 = 20;
 
 /// Returns how many of the plans of 20 draws from the pages of a trace end within it, converge, and keep their limit.
 ///
-/// It allocates nothing: the caller lends a slot of `room` for each page of the sample, and two bits for each page of
-/// the trace. What they hold does not matter. It costs as much as 20 plans.
+/// It allocates nothing: the caller lends two slots of `room` for each page of the sample, and in whole words two bits
+/// of `bits` for each page of the trace and one for each of the sample. What they hold does not matter. It costs as
+/// much as 20 plans.
 pub fn draw_counts<T: Timeline>(
     timeline: &T,
     settings: &Settings,
-    scale: &Scale,
-    limits: &Limits,
+    measure: &Measure,
     room: &mut [u32],
-    listed: &mut [u64],
-    marks: &mut [u64],
+    bits: &mut [u64],
 ) -> AnswerCounts
-    requires sampled { HasErrors scale.now }
-    requires room { scale.now.sampled ≤ length room.old }
-    requires listed { length listed.old ≡ word_count (T.pages timeline.now) }
-    requires marks { length marks.old ≡ word_count (T.pages timeline.now) }
-    ensures { AreCountsOf (T.pages timeline.now) (T.touches timeline.now) settings.now scale.now limits.now 20 result }
+    requires sampled { HasErrors measure.now.scale }
+    requires room { 2 * measure.now.scale.sampled ≤ length room.old }
+    requires bits { 2 * word_count (T.pages timeline.now) + word_count measure.now.scale.sampled ≤ length bits.old }
+    ensures { AreCountsOf measure.now.manner (T.pages timeline.now) (T.touches timeline.now) settings.now
+        measure.now.scale measure.now.limits 20 result }
 {
+    let Measure {
+        scale,
+        limits,
+        manner,
+    } = measure;
     let last = last_tick(timeline);
     let mut counts = AnswerCounts::NONE;
     let mut state = 0;
     for _plan in 0..DRAWS {
-        let (after, count) = draw(state, scale.sampled(), timeline.page_count(), room);
-        let (drawn, _) = room.split_at(count);
-        let outcome = redrawn_outcome(timeline, settings, drawn, listed, marks);
-        counts = counts.with(scale, limits, &outcome, last);
+        let (after, course) = drawn_course(timeline, settings, scale, *manner, state, room, bits);
+        counts = counts.with(scale, limits, &course, last);
         state = after;
     }
     counts
@@ -54,28 +56,19 @@ impl AnswerCounts {
         alloc: Global,
         timeline: &T,
         settings: &Settings,
-        scale: &Scale,
-        limits: &Limits,
+        measure: &Measure,
     ) -> Result<Option<AnswerCounts>, AllocError>
-        ensures { IfOk result (AreDrawCounts (T.pages timeline.now) (T.touches timeline.now) settings.now scale.now
-            limits.now) }
+        ensures { IfOk result (AreDrawCounts measure.now.manner (T.pages timeline.now) (T.touches timeline.now)
+            settings.now measure.now.scale measure.now.limits) }
     {
-        if !has_errors(scale) {
+        if !has_errors(&measure.scale) {
             return Ok(None);
         }
-        let words = word_count(timeline.page_count() as usize);
-        let mut room = Vec::from_elem(alloc, 0, scale.sampled() as usize)?;
-        let mut listed = Vec::from_elem(alloc, 0, words)?;
-        let mut marks = Vec::from_elem(alloc, 0, words)?;
-        let counts = draw_counts(
-            timeline,
-            settings,
-            scale,
-            limits,
-            &mut room,
-            &mut listed,
-            &mut marks,
-        );
+        let sampled = measure.scale.sampled() as usize;
+        let words = 2 * word_count(timeline.page_count() as usize) + word_count(sampled);
+        let mut room = Vec::from_elem(alloc, 0, 2 * sampled)?;
+        let mut bits = Vec::from_elem(alloc, 0, words)?;
+        let counts = draw_counts(timeline, settings, measure, &mut room, &mut bits);
         Ok(Some(counts))
     }
 }

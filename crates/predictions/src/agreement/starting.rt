@@ -5,12 +5,13 @@ ghost use Rattle.page_bitmap.specs.Listing.{word_count};
 ghost use Rattle.predictions.specs.Agreements.{AreStartCounts};
 
 use crate::agreement::counts::AnswerCounts;
+use crate::course::{MOST_ROUNDS, NO_ROW, course_in};
+use crate::measure::Measure;
 use crate::starts::{spread_case, spread_count};
-use crate::units::{Limits, Scale};
 use guest_log::{Timeline, last_tick};
 use page_bitmap::word_count;
 use rate_limit::Settings;
-use round_planner::{RoundRow, plan_rows};
+use round_planner::RoundRow;
 use std::alloc::{AllocError, Global};
 
 /// Of at most 21 starts, spread evenly over a trace, returns from how many the plan ends within it, converges, and
@@ -21,8 +22,7 @@ use std::alloc::{AllocError, Global};
 pub fn start_counts<T: Timeline>(
     timeline: &T,
     settings: &Settings,
-    scale: &Scale,
-    limits: &Limits,
+    measure: &Measure,
     marks: &mut [u64],
     list: &mut [u32],
     rows: &mut [RoundRow],
@@ -30,31 +30,24 @@ pub fn start_counts<T: Timeline>(
     requires marks { length marks.old ≡ word_count (T.pages timeline.now) }
     requires list { length list.old ≡ T.pages timeline.now }
     requires rows { 64 ≤ length rows.old }
-    ensures { AreStartCounts (T.pages timeline.now) (T.touches timeline.now) settings.now scale.now limits.now result }
+    ensures { AreStartCounts measure.now.manner (T.pages timeline.now) (T.touches timeline.now) settings.now
+        measure.now.scale measure.now.limits result }
 {
+    let Measure {
+        scale,
+        limits,
+        manner,
+    } = measure;
     let last = last_tick(timeline);
     let count = spread_count(settings, last);
     let mut counts = AnswerCounts::NONE;
     for number in 0..count {
         let case = spread_case(settings, last, number);
-        let outcome = plan_rows(timeline, &case, marks, list, rows);
-        counts = counts.with(scale, limits, &outcome, last);
+        let course = course_in(timeline, &case, scale, *manner, marks, list, rows);
+        counts = counts.with(scale, limits, &course, last);
     }
     counts.of_known()
 }
-
-/// An empty row of a round.
-const NO_ROW: RoundRow = RoundRow {
-    from: 0,
-    to: 0,
-    rate: 0,
-    pages: 0,
-    sent: 0,
-    dirtied: 0,
-};
-
-/// The most rounds.
-const MOST_ROUNDS: usize = 64;
 
 impl AnswerCounts {
     /// Returns what `start_counts` does. The only error is that memory runs out.
@@ -62,18 +55,17 @@ impl AnswerCounts {
         alloc: Global,
         timeline: &T,
         settings: &Settings,
-        scale: &Scale,
-        limits: &Limits,
+        measure: &Measure,
     ) -> Result<AnswerCounts, AllocError>
-        ensures { IfOk result (AreStartCounts (T.pages timeline.now) (T.touches timeline.now) settings.now scale.now
-            limits.now) }
+        ensures { IfOk result (AreStartCounts measure.now.manner (T.pages timeline.now) (T.touches timeline.now)
+            settings.now measure.now.scale measure.now.limits) }
     {
         let pages = timeline.page_count() as usize;
         let mut marks = Vec::from_elem(alloc, 0, word_count(pages))?;
         let mut list = Vec::from_elem(alloc, 0, pages)?;
         let mut rows = Vec::from_elem(alloc, NO_ROW, MOST_ROUNDS)?;
         let counts = start_counts(
-            timeline, settings, scale, limits, &mut marks, &mut list, &mut rows,
+            timeline, settings, measure, &mut marks, &mut list, &mut rows,
         );
         Ok(counts)
     }

@@ -6,10 +6,10 @@ ghost use Rattle.predictions.specs.Agreements.{sure_verdict, withstands};
 
 use crate::agreement::counts::AnswerCounts;
 use crate::cost::Cost;
+use crate::measure::Measure;
 use crate::prediction::Prediction;
 use crate::redrawn::Errors;
 use crate::starts::{StartCost, is_likely};
-use crate::units::{Limits, Scale};
 use crate::verdict::Verdict;
 use guest_log::Timeline;
 use rate_limit::Settings;
@@ -87,14 +87,13 @@ impl Agreement {
         alloc: Global,
         timeline: &T,
         settings: &Settings,
-        scale: &Scale,
-        limits: &Limits,
+        measure: &Measure,
     ) -> Result<Agreement, AllocError>
-        ensures { IfOk result (IsAgreement (T.pages timeline.now) (T.touches timeline.now) settings.now scale.now
-            limits.now) }
+        ensures { IfOk result (IsAgreement measure.now.manner (T.pages timeline.now) (T.touches timeline.now)
+            settings.now measure.now.scale measure.now.limits) }
     {
-        let draws = AnswerCounts::of_draws(alloc, timeline, settings, scale, limits)?;
-        let starts = AnswerCounts::of_starts(alloc, timeline, settings, scale, limits)?;
+        let draws = AnswerCounts::of_draws(alloc, timeline, settings, measure)?;
+        let starts = AnswerCounts::of_starts(alloc, timeline, settings, measure)?;
         Ok(Agreement { draws, starts })
     }
 

@@ -2,12 +2,13 @@
 
 // `AreErrors` holds of one value alone: `one_errors`.
 
-ghost use Rattle.std.specs.Prelude.{◌≡◌, ◌↔◌, ◌≤◌, ◌*◌, ◌-◌, ◌^◌, ℕ, IfOk, IsTrue, List, length};
+ghost use Rattle.std.specs.Prelude.{◌≡◌, ◌↔◌, ◌≤◌, ◌+◌, ◌*◌, ◌-◌, ◌^◌, ℕ, IfOk, IsTrue, List, length};
 ghost use Rattle.predictions.specs.Units.Scales.{IsScale};
 ghost use Rattle.page_bitmap.specs.Listing.{word_count};
 ghost use Rattle.predictions.specs.Redrawn.Errors.{AreErrors, AreErrorsOf, HasErrors, IsErrorOf};
 ghost use Rattle.predictions.specs.Redrawn.Sums.{IsSpread};
 
+use crate::course::Manner;
 use crate::redrawn::roots::{root_above_quotient, share_above};
 use crate::redrawn::spread::Spread;
 use crate::redrawn::sums::summed;
@@ -60,8 +61,8 @@ pub fn has_errors(scale: &Scale) -> bool
 /// Returns the standard error of what 20 plans send, in pages of the guest.
 fn sent_error(scale: &Scale, sent: Spread) -> u128
     requires sampled { HasErrors scale.now }
-    requires sum { sent.sum ≤ 20 * 4_259_840 }
-    requires squares { sent.squares ≤ 20 * 18_146_236_825_600 }
+    requires sum { sent.sum ≤ 20 * 131_203_072 }
+    requires squares { sent.squares ≤ 20 * 17_214_246_102_237_184 }
     ensures error { (numbers : List ℕ) → length numbers ≡ 20 → IsSpread numbers sent → IsErrorOf numbers
         ((scale.now.guest - scale.now.sampled) * scale.now.guest) (scale.now.sampled * scale.now.sampled) result }
     ensures small { result ≤ 2 ^ 64 }
@@ -86,25 +87,26 @@ fn time_error(scale: &Scale, times: Spread) -> u128
     root_above_quotient(share_above(times.apart(), left, guest), WEIGHT)
 }
 
-/// Returns the standard errors of what the plan of a trace predicts, by the plans of 20 draws from its pages.
+/// Returns the standard errors of what the plan of a trace predicts, by the plans of 20 draws from its pages and by a
+/// manner.
 ///
-/// It allocates nothing: the caller lends a slot of `room` for each page of the sample, and two bits for each page of
-/// the trace. What they hold does not matter. It costs as much as 20 plans.
+/// It allocates nothing: the caller lends two slots of `room` for each page of the sample, and in whole words two bits
+/// of `bits` for each page of the trace and one for each of the sample. What they hold does not matter. It costs as
+/// much as 20 plans.
 pub fn sample_errors<T: Timeline>(
     timeline: &T,
     settings: &Settings,
     scale: &Scale,
+    manner: Manner,
     room: &mut [u32],
-    listed: &mut [u64],
-    marks: &mut [u64],
+    bits: &mut [u64],
 ) -> Errors
     requires sampled { HasErrors scale.now }
-    requires room { scale.now.sampled ≤ length room.old }
-    requires listed { length listed.old ≡ word_count (T.pages timeline.now) }
-    requires marks { length marks.old ≡ word_count (T.pages timeline.now) }
-    ensures { AreErrorsOf (T.pages timeline.now) (T.touches timeline.now) settings.now scale.now result }
+    requires room { 2 * scale.now.sampled ≤ length room.old }
+    requires bits { 2 * word_count (T.pages timeline.now) + word_count scale.now.sampled ≤ length bits.old }
+    ensures { AreErrorsOf manner (T.pages timeline.now) (T.touches timeline.now) settings.now scale.now result }
 {
-    let sums = summed(timeline, settings, scale, room, listed, marks);
+    let sums = summed(timeline, settings, scale, manner, room, bits);
     Errors {
         bytes: sent_error(scale, sums.sent) * scale.page() as u128,
         time: time_error(scale, sums.time),
@@ -113,31 +115,26 @@ pub fn sample_errors<T: Timeline>(
 }
 
 impl Errors {
-    /// Returns the standard errors of what the plan of a trace predicts, if pages were sampled. The only error is that
-    /// memory runs out.
+    /// Returns the standard errors of what the plan of a trace predicts by a manner, if pages were sampled. The only
+    /// error is that memory runs out.
     pub fn of_trace<T: Timeline>(
         alloc: Global,
         timeline: &T,
         settings: &Settings,
         scale: &Scale,
+        manner: Manner,
     ) -> Result<Option<Errors>, AllocError>
-        ensures { IfOk result (AreErrors (T.pages timeline.now) (T.touches timeline.now) settings.now scale.now) }
+        ensures { IfOk result (AreErrors manner (T.pages timeline.now) (T.touches timeline.now) settings.now
+            scale.now) }
     {
         if !has_errors(scale) {
             return Ok(None);
         }
-        let words = word_count(timeline.page_count() as usize);
-        let mut room = Vec::from_elem(alloc, 0, scale.sampled() as usize)?;
-        let mut listed = Vec::from_elem(alloc, 0, words)?;
-        let mut marks = Vec::from_elem(alloc, 0, words)?;
-        let errors = sample_errors(
-            timeline,
-            settings,
-            scale,
-            &mut room,
-            &mut listed,
-            &mut marks,
-        );
+        let sampled = scale.sampled() as usize;
+        let words = 2 * word_count(timeline.page_count() as usize) + word_count(sampled);
+        let mut room = Vec::from_elem(alloc, 0, 2 * sampled)?;
+        let mut bits = Vec::from_elem(alloc, 0, words)?;
+        let errors = sample_errors(timeline, settings, scale, manner, &mut room, &mut bits);
         Ok(Some(errors))
     }
 }

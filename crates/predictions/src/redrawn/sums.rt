@@ -2,18 +2,17 @@
 
 ghost use Rattle.std.specs.Prelude.{◌≡◌, ◌≤◌, ◌<◌, ◌+◌, ◌*◌, ◌^◌, ◌++◌, ◌∷◌, [], List, length};
 ghost use Rattle.predictions.specs.Units.Scales.{micros_of};
-ghost use Rattle.migration_model.specs.Sweeps.{PlanOutcome};
 ghost use Rattle.page_bitmap.specs.Listing.{word_count};
 ghost use Rattle.predictions.specs.Redrawn.Errors.{HasErrors};
 ghost use Rattle.predictions.specs.Redrawn.Sums.{AreLow, AreSums, AreSumsOf};
+ghost use Rattle.predictions.specs.declared.course.Course.{Course};
 
-use crate::redrawn::draws::draw;
-use crate::redrawn::plans::redrawn_outcome;
+use crate::course::{Course, Manner};
+use crate::redrawn::courses::drawn_course;
 use crate::redrawn::spread::Spread;
 use crate::units::Scale;
 use guest_log::Timeline;
 use rate_limit::Settings;
-use round_planner::Outcome;
 
 /// How many plans there are.
 const PLANS: u64 = 20;
@@ -50,51 +49,48 @@ fn micros(scale: &Scale, ticks: u64) -> u64
 
 impl Sums {
     /// Returns the sums with one more plan, which begins at a tick.
-    fn with(self, scale: &Scale, settings: &Settings, outcome: &Outcome) -> Sums
+    fn with(self, scale: &Scale, settings: &Settings, course: &Course) -> Sums
         requires few { self.count < 20 }
         requires low { AreLow self }
-        requires total { outcome.now.total ≤ 4_259_840 }
-        requires stop { outcome.now.stop ≤ settings.now.start + 4_194_304_000 }
-        requires down { outcome.now.down ≤ 65_536_000 }
+        requires total { course.now.total ≤ 131_203_072 }
+        requires stop { course.now.stop ≤ settings.now.start + 4_194_304_000 }
+        requires down { course.now.down ≤ 65_536_000 }
         ensures count { result.count ≡ self.count + 1 }
         ensures low { AreLow result }
-        ensures sums { (outcomes : List PlanOutcome) → AreSums scale.now settings.now outcomes self
-            → AreSums scale.now settings.now (outcomes ++ outcome.now ∷ []) result }
+        ensures sums { (courses : List Course) → AreSums scale.now settings.now courses self
+            → AreSums scale.now settings.now (courses ++ course.now ∷ []) result }
     {
-        let lasted = outcome.stop.saturating_sub(settings.asked().start);
+        let lasted = course.stop.saturating_sub(settings.asked().start);
         Sums {
             count: self.count + 1,
-            sent: self.sent.with(outcome.total),
-            time: self.time.with(micros(scale, lasted + outcome.down)),
-            pause: self.pause.with(micros(scale, outcome.down)),
+            sent: self.sent.with(course.total),
+            time: self.time.with(micros(scale, lasted + course.down)),
+            pause: self.pause.with(micros(scale, course.down)),
         }
     }
 }
 
-/// Returns the sums of the plans of the first 20 draws.
+/// Returns the sums of the plans of the first 20 draws, by a manner.
 pub(crate) fn summed<T: Timeline>(
     timeline: &T,
     settings: &Settings,
     scale: &Scale,
+    manner: Manner,
     room: &mut [u32],
-    listed: &mut [u64],
-    marks: &mut [u64],
+    bits: &mut [u64],
 ) -> Sums
     requires sampled { HasErrors scale.now }
-    requires room { scale.now.sampled ≤ length room.old }
-    requires listed { length listed.old ≡ word_count (T.pages timeline.now) }
-    requires marks { length marks.old ≡ word_count (T.pages timeline.now) }
-    ensures sums { AreSumsOf (T.pages timeline.now) (T.touches timeline.now) settings.now scale.now 20 result }
+    requires room { 2 * scale.now.sampled ≤ length room.old }
+    requires bits { 2 * word_count (T.pages timeline.now) + word_count scale.now.sampled ≤ length bits.old }
+    ensures sums { AreSumsOf manner (T.pages timeline.now) (T.touches timeline.now) settings.now scale.now 20 result }
     ensures count { result.count ≡ 20 }
     ensures low { AreLow result }
 {
     let mut sums = Sums::NONE;
     let mut state = 0;
     for _plan in 0..PLANS {
-        let (after, count) = draw(state, scale.sampled(), timeline.page_count(), room);
-        let (drawn, _) = room.split_at(count);
-        let outcome = redrawn_outcome(timeline, settings, drawn, listed, marks);
-        sums = sums.with(scale, settings, &outcome);
+        let (after, course) = drawn_course(timeline, settings, scale, manner, state, room, bits);
+        sums = sums.with(scale, settings, &course);
         state = after;
     }
     sums

@@ -6,6 +6,7 @@ ghost use Rattle.std.specs.Prelude.{◌≡◌, IfOk, None, Some, length};
 ghost use Rattle.predictions.specs.Starts.Choices.{IsBest, IsPassed, IsTaken, beats_any};
 ghost use Rattle.predictions.specs.Starts.Costs.{CostAtStart, IsRated};
 
+use crate::course::Manner;
 use crate::redrawn::Errors;
 use crate::starts::choosing::is_better;
 use crate::starts::starting::{StartCost, start_cost};
@@ -25,7 +26,7 @@ fn rated<T: Timeline>(
     ensures { IfOk result (IsRated (T.pages timeline.now) (T.touches timeline.now) scale.now limits.now line.now) }
 {
     let plain = start_cost(scale, limits, line, last_tick(timeline));
-    let errors = Errors::of_trace(alloc, timeline, &line.settings, scale)?;
+    let errors = Errors::of_trace(alloc, timeline, &line.settings, scale, Manner::Rounds)?;
     Ok(StartCost { errors, ..plain })
 }
 

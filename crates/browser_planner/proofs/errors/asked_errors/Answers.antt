@@ -9,7 +9,6 @@ pub returns-in_err-trace-clause-refused : goal.returns-in_err-trace-clause-refus
 returns-in_err-trace-clause-refused c =
     let p = err_from_is_err_and c.from_residual-in_err-trace.result c.from_residual-in_err-trace.ensures.1 in
     let question = c.args.question.now in
-    let room = room_of (length c.args.touches.now) (length c.args.sample.now) (length c.args.listed.now)
-    (length c.args.marks.now) in
+    let room = room_of (length c.args.touches.now) (length c.args.sample.now) (length c.args.bits.now) in
     rw p.1 (subst (RefusesAsked c.args.bytes.now question (HasRoomFor (terms_of question) room)) (sym p.2)
     (c.in_ok-terms.ensures.accepted, c.in_err-trace.ensures.refused))

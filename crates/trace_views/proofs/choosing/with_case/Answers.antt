@@ -1,4 +1,3 @@
-use Rattle.migration_model.specs.Sweeps.{SweepLine}
 use Rattle.trace_views.specs.Advice.{KeepsDown, is_cheaper}
 use Rattle.trace_views.proofs.Cheapest.{passes}
 use Rattle.trace_views.proofs.choosing.with_case.Goals as goal

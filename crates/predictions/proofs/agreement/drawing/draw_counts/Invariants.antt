@@ -5,11 +5,11 @@ use Rattle.predictions.proofs.agreement.drawing.draw_counts.Given as goal
 
 abbrev pub invariant-loop-plan : goal.invariant-loop-plan
 invariant-loop-plan g l = record {
-  state : l.state ≡ state_after (l._plan * l.scale.sampled);
+  state : l.state ≡ state_after (l._plan * l.measure.scale.sampled);
   whole : l.counts.whole ≤ l._plan;
   known : l.counts.known ≤ l._plan;
   converging : l.counts.converging ≤ l._plan;
   kept : l.counts.kept ≤ l._plan;
-  counts : AreCountsOf (g.T.Timeline.pages l.timeline) (g.T.Timeline.touches l.timeline) l.settings l.scale l.limits
-      l._plan l.counts;
+  counts : AreCountsOf l.measure.manner (g.T.Timeline.pages l.timeline) (g.T.Timeline.touches l.timeline) l.settings
+      l.measure.scale l.measure.limits l._plan l.counts;
 }

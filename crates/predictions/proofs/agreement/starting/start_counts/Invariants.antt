@@ -8,6 +8,6 @@ invariant-loop-number g l = record {
   known : l.counts.known ≤ l.number;
   converging : l.counts.converging ≤ l.number;
   kept : l.counts.kept ≤ l.number;
-  counts : HaveCounts (g.T.Timeline.pages l.timeline) (g.T.Timeline.touches l.timeline) l.settings l.scale l.limits
-      l.number l.counts;
+  counts : HaveCounts l.measure.manner (g.T.Timeline.pages l.timeline) (g.T.Timeline.touches l.timeline) l.settings
+      l.measure.scale l.measure.limits l.number l.counts;
 }

@@ -1,8 +1,8 @@
 use Rattle.std.proofs.Common.{◌*◌, ◌^◌, ap, arith}
 use Rattle.std.proofs.lemmas.Nat.{mul-le}
-use Rattle.migration_model.specs.Sweeps.{PlanOutcome}
 use Rattle.predictions.specs.Redrawn.Errors.{pause_of, time_of}
-use Rattle.predictions.proofs.Drawing.{results_count}
+use Rattle.predictions.specs.declared.course.Course.{Course}
+use Rattle.predictions.proofs.Drawing.{courses_count}
 use Rattle.predictions.proofs.redrawn.errors.sample_errors.Goals as goal
 
 pub invariant_of-result : goal.invariant_of-result
@@ -18,12 +18,12 @@ returns g c =
     let s = c.args.settings.now in
     let scale = c.args.scale.now in
     let made = c.summed-sums.ensures.sums in
-    let count = results_count scale.sampled pages 20 touches s made.outcomes in
+    let count = courses_count c.args.manner scale.sampled pages 20 touches scale s made.courses in
     record {
-      outcomes = made.outcomes;
+      courses = made.courses;
       redrawn = made.redrawn;
       sent = c.sent_error.result;
-      sent_is = c.sent_error.ensures.error _ (count (λ (o : PlanOutcome). o.total) made.redrawn) made.sums_are.sent;
+      sent_is = c.sent_error.ensures.error _ (count (λ (course : Course). course.total) made.redrawn) made.sums_are.sent;
       bytes_is = ap (λ n. c.sent_error.result * n) c.page.ensures;
       time_is = c.time_error.ensures _ (count (time_of scale s) made.redrawn) made.sums_are.time;
       downtime_is = c.time_error-2.ensures _ (count (pause_of scale) made.redrawn) made.sums_are.pause;

@@ -1,7 +1,6 @@
-use Rattle.std.proofs.Common.{◌≡◌, ◌<◌, ◌+◌, ◌*◌, ◌∙◌, [], ◌∷◌, ◌++◌, ℕ, List, refl, sym, ap, subst, arith}
-use Rattle.std.specs.List.{All}
-use Rattle.predictions.specs.Redrawn.Draws.{drawn_after, state_after}
-use Rattle.predictions.proofs.Drawing.{drawn_low, redrawn_more, state_start}
+use Rattle.std.proofs.Common.{◌≡◌, ◌+◌, ◌*◌, ◌∙◌, [], ◌∷◌, ◌++◌, refl, ap, arith}
+use Rattle.predictions.specs.Redrawn.Draws.{state_after}
+use Rattle.predictions.proofs.Drawing.{redrawn_more, state_start}
 use Rattle.predictions.proofs.redrawn.sums.summed.Goals as goal
 
 pub loop-plan-init : goal.loop-plan-init
@@ -17,7 +16,7 @@ loop-plan-init g c = record {
     pause_squares = omega arith;
   };
   sums = record {
-    outcomes = [];
+    courses = [];
     redrawn = tt;
     sums_are = record {
       sent = record { sum_is = refl; squares_are = refl };
@@ -27,47 +26,28 @@ loop-plan-init g c = record {
   };
 }
 
-pub redrawn_outcome-outcome-requires-clause-drawn : goal.redrawn_outcome-outcome-requires-clause-drawn
-redrawn_outcome-outcome-requires-clause-drawn g c =
-    let sampled = c.args.scale.now.sampled in
-    let pages = g.T.Timeline.pages c.args.timeline.now in
-    let steps = c.loop-plan._plan * sampled in
-    let drawn : c.split_at.result.0.now ≡ drawn_after sampled pages steps = c.split_at.ensures.front
-    ∙ c.draw-after.ensures.drawn steps c.loop-plan.invariant.state
-    ∙ (λ i. drawn_after (c.sampled.ensures i) (c.page_count.ensures.pages i) steps) in
-    record {
-      few = omega (
-        arith,
-        c.split_at.ensures.front_len,
-        c.draw-after.ensures.few,
-        c.sampled.ensures,
-        c.requires.sampled.2,
-      );
-      each = subst (λ (l : List ℕ). All (λ page. page < pages) l) (sym drawn) (drawn_low sampled pages steps);
-    }
+pub drawn_course-after-requires-clause-before : goal.drawn_course-after-requires-clause-before
+drawn_course-after-requires-clause-before g c =
+    record { steps = c.loop-plan._plan * c.args.scale.now.sampled; state_is = c.loop-plan.invariant.state }
 
 pub loop-plan-preserved : goal.loop-plan-preserved
 loop-plan-preserved g c =
-    let sampled = c.args.scale.now.sampled in
+    let scale = c.args.scale.now in
     let pages = g.T.Timeline.pages c.args.timeline.now in
     let touches = g.T.Timeline.touches c.args.timeline.now in
     let plan = c.loop-plan._plan in
-    let steps = plan * sampled in
+    let steps = plan * scale.sampled in
     let before = c.loop-plan.invariant in
-    let drawn : c.split_at.result.0.now ≡ drawn_after sampled pages steps = c.split_at.ensures.front
-    ∙ c.draw-after.ensures.drawn steps before.state
-    ∙ (λ i. drawn_after (c.sampled.ensures i) (c.page_count.ensures.pages i) steps) in
-    let ends : steps + sampled ≡ (plan + 1) * sampled = omega arith in
+    let made = c.drawn_course-after in
+    let ends : steps + scale.sampled ≡ (plan + 1) * scale.sampled = omega arith in
     record {
-      state = c.draw-after.ensures.state steps before.state ∙ ap (λ n. state_after (steps + n)) c.sampled.ensures
-          ∙ ap state_after ends;
+      state = made.ensures.state steps before.state ∙ ap state_after ends;
       count = omega (arith, c.with-sums.ensures.count, before.count);
       low = c.with-sums.ensures.low;
       sums = record {
-        outcomes = before.sums.outcomes ++ c.redrawn_outcome-outcome.result ∷ [];
-        redrawn = redrawn_more sampled pages plan touches c.args.settings.now before.sums.outcomes
-            c.redrawn_outcome-outcome.result c.split_at.result.0.now drawn before.sums.redrawn
-            c.redrawn_outcome-outcome.ensures.outcome;
-        sums_are = c.with-sums.ensures.sums before.sums.outcomes before.sums.sums_are;
+        courses = before.sums.courses ++ made.result.1 ∷ [];
+        redrawn = redrawn_more c.args.manner scale.sampled pages plan touches scale c.args.settings.now
+            before.sums.courses made.result.1 before.sums.redrawn (made.ensures.course steps before.state);
+        sums_are = c.with-sums.ensures.sums before.sums.courses before.sums.sums_are;
       };
     }

@@ -8,5 +8,6 @@ invariant-loop-plan g l = record {
   state : l.state ≡ state_after (l._plan * l.scale.sampled);
   count : l.sums.count ≡ l._plan;
   low : AreLow l.sums;
-  sums : AreSumsOf (g.T.Timeline.pages l.timeline) (g.T.Timeline.touches l.timeline) l.settings l.scale l._plan l.sums;
+  sums : AreSumsOf l.manner (g.T.Timeline.pages l.timeline) (g.T.Timeline.touches l.timeline) l.settings l.scale l._plan
+      l.sums;
 }
