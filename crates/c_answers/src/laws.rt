@@ -55,7 +55,7 @@ pub fn one_refused_memory()
 {}
 
 /// A stream that comes to flat memory leaves one memory and one state of each page, and is taken as far, whether all of
-/// it is taken or a frame is refused, which is then refused for one cause.
+/// it is taken or a frame is refused, which is then refused for one cause; it is not both.
 pub fn one_flat_memory()
     ensures all_bytes { (shape : GuestShape) (old a b : List ℕ) (states s t : List PageState) (bytes : List ℕ)
         (taken other : StreamTaken) → IsGuestShape shape → TakesFlat shape old a states s bytes taken []
@@ -79,6 +79,9 @@ pub fn one_flat_memory()
     ensures cause { (shape : GuestShape) (old a b : List ℕ) (states s t : List PageState) (bytes : List ℕ)
         (taken other : StreamTaken) (e f : FrameError) → IsGuestShape shape
         → StopsFlat shape old a states s bytes taken e → StopsFlat shape old b states t bytes other f → e ≡ f }
+    ensures taken_or_stopped { (shape : GuestShape) (old a b : List ℕ) (states s t : List PageState) (bytes : List ℕ)
+        (taken other : StreamTaken) (e : FrameError) → IsGuestShape shape
+        → TakesFlat shape old a states s bytes taken [] → ¬ StopsFlat shape old b states t bytes other e }
 {}
 
 /// Of the pages that did not come one is the first.

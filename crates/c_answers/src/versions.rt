@@ -1,6 +1,5 @@
 //! The versions of a page: which one it has after some writes, and its bytes at one of them.
 
-// `Refuses` holds of one value alone: `TraceView::parse: first`.
 // `Spells` holds of one value alone: `one_trace`.
 
 ghost use Rattle.std.specs.Prelude.{◌≡◌, ◌<◌, ◌≤◌, ◌^◌, IfErr, IsOk, OnErr, OnOk, length};
