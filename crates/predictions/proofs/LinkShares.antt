@@ -2,33 +2,22 @@
 use Rattle.std.proofs.Common.{◌≡◌, ◌∙◌, ◌+◌, ◌-◌, ◌<◌, ◌≤◌, ◌⊎◌, ℕ, List, Option, Some, None, refl, sym, ap, subst}
 use Rattle.std.proofs.Common.{inl, inr, arith, ⊎_elim}
 use Rattle.std.proofs.lemmas.Bool.{cases_lt, cases_order}
-use Rattle.migration_model.specs.Rates.{MigrationSettings}
-use Rattle.migration_model.specs.Sweeps.{IsOutcome, PlanOutcome}
 use Rattle.migration_model.specs.Touches.{GuestTouch, last_tick_of}
-use Rattle.predictions.specs.Remedies.Trials.{MakesSettings, MigrationTrial, settings_of}
-use Rattle.predictions.specs.Shares.{IsLinkShare, IsVerdict, TurnsBelow, VerdictAt, over_share, verdict_by}
+use Rattle.predictions.specs.Remedies.Trials.{MigrationTrial}
+use Rattle.predictions.specs.Courses.{course_verdict}
+use Rattle.predictions.specs.Shares.{IsLinkShare, IsVerdict, TurnsBelow, VerdictAt, over_share}
+use Rattle.predictions.specs.declared.course.Course.{Course}
 use Rattle.predictions.specs.declared.shares.share.LinkShare.{LinkShare}
 use Rattle.predictions.specs.declared.verdict.Verdict.{Verdict}
-use Rattle.predictions.proofs.Outcomes.{one_outcome}
-
--- the plan of a trial's settings has its verdict
-pub has_verdict : (pages : ℕ) (touches : List GuestTouch) (t : MigrationTrial) (s : MigrationSettings)
-    (o : PlanOutcome) (last : ℕ) (v : Verdict) → MakesSettings t → s ≡ settings_of t → IsOutcome pages touches s o
-    → last ≡ last_tick_of touches → v ≡ verdict_by o last → IsVerdict pages touches t v
-has_verdict pages touches t s o last v makes made is ended told = inl (record {
-  makes = makes;
-  outcome = o;
-  is_outcome = subst (λ (u : MigrationSettings). IsOutcome pages touches u o) made is;
-  verdict_is = told ∙ ap (λ (n : ℕ). verdict_by o n) ended;
-})
+use Rattle.predictions.proofs.Decided.{one_trial_course}
 
 -- a trial has one verdict
 pub one_verdict : (pages : ℕ) (touches : List GuestTouch) (t : MigrationTrial) (a b : Verdict)
     → IsVerdict pages touches t a → IsVerdict pages touches t b → a ≡ b
 one_verdict pages touches t a b (inl x) (inl y) =
     x.verdict_is
-    ∙ ap (λ (o : PlanOutcome). verdict_by o (last_tick_of touches))
-    (one_outcome pages touches (settings_of t) x.outcome y.outcome x.is_outcome y.is_outcome)
+    ∙ ap (λ (course : Course). course_verdict course (last_tick_of touches))
+    (one_trial_course pages touches t x.course y.course x.is_course y.is_course)
     ∙ sym y.verdict_is
 one_verdict pages touches t a b (inl x) (inr y) = absurd (y.0 x.makes)
 one_verdict pages touches t a b (inr x) (inl y) = absurd (x.0 y.makes)

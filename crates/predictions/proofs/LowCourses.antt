@@ -7,7 +7,8 @@ use Rattle.look_planner.proofs.Bounds.{low_sums_lem}
 use Rattle.migration_model.specs.Looks.{AreHypervisorSettings, HypervisorSettings}
 use Rattle.migration_model.specs.Rates.{MigrationSettings}
 use Rattle.migration_model.specs.Touches.{GuestTouch}
-use Rattle.predictions.specs.Courses.{course_of_looks, course_settings, look_ending, stop_after}
+use Rattle.predictions.specs.Courses.{course_settings}
+use Rattle.predictions.specs.Courses.Ends.{course_of_looks, look_ending, stop_after}
 use Rattle.predictions.specs.Units.Scales.{TraceScale}
 use Rattle.predictions.specs.declared.course.Course.{Course}
 use Rattle.predictions.specs.declared.course.CourseEnd.{CourseEnd}

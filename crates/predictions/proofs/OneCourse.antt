@@ -3,7 +3,8 @@ use Rattle.std.proofs.Common.{◌≡◌, ◌∙◌, ℕ, List, sym, ap}
 use Rattle.look_planner.proofs.OneSum.{one_set_of_sums}
 use Rattle.migration_model.specs.Rates.{MigrationSettings}
 use Rattle.migration_model.specs.Touches.{GuestTouch}
-use Rattle.predictions.specs.Courses.{IsCourse, course_of_looks, course_of_rounds, course_settings}
+use Rattle.predictions.specs.Courses.{IsCourse, course_settings}
+use Rattle.predictions.specs.Courses.Ends.{course_of_looks, course_of_rounds}
 use Rattle.predictions.specs.Units.Scales.{TraceScale}
 use Rattle.predictions.specs.declared.course.Course.{Course}
 use Rattle.predictions.specs.declared.course.Manner.{Manner}

@@ -7,7 +7,8 @@ use Rattle.std.specs.Prelude.{Option, None, Some}
 use Rattle.std.specs.List.{AllZip, count_by, range_with_len}
 use Rattle.migration_model.specs.Rates.{MigrationSettings}
 use Rattle.migration_model.specs.Touches.{GuestTouch, last_tick_of}
-use Rattle.predictions.specs.Courses.{IsCourseOver, converges}
+use Rattle.predictions.specs.Courses.{IsCourseOver}
+use Rattle.predictions.specs.Courses.Ends.{converges}
 use Rattle.predictions.specs.Predictions.{GuestPrediction, MigrationCost, downtime_of, kept_of, verdict_of}
 use Rattle.predictions.specs.Redrawn.Draws.{draws_of}
 use Rattle.predictions.specs.Redrawn.Errors.{AreRedrawn, HasErrors, SampleErrors}

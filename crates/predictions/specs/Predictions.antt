@@ -1,6 +1,8 @@
 -- What a migration will be, in time and bytes, by its plan. This project's own.
 use Rattle.std.specs.Prelude.{ℕ, ◌+◌, ◌-◌, nat_le, nat_lt, Bool, true, false, if◌then◌else◌, List, length, codes}
 use Rattle.predictions.specs.Units.Scales.{TraceScale, bytes_of, micros_of}
+use Rattle.predictions.specs.Courses.Ends.{course_of_rounds}
+use Rattle.predictions.specs.declared.course.Course.{Course}
 use Rattle.predictions.specs.declared.units.limits.Limits.{Limits}
 use Rattle.migration_model.specs.Rates.{StopReason, few_remain, rounds_done, too_fast}
 use Rattle.migration_model.specs.Rounds.{MigrationPlan}
@@ -31,22 +33,22 @@ pub record GuestPrediction : Type 0 where
 abbrev pub downtime_of : TraceScale → Limits → ℕ → ℕ
 downtime_of scale limits ticks = micros_of scale ticks + limits.reserve
 
--- what a migration costs that begins at a tick and whose plan has this result, over touches with this last tick
-abbrev pub cost_of : TraceScale → Limits → ℕ → PlanOutcome → ℕ → MigrationCost
-cost_of scale limits start outcome last_tick = record {
-  rounds = outcome.rounds;
-  time = micros_of scale (outcome.stop - start) + downtime_of scale limits outcome.down;
-  bytes = bytes_of scale outcome.total;
-  downtime = downtime_of scale limits outcome.down;
-  is_kept = nat_le (downtime_of scale limits outcome.down) limits.downtime;
-  is_late = nat_lt last_tick outcome.stop;
+-- what a migration costs that begins at a tick and whose plan comes to this, over touches with this last tick
+abbrev pub cost_of : TraceScale → Limits → ℕ → Course → ℕ → MigrationCost
+cost_of scale limits start course last_tick = record {
+  rounds = course.steps;
+  time = micros_of scale (course.stop - start) + downtime_of scale limits course.down;
+  bytes = bytes_of scale course.total;
+  downtime = downtime_of scale limits course.down;
+  is_kept = nat_le (downtime_of scale limits course.down) limits.downtime;
+  is_late = nat_lt last_tick course.stop;
 }
 
 -- what a plan predicts, by its result and the number of pages that it leaves
 abbrev pub prediction_with : TraceScale → Limits → ℕ → PlanOutcome → ℕ → ℕ → GuestPrediction
 prediction_with scale limits start outcome left last_tick = record {
   reason = outcome.reason;
-  cost = cost_of scale limits start outcome last_tick;
+  cost = cost_of scale limits start (course_of_rounds outcome) last_tick;
   left = left;
   recorded = micros_of scale (last_tick - start);
 }

@@ -2,12 +2,12 @@
 -- and a verdict may turn more than once as the link shrinks: so each whole per cent is tried, down to 50. QEMU reached
 -- 85 to 99. This project's own.
 pub mod Texts
-use Rattle.std.specs.Prelude.{◌≡◌, ◌⊎◌, ℕ, ◌-◌, ◌*◌, ◌/◌, ◌<◌, ◌≤◌, min, nat_lt, List, Option, None, Some}
+use Rattle.std.specs.Prelude.{◌≡◌, ◌⊎◌, ℕ, ◌-◌, ◌*◌, ◌/◌, ◌<◌, ◌≤◌, min, List, Option, None, Some}
 use Rattle.std.specs.Option.{option_map}
-use Rattle.migration_model.specs.Sweeps.{IsOutcome, PlanOutcome}
 use Rattle.migration_model.specs.Touches.{GuestTouch, last_tick_of}
-use Rattle.predictions.specs.Predictions.{answer, ends_with_few}
-use Rattle.predictions.specs.Remedies.Trials.{MakesSettings, MigrationTrial, settings_of}
+use Rattle.predictions.specs.Courses.{course_verdict}
+use Rattle.predictions.specs.Remedies.Trials.{IsTrialCourse, MakesSettings, MigrationTrial}
+use Rattle.predictions.specs.declared.course.Course.{Course}
 use Rattle.predictions.specs.declared.shares.share.LinkShare.{LinkShare}
 use Rattle.predictions.specs.declared.verdict.Verdict.{Verdict}
 use Rattle.predictions.specs.declared.verdict.Verdict.TheVariants as verdicts
@@ -25,17 +25,13 @@ over_share trial percent = record trial {
   };
 }
 
--- whether a plan with this result converges, over touches with this last tick
-abbrev pub verdict_by : PlanOutcome → ℕ → Verdict
-verdict_by outcome last_tick = answer (nat_lt last_tick outcome.stop) (ends_with_few outcome.reason)
-
 -- the plan of a trial's settings has this verdict
 pub record HasVerdict (pages : ℕ) (touches : List GuestTouch) (trial : MigrationTrial) (verdict : Verdict) : Type
     0 where
   pub makes : MakesSettings trial
-  pub outcome : PlanOutcome
-  pub is_outcome : IsOutcome pages touches (settings_of trial) outcome
-  pub verdict_is : verdict ≡ verdict_by outcome (last_tick_of touches)
+  pub course : Course
+  pub is_course : IsTrialCourse pages touches trial course
+  pub verdict_is : verdict ≡ course_verdict course (last_tick_of touches)
 
 -- whether a trial converges: one whose limits make no settings does not
 abbrev pub IsVerdict : ℕ → List GuestTouch → MigrationTrial → Verdict → Type 0

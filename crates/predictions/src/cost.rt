@@ -1,5 +1,6 @@
 //! What a migration costs, in time and bytes.
 
+use crate::course::Course;
 use crate::units::{Limits, Scale};
 use crate::verdict::Verdict;
 use round_planner::Outcome;
@@ -52,27 +53,22 @@ impl Model for Cost {
 
 impl Cost {
     ghost use Rattle.std.specs.Prelude.{◌≡◌};
+    ghost use Rattle.predictions.specs.Courses.Ends.{course_of_rounds};
     ghost use Rattle.predictions.specs.Predictions.{cost_of, kept_of};
 
-    /// Returns what a migration costs that begins at a tick and whose plan has these sums, over a trace of this scale
+    /// Returns what a migration costs that begins at a tick and whose plan comes to this, over a trace of this scale
     /// and with this last tick.
-    pub fn new(
-        scale: &Scale,
-        limits: &Limits,
-        start: u64,
-        outcome: &Outcome,
-        last_tick: u64,
-    ) -> Cost
-        ensures { result ≡ cost_of scale.now limits.now start outcome.now last_tick }
+    pub fn new(scale: &Scale, limits: &Limits, start: u64, course: &Course, last_tick: u64) -> Cost
+        ensures { result ≡ cost_of scale.now limits.now start course.now last_tick }
     {
-        let downtime = scale.micros(outcome.down) + limits.reserve as u128;
+        let downtime = scale.micros(course.down) + limits.reserve as u128;
         Cost {
-            rounds: outcome.rounds,
-            time: scale.micros(outcome.stop.saturating_sub(start)) + downtime,
-            bytes: scale.bytes(outcome.total),
+            rounds: course.steps,
+            time: scale.micros(course.stop.saturating_sub(start)) + downtime,
+            bytes: scale.bytes(course.total),
             downtime,
             is_kept: downtime <= limits.downtime as u128,
-            is_late: last_tick < outcome.stop,
+            is_late: last_tick < course.stop,
         }
     }
 
@@ -85,7 +81,8 @@ impl Cost {
 
     /// Returns what the migration of a line of a sweep costs.
     pub fn of_line(scale: &Scale, limits: &Limits, line: &Line, last_tick: u64) -> Cost
-        ensures { result ≡ cost_of scale.now limits.now line.now.settings.start line.now.outcome last_tick }
+        ensures { result ≡ cost_of scale.now limits.now line.now.settings.start (course_of_rounds line.now.outcome)
+            last_tick }
     {
         let outcome = Outcome {
             rounds: line.rounds,
@@ -98,7 +95,7 @@ impl Cost {
             scale,
             limits,
             line.settings.asked().start,
-            &outcome,
+            &Course::of_outcome(&outcome),
             last_tick,
         )
     }

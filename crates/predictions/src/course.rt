@@ -7,8 +7,8 @@ ghost use Rattle.migration_model.specs.Looks.{AreHypervisorSettings};
 ghost use Rattle.migration_model.specs.Rates.{MigrationSettings};
 ghost use Rattle.migration_model.specs.Touches.{GuestTouch};
 ghost use Rattle.page_bitmap.specs.Listing.{word_count};
-ghost use Rattle.predictions.specs.Courses.{IsCourse, IsCourseOver, course_settings, look_ending, record_end};
-ghost use Rattle.predictions.specs.Courses.{round_ending, stop_after};
+ghost use Rattle.predictions.specs.Courses.{IsCourse, IsCourseOver, course_settings, record_end};
+ghost use Rattle.predictions.specs.Courses.Ends.{look_ending, round_ending, stop_after};
 ghost use Rattle.predictions.specs.Units.Scales.{TraceScale};
 ghost use Rattle.predictions.specs.declared.course.Manner.TheVariants as manners;
 ghost use Rattle.rate_limit.specs.Pacing.{reason_of};
@@ -150,7 +150,8 @@ fn stop_after(ending: CourseEnd, tick: u64) -> u64
 
 impl Course {
     ghost use Rattle.std.specs.Prelude.{◌≡◌, ◌≤◌, ◌^◌, IfOk};
-    ghost use Rattle.predictions.specs.Courses.{IsCourseOver, course_of_looks, course_of_rounds, course_verdict};
+    ghost use Rattle.predictions.specs.Courses.{IsCourseOver, course_verdict};
+    ghost use Rattle.predictions.specs.Courses.Ends.{course_of_looks, course_of_rounds};
 
     /// Returns what a plan of rounds with these sums comes to.
     pub fn of_outcome(outcome: &Outcome) -> Course

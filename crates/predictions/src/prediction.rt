@@ -1,6 +1,7 @@
 //! What a plan predicts.
 
 use crate::cost::Cost;
+use crate::course::Course;
 use crate::units::{Limits, Scale};
 use crate::verdict::Verdict;
 use rate_limit::Reason;
@@ -72,7 +73,13 @@ impl Prediction {
     {
         Prediction {
             reason: outcome.reason,
-            cost: Cost::new(scale, limits, start, outcome, last_tick),
+            cost: Cost::new(
+                scale,
+                limits,
+                start,
+                &Course::of_outcome(outcome),
+                last_tick,
+            ),
             left,
             recorded: scale.micros(last_tick.saturating_sub(start)),
         }

@@ -3,6 +3,7 @@ use Rattle.std.specs.Prelude.{ℕ, ◌^◌, ◌-◌, if◌then◌else◌, Option
 use Rattle.std.specs.List.{flat_map}
 use Rattle.migration_model.specs.Rates.{MigrationSettings}
 use Rattle.migration_model.specs.Sweeps.{SweepLine}
+use Rattle.predictions.specs.Courses.Ends.{course_of_rounds}
 use Rattle.predictions.specs.Predictions.{MigrationCost, cost_of}
 use Rattle.predictions.specs.Quantities.{bytes_text, time_text}
 use Rattle.predictions.specs.Redrawn.Errors.{SampleErrors}
@@ -104,4 +105,4 @@ choice_text case chosen cost errors =
 abbrev pub known_cost : Option Measured → SweepLine → ℕ → Option MigrationCost
 known_cost None chosen last = None
 known_cost (Some known) chosen last =
-    Some (cost_of known.scale known.limits chosen.settings.start chosen.outcome last)
+    Some (cost_of known.scale known.limits chosen.settings.start (course_of_rounds chosen.outcome) last)

@@ -30,6 +30,7 @@ trial_of asked = record {
   limits = asked.limits;
   increment = asked.increment;
   others = asked.settings;
+  manner = manners.Rounds;
 }
 
 -- what the plan predicts, how far chance moves that if pages were sampled, what comes of it if the hypervisor looks as

@@ -80,6 +80,7 @@ fn trial_of(asked: &AskedPrediction) -> Trial
         limits: asked.limits,
         increment: asked.increment,
         others: *asked.settings.asked(),
+        manner: Manner::Rounds,
     }
 }
 

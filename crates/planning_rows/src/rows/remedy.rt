@@ -5,6 +5,7 @@ use super::plan::guest;
 use super::redrawn::WRITES;
 use guest_log::Timeline;
 use page_bitmap::word_count;
+use predictions::Manner;
 use predictions::remedies::{Ending, Remedies, Trial, push_remedies, remedies_of};
 use predictions::units::{Limits, Scale};
 use rate_limit::Asked;
@@ -120,6 +121,7 @@ pub(crate) fn trial(rt: &impl Abort, tried: &Tried) -> Trial {
         },
         increment,
         others: others.asked(),
+        manner: Manner::Rounds,
     }
 }
 

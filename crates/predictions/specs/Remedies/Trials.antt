@@ -9,17 +9,22 @@ use Rattle.predictions.specs.declared.remedies.aim.Aim.TheVariants as aims
 use Rattle.predictions.specs.declared.remedies.change.Change.{Change}
 use Rattle.predictions.specs.declared.remedies.change.Change.TheVariants as changes
 use Rattle.migration_model.specs.Rates.{AreSettings, MigrationSettings}
-use Rattle.migration_model.specs.Sweeps.{IsOutcome, PlanOutcome}
 use Rattle.migration_model.specs.Touches.{GuestTouch, last_tick_of}
-use Rattle.predictions.specs.Predictions.{MigrationCost, cost_of, ends_with_few, kept_of}
+use Rattle.predictions.specs.Courses.{IsCourseOver}
+use Rattle.predictions.specs.Courses.Ends.{converges}
+use Rattle.predictions.specs.Predictions.{MigrationCost, cost_of, kept_of}
+use Rattle.predictions.specs.declared.course.Course.{Course}
+use Rattle.predictions.specs.declared.course.Manner.{Manner}
 use Rattle.predictions.specs.declared.verdict.Verdict.TheVariants as verdicts
 
--- a migration that is tried: limits over a trace of some scale, the increment if it is given, and other settings
+-- a migration that is tried: limits over a trace of some scale, the increment if it is given, other settings, and by
+-- whose plan it goes
 pub record MigrationTrial : Type 0 where
   pub scale : TraceScale
   pub limits : Limits
   pub increment : Option ℕ
   pub others : MigrationSettings
+  pub manner : Manner
 
 -- the settings that its limits make, beside the others
 abbrev pub settings_of : MigrationTrial → MigrationSettings
@@ -30,26 +35,31 @@ pub record MakesSettings (trial : MigrationTrial) : Type 0 where
   pub accepted : limits_refusal trial.scale trial.limits ≡ None
   pub in_range : AreSettings (settings_of trial)
 
--- what a trial costs whose plan has this result, over touches with this last tick
-abbrev pub trial_cost : MigrationTrial → PlanOutcome → ℕ → MigrationCost
-trial_cost trial outcome last_tick = cost_of trial.scale trial.limits trial.others.start outcome last_tick
+-- what the plan of these settings comes to
+abbrev pub IsTrialCourse : ℕ → List GuestTouch → MigrationTrial → Course → Type 0
+IsTrialCourse pages touches trial course =
+    IsCourseOver trial.manner pages touches trial.scale (settings_of trial) course
 
--- a trial whose plan has this result ends with few pages left, within the trace and within the downtime
-pub record EndsWell (trial : MigrationTrial) (outcome : PlanOutcome) (last_tick : ℕ) : Type 0 where
-  pub converges : ends_with_few outcome.reason ≡ true
-  pub kept : kept_of (trial_cost trial outcome last_tick) ≡ verdicts.Yes
+-- what a trial costs whose plan comes to this, over touches with this last tick
+abbrev pub trial_cost : MigrationTrial → Course → ℕ → MigrationCost
+trial_cost trial course last_tick = cost_of trial.scale trial.limits trial.others.start course last_tick
 
--- a trial whose plan has this result comes to what is aimed at: it ends well, or at least within the trace
-abbrev pub ComesTo : Aim → MigrationTrial → PlanOutcome → ℕ → Type 0
-ComesTo aims.Limit trial outcome last_tick = EndsWell trial outcome last_tick
-ComesTo aims.End trial outcome last_tick = outcome.stop ≤ last_tick
+-- a trial whose plan comes to this ends with few pages left, within the trace and within the downtime
+pub record EndsWell (trial : MigrationTrial) (course : Course) (last_tick : ℕ) : Type 0 where
+  pub few : converges course.ending ≡ true
+  pub kept : kept_of (trial_cost trial course last_tick) ≡ verdicts.Yes
+
+-- a trial whose plan comes to this comes to what is aimed at: it ends well, or at least within the trace
+abbrev pub ComesTo : Aim → MigrationTrial → Course → ℕ → Type 0
+ComesTo aims.Limit trial course last_tick = EndsWell trial course last_tick
+ComesTo aims.End trial course last_tick = course.stop ≤ last_tick
 
 -- a trial reaches an aim: its limits make settings, and the plan of these comes to it
 pub record Reaches (aim : Aim) (pages : ℕ) (touches : List GuestTouch) (trial : MigrationTrial) : Type 0 where
   pub makes : MakesSettings trial
-  pub outcome : PlanOutcome
-  pub is_outcome : IsOutcome pages touches (settings_of trial) outcome
-  pub comes : ComesTo aim trial outcome (last_tick_of touches)
+  pub course : Course
+  pub is_course : IsTrialCourse pages touches trial course
+  pub comes : ComesTo aim trial course (last_tick_of touches)
 
 -- a trial keeps its limit
 abbrev pub KeepsLimit : ℕ → List GuestTouch → MigrationTrial → Type 0

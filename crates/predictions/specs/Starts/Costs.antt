@@ -4,6 +4,7 @@ use Rattle.predictions.specs.Units.Scales.{TraceScale}
 use Rattle.predictions.specs.declared.units.limits.Limits.{Limits}
 use Rattle.migration_model.specs.Sweeps.{SweepLine}
 use Rattle.migration_model.specs.Touches.{GuestTouch, last_tick_of}
+use Rattle.predictions.specs.Courses.Ends.{course_of_rounds}
 use Rattle.predictions.specs.Predictions.{MigrationCost, cost_of}
 use Rattle.predictions.specs.Redrawn.Errors.{AreErrors, SampleErrors}
 use Rattle.predictions.specs.declared.course.Manner.TheVariants as manners
@@ -18,7 +19,7 @@ pub record CostAtStart : Type 0 where
 abbrev pub cost_at_start : TraceScale → Limits → ℕ → SweepLine → CostAtStart
 cost_at_start scale limits last_tick line = record {
   start = line.settings.start;
-  cost = cost_of scale limits line.settings.start line.outcome last_tick;
+  cost = cost_of scale limits line.settings.start (course_of_rounds line.outcome) last_tick;
   errors = None;
 }
 

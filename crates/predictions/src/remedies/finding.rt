@@ -7,6 +7,7 @@ ghost use Rattle.predictions.specs.Remedies.{AreRemedies};
 ghost use Rattle.predictions.specs.declared.remedies.aim.Aim.TheVariants as aims;
 ghost use Rattle.page_bitmap.specs.Listing.{word_count};
 
+use crate::course::{MOST_ROUNDS, NO_ROW};
 use crate::remedies::aim::Aim;
 use crate::remedies::change::{Change, KBIT};
 use crate::remedies::ending::{Ending, ending_of};
@@ -16,9 +17,6 @@ use guest_log::Timeline;
 use page_bitmap::word_count;
 use round_planner::RoundRow;
 use std::alloc::{AllocError, Global};
-
-/// The most rounds.
-const MOST_ROUNDS: usize = 64;
 
 /// Whether a migration keeps its limit, and the least amounts that do.
 #[derive(Clone, Copy, Debug, PartialEq, Eq)]
@@ -89,16 +87,6 @@ pub fn remedies_of<T: Timeline>(
         ending: ending_of(timeline, trial, marks, list, rows),
     }
 }
-
-/// An empty row of a round.
-const NO_ROW: RoundRow = RoundRow {
-    from: 0,
-    to: 0,
-    rate: 0,
-    pages: 0,
-    sent: 0,
-    dirtied: 0,
-};
 
 impl Remedies {
     /// Returns what `remedies_of` does. The only error is that memory runs out.

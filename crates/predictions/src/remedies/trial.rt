@@ -1,16 +1,18 @@
 //! Migrations that are tried.
 
 ghost use Rattle.std.specs.Prelude.{◌≡◌, ◌↔◌, ◌≤◌, IfSome, IsTrue, None, length};
+ghost use Rattle.predictions.specs.Courses.{IsCourseOver};
 ghost use Rattle.predictions.specs.Remedies.Trials.{ComesTo, EndsWell, KeepsLimit, MakesSettings, Reaches, settings_of};
 ghost use Rattle.page_bitmap.specs.Listing.{word_count};
 
 use crate::cost::Cost;
+use crate::course::{Course, CourseEnd, Manner, course_in};
 use crate::remedies::aim::Aim;
 use crate::units::{Limits, Scale};
 use crate::verdict::Verdict;
 use guest_log::{Timeline, last_tick};
-use rate_limit::{Asked, Reason, Settings};
-use round_planner::{Outcome, RoundRow, plan_rows};
+use rate_limit::{Asked, Settings};
+use round_planner::RoundRow;
 use std::marker::Model;
 
 /// A migration that is tried.
@@ -25,6 +27,8 @@ pub struct Trial {
     pub increment: Option<u64>,
     /// The settings that the limits do not make.
     pub others: Asked,
+    /// By whose plan it goes.
+    pub manner: Manner,
 }
 
 impl Model for Trial {
@@ -37,6 +41,7 @@ impl Model for Trial {
       limits = t.limits;
       increment = t.increment;
       others = t.others;
+      manner = t.manner;
     } };
 
     ghost inverse = { λ t. record {
@@ -44,6 +49,7 @@ impl Model for Trial {
       limits = t.limits;
       increment = t.increment;
       others = t.others;
+      manner = t.manner;
     } };
 }
 
@@ -63,23 +69,48 @@ impl Trial {
         }
     }
 
-    /// Returns whether the trial ends well if its plan has these sums, over a trace with this last tick.
-    fn ends_well(&self, outcome: &Outcome, last_tick: u64) -> bool
-        ensures { IsTrue result ↔ EndsWell self.now outcome.now last_tick }
+    /// Returns what the plan of these settings comes to by the manner of the trial, over a timeline.
+    pub(crate) fn course<T: Timeline>(
+        &self,
+        timeline: &T,
+        settings: &Settings,
+        marks: &mut [u64],
+        list: &mut [u32],
+        rows: &mut [RoundRow],
+    ) -> Course
+        requires marks { length marks.old ≡ word_count (T.pages timeline.now) }
+        requires list { length list.old ≡ T.pages timeline.now }
+        requires rows { 64 ≤ length rows.old }
+        ensures { IsCourseOver self.now.manner (T.pages timeline.now) (T.touches timeline.now) self.now.scale
+            settings.now result }
     {
-        let start = self.others.start;
-        let cost = Cost::new(&self.scale, &self.limits, start, outcome, last_tick);
-        matches!(outcome.reason, Reason::Few) && matches!(cost.kept(), Verdict::Yes)
+        course_in(
+            timeline,
+            settings,
+            &self.scale,
+            self.manner,
+            marks,
+            list,
+            rows,
+        )
     }
 
-    /// Returns whether the trial comes to what is aimed at if its plan has these sums, over a trace with this last
-    /// tick.
-    fn comes_to(&self, aim: Aim, outcome: &Outcome, last_tick: u64) -> bool
-        ensures { IsTrue result ↔ ComesTo aim self.now outcome.now last_tick }
+    /// Returns whether the trial ends well if its plan comes to this, over a trace with this last tick.
+    fn ends_well(&self, course: &Course, last_tick: u64) -> bool
+        ensures { IsTrue result ↔ EndsWell self.now course.now last_tick }
+    {
+        let start = self.others.start;
+        let cost = Cost::new(&self.scale, &self.limits, start, course, last_tick);
+        matches!(course.ending, CourseEnd::Few) && matches!(cost.kept(), Verdict::Yes)
+    }
+
+    /// Returns whether the trial comes to what is aimed at if its plan comes to this, over a trace with this last tick.
+    fn comes_to(&self, aim: Aim, course: &Course, last_tick: u64) -> bool
+        ensures { IsTrue result ↔ ComesTo aim self.now course.now last_tick }
     {
         match aim {
-            Aim::Limit => self.ends_well(outcome, last_tick),
-            Aim::End => outcome.stop <= last_tick,
+            Aim::Limit => self.ends_well(course, last_tick),
+            Aim::End => course.stop <= last_tick,
         }
     }
 }
@@ -100,8 +131,8 @@ pub(crate) fn reaches<T: Timeline>(
 {
     match trial.settings() {
         Some(settings) => {
-            let outcome = plan_rows(timeline, &settings, marks, list, rows);
-            trial.comes_to(aim, &outcome, last_tick(timeline))
+            let course = trial.course(timeline, &settings, marks, list, rows);
+            trial.comes_to(aim, &course, last_tick(timeline))
         }
         None => false,
     }

@@ -5,16 +5,16 @@
 ghost use Rattle.std.specs.Prelude.{◌≡◌, ◌↔◌, ◌≤◌, IfOk, IsTrue, length, min};
 ghost use Rattle.std.specs.Option.{option_map};
 ghost use Rattle.page_bitmap.specs.Listing.{word_count};
-ghost use Rattle.predictions.specs.Shares.{IsLinkShare, IsVerdict, VerdictAt, link_at, over_share, verdict_by};
+ghost use Rattle.predictions.specs.Shares.{IsLinkShare, IsVerdict, VerdictAt, link_at, over_share};
 
+use crate::course::{MOST_ROUNDS, NO_ROW};
 use crate::remedies::Trial;
 use crate::shares::share::LinkShare;
 use crate::units::Limits;
 use crate::verdict::Verdict;
 use guest_log::{Timeline, last_tick};
 use page_bitmap::word_count;
-use rate_limit::Reason;
-use round_planner::{Outcome, RoundRow, plan_rows};
+use round_planner::RoundRow;
 use std::alloc::{AllocError, Global};
 
 /// Returns a share of a link, in per cent and rounded down.
@@ -51,16 +51,6 @@ fn over_share(trial: &Trial, percent: u64) -> Trial
     }
 }
 
-/// Returns whether a plan with these sums converges, over a trace with this last tick.
-fn verdict_by(outcome: &Outcome, last_tick: u64) -> Verdict
-    ensures { result ≡ verdict_by outcome.now last_tick }
-{
-    Verdict::new(
-        last_tick < outcome.stop,
-        matches!(outcome.reason, Reason::Few),
-    )
-}
-
 /// Returns whether a trial converges, over a timeline. One whose limits make no settings does not. It costs as much as
 /// a plan.
 fn converges<T: Timeline>(
@@ -77,8 +67,8 @@ fn converges<T: Timeline>(
 {
     match trial.settings() {
         Some(settings) => {
-            let outcome = plan_rows(timeline, &settings, marks, list, rows);
-            verdict_by(&outcome, last_tick(timeline))
+            let course = trial.course(timeline, &settings, marks, list, rows);
+            course.verdict(last_tick(timeline))
         }
         None => Verdict::No,
     }
@@ -147,19 +137,6 @@ pub fn link_share_of<T: Timeline>(
         below: None,
     }
 }
-
-/// An empty row of a round.
-const NO_ROW: RoundRow = RoundRow {
-    from: 0,
-    to: 0,
-    rate: 0,
-    pages: 0,
-    sent: 0,
-    dirtied: 0,
-};
-
-/// The most rounds.
-const MOST_ROUNDS: usize = 64;
 
 impl LinkShare {
     /// Returns what `link_share_of` does. The only error is that memory runs out.

@@ -1,0 +1,57 @@
+-- Why plans end, and what plans of these sums come to. This project's own.
+use Rattle.std.specs.Prelude.{ℕ, ◌+◌, Bool, true, false, if◌then◌else◌}
+use Rattle.look_planner.specs.declared.parts.PlanEnd.{PlanEnd}
+use Rattle.look_planner.specs.declared.parts.PlanEnd.TheVariants as looks
+use Rattle.look_planner.specs.declared.sums.LookSums.{LookSums}
+use Rattle.migration_model.specs.Rates.{StopReason, few_remain, rounds_done, too_fast}
+use Rattle.migration_model.specs.Sweeps.{PlanOutcome}
+use Rattle.predictions.specs.declared.course.Course.{Course}
+use Rattle.predictions.specs.declared.course.CourseEnd.{CourseEnd}
+use Rattle.predictions.specs.declared.course.CourseEnd.TheVariants as endings
+
+-- why a plan of rounds ends
+abbrev pub round_ending : StopReason → CourseEnd
+round_ending few_remain = endings.Few
+round_ending too_fast = endings.Fast
+round_ending rounds_done = endings.Most
+
+-- why a plan of looks ends, if its lists get shorter or do not
+abbrev pub look_ending : PlanEnd → Bool → CourseEnd
+look_ending looks.Few shortens = endings.Few
+look_ending looks.Looks shortens = endings.Most
+look_ending looks.Record shortens = if shortens then endings.Cut else endings.Level
+
+-- when a plan stops that ends so at a tick: if the record cuts it while its lists get shorter, after the record
+abbrev pub stop_after : CourseEnd → ℕ → ℕ
+stop_after endings.Cut tick = tick + 1
+stop_after endings.Few tick = tick
+stop_after endings.Fast tick = tick
+stop_after endings.Most tick = tick
+stop_after endings.Level tick = tick
+
+-- what plans of these sums come to
+abbrev pub course_of_rounds : PlanOutcome → Course
+course_of_rounds outcome = record {
+  ending = round_ending outcome.reason;
+  steps = outcome.rounds;
+  stop = outcome.stop;
+  down = outcome.down;
+  total = outcome.total;
+}
+
+abbrev pub course_of_looks : LookSums → Course
+course_of_looks sums = record {
+  ending = look_ending sums.end sums.shortens;
+  steps = sums.looks;
+  stop = stop_after (look_ending sums.end sums.shortens) sums.stop;
+  down = sums.down;
+  total = sums.total;
+}
+
+-- whether a plan that ends so converges
+abbrev pub converges : CourseEnd → Bool
+converges endings.Few = true
+converges endings.Fast = false
+converges endings.Most = false
+converges endings.Cut = false
+converges endings.Level = false
