@@ -210,7 +210,7 @@ def tries_of(folder):
 # How often each must come of the random questions, at least; and at most a fifth of each kind is refused.
 LEAST = {"report": {"yes": 50, "no": 10, "unknown": 15, "refused": 1}}
 LEAST |= {"when": {"yes": 15, "no": 6, "unknown": 15, "refused": 1}}
-LEAST |= {"advise": {"fits": 30, "another": 5, "unlikely": 1, "unknown": 1, "refused": 1}}
+LEAST |= {"advise": {"fits": 25, "another": 5, "unlikely": 1, "unknown": 3, "refused": 1}}
 
 
 def expect_each():

@@ -21,8 +21,8 @@ pub struct GuestImages {
 }
 
 impl GuestImages {
-    /// Returns the memory of a guest that stopped with each page at its version, and that memory with each page's later
-    /// writes. The only error is that memory runs out.
+    /// Returns the memory of a guest that stopped with each page at its version, and its memory after all its writes.
+    /// The only error is that memory runs out.
     pub fn new<W: WriteLog>(
         alloc: Global,
         stopped: &JoinedParts,
@@ -34,9 +34,9 @@ impl GuestImages {
         requires shift { (memory_by stopped.now).shift ≡ (W.trace trace.now).shift }
         requires pages { (memory_by stopped.now).pages ≡ (W.trace trace.now).pages }
         requires versions { length versions.now ≡ (W.trace trace.now).pages }
+        requires at { AtVersions (W.trace trace.now) versions.now (memory_by stopped.now) }
         ensures at_stop { IfOk result (λ images. images.at_stop ≡ memory_by stopped.now) }
-        ensures at_end { IfOk result (λ images. AtVersions (W.trace trace.now) versions.now (memory_by stopped.now)
-            → images.at_end ≡ image_of (W.trace trace.now)) }
+        ensures at_end { IfOk result (λ images. images.at_end ≡ image_of (W.trace trace.now)) }
         ensures refused { IfErr result (λ e. e ≡ ImageError.Memory) }
     {
         let at_stop = stopped.image(alloc)?;
