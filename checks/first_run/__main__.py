@@ -99,7 +99,9 @@ def copy_tree(folder, without):
 
 def run(command, folder, home):
     """The status of a command, and the end of what it says."""
-    environment = {**os.environ, "HOME": home, "XDG_CACHE_HOME": f"{home}/cache"}
+    # A cargo that rustup installed finds its toolchain in the home of who installed it.
+    rustup = {"RUSTUP_HOME": os.environ.get("RUSTUP_HOME", os.path.expanduser("~/.rustup"))}
+    environment = {**os.environ, **rustup, "HOME": home, "XDG_CACHE_HOME": f"{home}/cache"}
     environment.pop("PYTHONPATH", None)
     how = {
         "stdin": subprocess.DEVNULL,
