@@ -9,7 +9,7 @@ import precopy
 from checks.lib import traces as all_traces
 from checks.lib.harness import drawn, expect
 from checks.lib.library_runs import LIBRARY, is_done, program_says, read, run
-from checks.lib.traces import EXAMPLES
+from checks.lib.traces import EXAMPLES, Trace
 from checks.library import beside, header, installs, open_traces, places, python, rust, starts, streams, traces
 from precopy_dev.tree import TOP
 from precopy_tools import version
@@ -221,8 +221,23 @@ def check_sanitized(tally, folder):
 # ---- Examples and what the page on the library shows.
 
 
+def lacking(path, tick):
+    """What examples/c/lacking.c prints of a trace: a page's version is the place of its last write."""
+    before, last = {}, {}
+    for place, (at, page, _, _) in enumerate(Trace.at(path).records, 1):
+        last[page] = place
+        if at < tick:
+            before[page] = place
+    return "".join(
+        f"page {page} at {before.get(page, 0)} of {last[page]}\n"
+        for page in sorted(last)
+        if before.get(page, 0) != last[page]
+    )
+
+
 def check_c(tally, folder, program):
-    if not all([is_compiled(tally, folder, f"examples/c/{name}.c", "-std=c99") for name in ("plan", "receiver")]):
+    names = ("plan", "receiver", "lacking")
+    if not all([is_compiled(tally, folder, f"examples/c/{name}.c", "-std=c99") for name in names]):
         return
     for path in EXAMPLES:
         trace = read(path)
@@ -231,6 +246,13 @@ def check_c(tally, folder, program):
         good = done.stdout and wanted.endswith(done.stdout) and done.stdout.startswith(b"round 0 ")
         tally.add(good, f"examples/c/plan.c of {path}: {done.stdout!r}, {done.stderr!r}")
         rust.receive(tally, folder, path, trace)
+        for tick in (0, 100, 2500, 2**40):
+            done = run(os.path.join(folder, "lacking"), str(tick), input=trace)
+            good = (done.returncode, done.stdout.decode()) == (0, lacking(path, tick))
+            tally.add(good, f"examples/c/lacking.c of {path} at {tick}: {done}")
+    done = run(os.path.join(folder, "lacking"), "0", input=read(EXAMPLES[0])[:-1])
+    wanted = b"lacking: trace E8: it ends within this record\n"
+    tally.add((done.returncode, done.stderr) == (1, wanted), f"lacking.c: {done}")
     done = run(os.path.join(folder, "plan"), "500", "4000", "10", input=b"none")
     wanted = b"plan: trace E1: it has fewer than the 16 bytes of a header\n"
     tally.add((done.returncode, done.stderr) == (1, wanted), f"plan.c: {done}")
