@@ -1,7 +1,7 @@
 """Proves and builds the library in the current folder, by JOBS processes.
 
-    ../../tools/library JOBS
-    ../../tools/library --proved
+    ../../dev/library JOBS
+    ../../dev/library --proved
 
 It does what `rt lib` does, but as under `rt ci` the built library has only its statements, and no proofs. A crate above
 it needs no more, and loads that in a fraction of the time. The stamp beside it is that of `rt lib`, so that `rt check`
