@@ -12,6 +12,7 @@ use Rattle.migration_model.specs.Trace.{last_by}
 use Rattle.migration_model.specs.Sweeps.{PlanOutcome}
 use Rattle.migration_model.specs.Touches.{touches_of}
 use Rattle.migration_model.specs.Trace.{GuestTrace, last_tick}
+use Rattle.predictions.specs.Courses.Ends.{course_of_rounds}
 use Rattle.predictions.specs.Predictions.{prediction_with}
 use Rattle.predictions.specs.Questions.{answer_of}
 use Rattle.predictions.specs.declared.answer.Answer.{Answer}
@@ -69,8 +70,8 @@ rows_low rounds old new count rows counted =
 pub answer_is : (trace : GuestTrace) (terms : Terms) (outcome : PlanOutcome) (left : ℕ) (answer : Answer)
     (old new : List RoundRow) → IsPlanned trace.pages (touches_of trace) terms.settings outcome old new
     → left ≡ last_by (λ (row : RoundRow). row.dirtied) (take outcome.rounds new)
-    → answer ≡ answer_of outcome (prediction_with terms.scale terms.limits terms.settings.start outcome left
-    (last_tick trace.writes))
+    → answer ≡ answer_of (course_of_rounds outcome) (prediction_with terms.scale terms.limits terms.settings.start
+    outcome left (last_tick trace.writes))
     → IsAnswerTo terms answer old new trace
 answer_is trace terms outcome left answer old new planned left_by is =
     let leaves : left ≡ length planned.plan.last = left_by
@@ -79,7 +80,7 @@ answer_is trace terms outcome left answer old new planned left_by is =
     record {
       plan = planned.plan;
       is_plan = planned.is_plan;
-      answer_is = is ∙ (λ i. answer_of (planned.outcome_is i) (prediction_with terms.scale terms.limits
-          terms.settings.start (planned.outcome_is i) (leaves i) (last_tick trace.writes)));
+      answer_is = is ∙ (λ i. answer_of (course_of_rounds (planned.outcome_is i)) (prediction_with terms.scale
+          terms.limits terms.settings.start (planned.outcome_is i) (leaves i) (last_tick trace.writes)));
       rows_are = planned.rows_are;
     }

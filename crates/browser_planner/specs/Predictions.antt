@@ -4,6 +4,7 @@ use Rattle.migration_model.specs.Rounds.{IsPlan, MigrationPlan}
 use Rattle.migration_model.specs.Sweeps.{outcome_of}
 use Rattle.migration_model.specs.Touches.{touches_of}
 use Rattle.migration_model.specs.Trace.{GuestTrace, Spells, last_tick}
+use Rattle.predictions.specs.Courses.Ends.{course_of_rounds}
 use Rattle.predictions.specs.Predictions.{prediction_of}
 use Rattle.predictions.specs.Questions.{AcceptsQuestion, Fits, IsMisfit, RefusesQuestion, answer_of, scale_in}
 use Rattle.predictions.specs.declared.answer.Answer.{Answer}
@@ -26,7 +27,7 @@ pub record OfTrace (bytes : List ℕ) (q : Question) (Holds : GuestTrace → Typ
 pub record IsAnswerTo (terms : Terms) (answer : Answer) (old new : List RoundRow) (trace : GuestTrace) : Type 0 where
   pub plan : MigrationPlan
   pub is_plan : IsPlan trace.pages (touches_of trace) terms.settings plan
-  pub answer_is : answer ≡ answer_of (outcome_of plan)
+  pub answer_is : answer ≡ answer_of (course_of_rounds (outcome_of plan))
       (prediction_of terms.scale terms.limits terms.settings.start plan (last_tick trace.writes))
   pub rows_are : new ≡ rows_over plan.rounds old
 

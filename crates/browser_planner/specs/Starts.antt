@@ -13,7 +13,7 @@ use Rattle.browser_planner.specs.declared.starts.LentStart.{LentStart}
 -- what a migration costs by an answer: its limit is kept, or not, or nothing is known
 abbrev pub cost_in : Answer → MigrationCost
 cost_in a = record {
-  rounds = a.rounds;
+  steps = a.rounds;
   time = a.time;
   bytes = a.bytes;
   downtime = a.downtime;

@@ -6,6 +6,7 @@
 ghost use Rattle.std.specs.Prelude.{◌≡◌, ◌≢◌, ◌≤◌, IfErr, IfOk, IsOk, OnErr, length, take};
 ghost use Rattle.predictions.specs.declared.units.error.UnitsError.{UnitsError};
 ghost use Rattle.migration_model.specs.Trace.{GuestTrace, Spells, last_by, last_tick};
+ghost use Rattle.predictions.specs.Courses.Ends.{course_of_rounds};
 ghost use Rattle.predictions.specs.Predictions.{prediction_with};
 ghost use Rattle.predictions.specs.Questions.{AcceptsQuestion, Fits, RefusesQuestion, answer_of, scale_in};
 ghost use Rattle.predictions.specs.Questions.{settings_of, terms_of};
@@ -20,7 +21,7 @@ use crate::plans::{PlanRoom, plan_of};
 use crate::touches::LentTouch;
 use crate::traces::last_tick;
 use c_layout::{PlanSettings, units_number};
-use predictions::{Answer, Prediction, Question, Terms, check_fit};
+use predictions::{Answer, Course, Prediction, Question, Terms, check_fit};
 use round_planner::{Outcome, RoundRow};
 use trace_codec::TraceView;
 
@@ -58,7 +59,7 @@ fn last_dirtied(rounds: &[RoundRow], outcome: &Outcome) -> u64
 
 /// Returns the answer of a plan of a trace with this result that leaves so many pages.
 fn answer_with(trace: &TraceView<'_>, terms: &Terms, outcome: &Outcome, left: u64) -> Answer
-    ensures { result ≡ answer_of outcome.now (prediction_with terms.now.scale terms.now.limits
+    ensures { result ≡ answer_of (course_of_rounds outcome.now) (prediction_with terms.now.scale terms.now.limits
         terms.now.settings.start outcome.now left (last_tick trace.now.writes)) }
 {
     let start = terms.settings.asked().start;
@@ -71,7 +72,7 @@ fn answer_with(trace: &TraceView<'_>, terms: &Terms, outcome: &Outcome, left: u6
         left,
         last,
     );
-    Answer::new(outcome, &prediction)
+    Answer::new(&Course::of_outcome(outcome), &prediction)
 }
 
 /// Returns the answer to a question about a trace, and writes the rounds of its plan over the front of a buffer.

@@ -1,5 +1,5 @@
 //! Questions about the worked trace. The answers are those of `precopy-view`; standard errors come from
-//! `bench/redrawn.py`, which shares no code with this crate.
+//! `python/precopy_dev/models/redrawn.py`, which shares no code with this crate.
 
 use crate::answering::{lent_predict, lent_question};
 use crate::errors::lent_errors;

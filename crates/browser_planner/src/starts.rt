@@ -41,7 +41,7 @@ fn cost_of(answer: &Answer) -> Cost
     ensures { result ≡ cost_in answer.now }
 {
     Cost {
-        rounds: answer.rounds,
+        steps: answer.rounds,
         time: answer.time as u128,
         bytes: answer.bytes as u128,
         downtime: answer.downtime as u128,

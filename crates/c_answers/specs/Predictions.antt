@@ -5,6 +5,7 @@ use Rattle.migration_model.specs.Rounds.{IsPlan, MigrationPlan}
 use Rattle.migration_model.specs.Sweeps.{outcome_of}
 use Rattle.migration_model.specs.Touches.{GuestTouches, touches_in, last_tick_of}
 use Rattle.migration_model.specs.Trace.{GuestTrace, Spells}
+use Rattle.predictions.specs.Courses.Ends.{course_of_rounds}
 use Rattle.predictions.specs.Predictions.{prediction_of}
 use Rattle.predictions.specs.Questions.{AcceptsQuestion, Fits, IsMisfit, RefusesQuestion, answer_of, error_numbers}
 use Rattle.predictions.specs.Questions.{scale_in, terms_of}
@@ -57,7 +58,7 @@ pub record IsInquiry (bytes : List ℕ) (asked : SizedQuestion) (inquiry : Inqui
 pub record IsAnswerOver (terms : Terms) (log : GuestTouches) (answer : Answer) : Type 0 where
   pub plan : MigrationPlan
   pub is_plan : IsPlan log.pages log.touches terms.settings plan
-  pub answer_is : answer ≡ answer_of (outcome_of plan)
+  pub answer_is : answer ≡ answer_of (course_of_rounds (outcome_of plan))
       (prediction_of terms.scale terms.limits terms.settings.start plan (last_tick_of log.touches))
 
 -- the standard errors of what that plan predicts, if there are any

@@ -8,6 +8,7 @@ ghost use Rattle.std.specs.Prelude.{◌≡◌, IfErr, IfOk, OnOk};
 ghost use Rattle.migration_model.specs.Sweeps.{outcome_of};
 ghost use Rattle.migration_model.specs.Touches.{last_tick_of};
 ghost use Rattle.migration_model.specs.Trace.{GuestTrace, Spells};
+ghost use Rattle.predictions.specs.Courses.Ends.{course_of_rounds};
 ghost use Rattle.predictions.specs.Predictions.{prediction_of};
 ghost use Rattle.predictions.specs.Questions.{Fits, answer_of, scale_in};
 ghost use Rattle.c_answers.specs.Predictions.{AreNumbersOver, IsAnswerOver, IsAsked, IsPredictionOf};
@@ -17,7 +18,7 @@ use crate::inquiries::{Inquiry, inquiry_of};
 use crate::questions::{QuestionRefusal, SizedQuestion};
 use guest_log::last_tick;
 use predictions::redrawn::Errors;
-use predictions::{Answer, ErrorNumbers, Manner, Prediction, Terms};
+use predictions::{Answer, Course, ErrorNumbers, Manner, Prediction, Terms};
 use round_planner::{Plan, PlanError, plan};
 use std::alloc::{AllocError, Global};
 use trace_readers::TouchLog;
@@ -31,13 +32,13 @@ pub struct ToldPrediction {
 
 /// Returns the answer that a plan over a log gives.
 fn answer_with(terms: &Terms, log: &TouchLog, plan: &Plan) -> Answer
-    ensures { result ≡ answer_of (outcome_of plan.now) (prediction_of terms.now.scale terms.now.limits
-        terms.now.settings.start plan.now (last_tick_of log.now.touches)) }
+    ensures { result ≡ answer_of (course_of_rounds (outcome_of plan.now)) (prediction_of terms.now.scale
+        terms.now.limits terms.now.settings.start plan.now (last_tick_of log.now.touches)) }
 {
     let start = terms.settings.asked().start;
     let last = last_tick(log);
     let prediction = Prediction::new(&terms.scale, &terms.limits, start, plan, last);
-    Answer::new(&plan.outcome(), &prediction)
+    Answer::new(&Course::of_outcome(&plan.outcome()), &prediction)
 }
 
 /// Returns the answer to a question over a log.

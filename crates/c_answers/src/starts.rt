@@ -20,8 +20,8 @@ use crate::inquiries::{Inquiry, inquiry_of};
 use crate::questions::{QuestionRefusal, SizedQuestion};
 use c_layout::{BestStartNumbers, best_error_numbers, settings_number};
 use guest_log::last_tick;
-use predictions::starts::{StartCost, Starts, StartsError, best_start};
-use predictions::{ErrorNumbers, Question, Terms};
+use predictions::starts::{StartCost, Starts, StartsError, best_start, cases_of_lines};
+use predictions::{ErrorNumbers, Manner, Measure, Question, Terms};
 use std::alloc::Global;
 use sweep_report::sweep_in_turn;
 use trace_readers::TouchLog;
@@ -149,7 +149,13 @@ fn best_over(
 {
     let cases = starts.cases(alloc, &terms.settings, last_tick(log))?;
     let lines = sweep_in_turn(alloc, log, &cases).or(Err(StartsError::Memory))?;
-    Ok(best_start(alloc, log, &terms.scale, &terms.limits, &lines)?)
+    let cases = cases_of_lines(alloc, &lines)?;
+    let measure = Measure {
+        scale: terms.scale,
+        limits: terms.limits,
+        manner: Manner::Rounds,
+    };
+    Ok(best_start(alloc, log, &measure, &cases)?)
 }
 
 /// Returns what is told of the best start of a question over the trace that the bytes encode. Sizes and the question

@@ -11,7 +11,7 @@ use Rattle.c_layout.specs.declared.starts.BestStartNumbers.{BestStartNumbers}
 abbrev pub numbers_from : ℕ → CostAtStart → BestStartNumbers
 numbers_from limit at = record {
   start = at.start;
-  rounds = at.cost.rounds;
+  rounds = at.cost.steps;
   time = capped at.cost.time;
   bytes = capped at.cost.bytes;
   downtime = capped at.cost.downtime;

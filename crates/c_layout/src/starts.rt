@@ -68,7 +68,7 @@ impl BestStartNumbers {
         let cost = &at.cost;
         BestStartNumbers {
             start: at.start,
-            rounds: cost.rounds,
+            rounds: cost.steps,
             time: capped(cost.time),
             bytes: capped(cost.bytes),
             downtime: capped(cost.downtime),

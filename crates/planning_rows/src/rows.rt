@@ -5,6 +5,7 @@ mod course;
 mod links;
 mod look;
 mod plan;
+mod prediction;
 mod quantity;
 mod rate;
 mod redrawn;

@@ -3,28 +3,28 @@ use Rattle.std.proofs.Common.{◌≡◌, ◌∙◌, ◌+◌, ◌<◌, ℕ, List,
 use Rattle.std.proofs.Common.{inl, inr, arith}
 use Rattle.std.specs.Prelude.{slice_index_or, not}
 use Rattle.std.proofs.lemmas.Bool.{both_ways, cases_Bool, cases_eq, cases_order, false≢true}
-use Rattle.migration_model.specs.Rates.{few_remain}
-use Rattle.migration_model.specs.Sweeps.{SweepLine}
 use Rattle.migration_model.specs.Touches.{GuestTouch, last_tick_of}
 use Rattle.predictions.specs.Starts.Choices.{IsBest, IsBestOf, IsKnownAt, IsPassed, IsTaken, beats_any}
 use Rattle.predictions.specs.Starts.Choices.{is_better_start, is_known}
 use Rattle.predictions.specs.Starts.Costs.{CostAtStart, IsRated, cost_at_start}
 use Rattle.predictions.specs.Units.Scales.{TraceScale}
-use Rattle.predictions.specs.declared.course.Manner.TheVariants.{Rounds}
+use Rattle.predictions.specs.declared.course.CourseEnd.TheVariants.{Few}
+use Rattle.predictions.specs.declared.course.Manner.{Manner}
+use Rattle.predictions.specs.declared.starts.planned.PlannedCase.{PlannedCase}
 use Rattle.predictions.specs.declared.units.limits.Limits.{Limits}
 use Rattle.predictions.proofs.OneError.{one_errors}
 use Rattle.predictions.proofs.Orders.{better_order, no_better_with_errors}
 
-module _ (pages : ℕ) (touches : List GuestTouch) (scale : TraceScale) (limits : Limits) where
+module _ (manner : Manner) (pages : ℕ) (touches : List GuestTouch) (scale : TraceScale) (limits : Limits) where
   abbrev beats : CostAtStart → CostAtStart → Bool
   beats = is_better_start limits.downtime
 
   -- a case has one start
-  pub one_rated : (line : SweepLine) (a b : CostAtStart) → IsRated pages touches scale limits line a
-      → IsRated pages touches scale limits line b → a ≡ b
-  one_rated line a b x y =
+  pub one_rated : (case : PlannedCase) (a b : CostAtStart) → IsRated manner pages touches scale limits case a
+      → IsRated manner pages touches scale limits case b → a ≡ b
+  one_rated case a b x y =
       let same = x.plain_is ∙ sym y.plain_is in
-      let errors = one_errors Rounds pages touches line.settings scale a.errors b.errors x.errors_are y.errors_are in
+      let errors = one_errors manner pages touches case.settings scale a.errors b.errors x.errors_are y.errors_are in
       λ i. record { start = (same i).start; cost = (same i).cost; errors = errors i }
 
   not_itself : (a : CostAtStart) → beats a a ≡ false
@@ -45,66 +45,66 @@ module _ (pages : ℕ) (touches : List GuestTouch) (scale : TraceScale) (limits 
   ]
 
   -- a start that is no better with its errors is passed
-  pub passed_by : (line : SweepLine) (best : Option CostAtStart) (at : CostAtStart)
-      → IsRated pages touches scale limits line at → beats_any limits.downtime at best ≡ false
-      → IsPassed pages touches scale limits line best
-  passed_by line None at rated lost = absurd (false≢true (sym lost))
-  passed_by line (Some best) at rated lost =
-      λ other is known. subst (λ (c : CostAtStart). beats c best ≡ false) (one_rated line at other rated is) lost
+  pub passed_by : (case : PlannedCase) (best : Option CostAtStart) (at : CostAtStart)
+      → IsRated manner pages touches scale limits case at → beats_any limits.downtime at best ≡ false
+      → IsPassed manner pages touches scale limits case best
+  passed_by case None at rated lost = absurd (false≢true (sym lost))
+  passed_by case (Some best) at rated lost =
+      λ other is known. subst (λ (c : CostAtStart). beats c best ≡ false) (one_rated case at other rated is) lost
 
   -- and so is one of which nothing is known, or that is no better without them
-  pub passed_late : (line : SweepLine) (best : Option CostAtStart)
-      → is_known (cost_at_start scale limits (last_tick_of touches) line) ≡ false
-      → IsPassed pages touches scale limits line best
-  passed_late line None late = late
-  passed_late line (Some best) late =
+  pub passed_late : (case : PlannedCase) (best : Option CostAtStart)
+      → is_known (cost_at_start scale limits (last_tick_of touches) case) ≡ false
+      → IsPassed manner pages touches scale limits case best
+  passed_late case None late = late
+  passed_late case (Some best) late =
       λ at is known. absurd (both_ways (is_known at) (ap (λ (c : CostAtStart). is_known c) is.plain_is ∙ late)
       (ap not known))
 
-  pub passed_plain : (line : SweepLine) (best : Option CostAtStart)
-      → beats_any limits.downtime (cost_at_start scale limits (last_tick_of touches) line) best ≡ false
-      → IsPassed pages touches scale limits line best
-  passed_plain line None lost = absurd (false≢true (sym lost))
-  passed_plain line (Some best) lost =
+  pub passed_plain : (case : PlannedCase) (best : Option CostAtStart)
+      → beats_any limits.downtime (cost_at_start scale limits (last_tick_of touches) case) best ≡ false
+      → IsPassed manner pages touches scale limits case best
+  passed_plain case None lost = absurd (false≢true (sym lost))
+  passed_plain case (Some best) lost =
       λ at is known. no_better_with_errors limits.downtime at best
       (subst (λ (c : CostAtStart). beats c best ≡ false) (sym is.plain_is) lost)
 
   -- a start that is known is not one of which nothing is
-  still_known : (lines : List SweepLine) (d : SweepLine) (at : CostAtStart) {n : ℕ} (number : ℕ)
-      → IsBestOf pages touches scale limits lines n number at → ((e : SweepLine)
-      → is_known (cost_at_start scale limits (last_tick_of touches) (slice_index_or lines number e)) ≡ false) → ⊥
-  still_known lines d at number best late =
+  still_known : (cases : List PlannedCase) (d : PlannedCase) (at : CostAtStart) {n : ℕ} (number : ℕ)
+      → IsBestOf manner pages touches scale limits cases n number at → ((e : PlannedCase)
+      → is_known (cost_at_start scale limits (last_tick_of touches) (slice_index_or cases number e)) ≡ false) → ⊥
+  still_known cases d at number best late =
       both_ways (is_known at) (ap (λ (c : CostAtStart). is_known c) (best.is_known.rated d).plain_is ∙ late d)
       (ap not best.is_known.known)
 
-  module _ (lines : List SweepLine) (n : ℕ) (line : SweepLine)
-      (here : (d : SweepLine) → slice_index_or lines n d ≡ line)
+  module _ (cases : List PlannedCase) (n : ℕ) (case : PlannedCase)
+      (here : (d : PlannedCase) → slice_index_or cases n d ≡ case)
     where
       abbrev Known : ℕ → CostAtStart → Type 0
-      Known k at = IsKnownAt pages touches scale limits lines k at
+      Known k at = IsKnownAt manner pages touches scale limits cases k at
 
-      abbrev Late : SweepLine → Type 0
+      abbrev Late : PlannedCase → Type 0
       Late l = is_known (cost_at_start scale limits (last_tick_of touches) l) ≡ false
 
-      rated_here : (at : CostAtStart) → Known n at → IsRated pages touches scale limits line at
-      rated_here at known = subst (λ (l : SweepLine). IsRated pages touches scale limits l at) (here line)
-          (known.rated line)
+      rated_here : (at : CostAtStart) → Known n at → IsRated manner pages touches scale limits case at
+      rated_here at known = subst (λ (l : PlannedCase). IsRated manner pages touches scale limits l at) (here case)
+          (known.rated case)
 
       -- nothing is known of a case whose migration ends after the trace
-      unknown : (k : ℕ) (at : CostAtStart) → ((d : SweepLine)
-          → is_known (cost_at_start scale limits (last_tick_of touches) (slice_index_or lines k d)) ≡ false)
+      unknown : (k : ℕ) (at : CostAtStart) → ((d : PlannedCase)
+          → is_known (cost_at_start scale limits (last_tick_of touches) (slice_index_or cases k d)) ≡ false)
           → Known k at → ⊥
       unknown k at late known =
-          let plain = (known.rated line).plain_is in
+          let plain = (known.rated case).plain_is in
           let is = ap (λ (c : CostAtStart). is_known c) plain in
-          both_ways (is_known at) (is ∙ late line) (ap not known.known)
+          both_ways (is_known at) (is ∙ late case) (ap not known.known)
 
-      pub passes : (best : Option CostAtStart) → IsBest pages touches scale limits lines n best
-          → IsPassed pages touches scale limits line best → IsBest pages touches scale limits lines (n + 1) best
+      pub passes : (best : Option CostAtStart) → IsBest manner pages touches scale limits cases n best
+          → IsPassed manner pages touches scale limits case best → IsBest manner pages touches scale limits cases (n + 1) best
       passes None so_far passed = λ k d low. elim (cases_eq k n) [
         | inl same ↦
-            subst (λ (m : ℕ). Late (slice_index_or lines m d)) (sym same)
-            (subst (λ (l : SweepLine). Late l) (sym (here d)) passed)
+            subst (λ (m : ℕ). Late (slice_index_or cases m d)) (sym same)
+            (subst (λ (l : PlannedCase). Late l) (sym (here d)) passed)
         | inr other ↦ so_far k d (omega (arith, other))
       ]
       passes (Some best) (number, so_far) passed = (
@@ -120,21 +120,21 @@ module _ (pages : ℕ) (touches : List GuestTouch) (scale : TraceScale) (limits 
         },
       )
 
-      pub takes : (best : Option CostAtStart) (new : CostAtStart) → IsBest pages touches scale limits lines n best
-          → IsTaken pages touches scale limits line best new
-          → IsBest pages touches scale limits lines (n + 1) (Some new)
+      pub takes : (best : Option CostAtStart) (new : CostAtStart) → IsBest manner pages touches scale limits cases n best
+          → IsTaken manner pages touches scale limits case best new
+          → IsBest manner pages touches scale limits cases (n + 1) (Some new)
       takes best new so_far taken = (
         n,
         record {
           inside = omega arith;
           is_known = record {
-            rated = λ d. subst (λ (l : SweepLine). IsRated pages touches scale limits l new) (sym (here d)) taken.rated;
+            rated = λ d. subst (λ (l : PlannedCase). IsRated manner pages touches scale limits l new) (sym (here d)) taken.rated;
             known = taken.known;
           };
           least = λ k at low known. elim (cases_eq k n) [
             | inl same ↦
                 subst (λ (c : CostAtStart). beats c new ≡ false)
-                (one_rated line new at taken.rated (rated_here at (subst (λ (m : ℕ). Known m at) same known)))
+                (one_rated case new at taken.rated (rated_here at (subst (λ (m : ℕ). Known m at) same known)))
                 (not_itself new)
             | inr other ↦ least_before best so_far taken k at (omega (arith, other)) known
           ];
@@ -142,30 +142,30 @@ module _ (pages : ℕ) (touches : List GuestTouch) (scale : TraceScale) (limits 
         },
       )
         where
-          least_before : (best : Option CostAtStart) → IsBest pages touches scale limits lines n best
-              → IsTaken pages touches scale limits line best new → (k : ℕ) (at : CostAtStart) → k < n → Known k at
+          least_before : (best : Option CostAtStart) → IsBest manner pages touches scale limits cases n best
+              → IsTaken manner pages touches scale limits case best new → (k : ℕ) (at : CostAtStart) → k < n → Known k at
               → beats at new ≡ false
           least_before None so_far taken k at low known = absurd (unknown k at (λ d. so_far k d low) known)
           least_before (Some best) (number, so_far) taken k at low known =
               not_over at best new (so_far.least k at low known) taken.better
 
-          first_before : (best : Option CostAtStart) → IsBest pages touches scale limits lines n best
-              → IsTaken pages touches scale limits line best new → (k : ℕ) (at : CostAtStart) → k < n → Known k at
+          first_before : (best : Option CostAtStart) → IsBest manner pages touches scale limits cases n best
+              → IsTaken manner pages touches scale limits case best new → (k : ℕ) (at : CostAtStart) → k < n → Known k at
               → beats new at ≡ true
           first_before None so_far taken k at low known = absurd (unknown k at (λ d. so_far k d low) known)
           first_before (Some best) (number, so_far) taken k at low known =
               over at best new (so_far.least k at low known) taken.better
 
   -- there is one best start of some cases
-  pub one_best : (lines : List SweepLine) (n : ℕ) (d : SweepLine) (a b : Option CostAtStart)
-      → IsBest pages touches scale limits lines n a → IsBest pages touches scale limits lines n b → a ≡ b
-  one_best lines n d None None x y = refl
-  one_best lines n d None (Some b) x (number, y) = absurd (still_known lines d b number y (λ e. x number e y.inside))
-  one_best lines n d (Some a) None (number, x) y = absurd (still_known lines d a number x (λ e. y number e x.inside))
-  one_best lines n d (Some a) (Some b) (i, x) (j, y) = elim (cases_order i j) [
+  pub one_best : (cases : List PlannedCase) (n : ℕ) (d : PlannedCase) (a b : Option CostAtStart)
+      → IsBest manner pages touches scale limits cases n a → IsBest manner pages touches scale limits cases n b → a ≡ b
+  one_best cases n d None None x y = refl
+  one_best cases n d None (Some b) x (number, y) = absurd (still_known cases d b number y (λ e. x number e y.inside))
+  one_best cases n d (Some a) None (number, x) y = absurd (still_known cases d a number x (λ e. y number e x.inside))
+  one_best cases n d (Some a) (Some b) (i, x) (j, y) = elim (cases_order i j) [
     | inl same ↦
-        ap Some (one_rated (slice_index_or lines j d) a b
-        (subst (λ (k : ℕ). IsRated pages touches scale limits (slice_index_or lines k d) a) same (x.is_known.rated d))
+        ap Some (one_rated (slice_index_or cases j d) a b
+        (subst (λ (k : ℕ). IsRated manner pages touches scale limits (slice_index_or cases k d) a) same (x.is_known.rated d))
         (y.is_known.rated d))
     | inr (inl below) ↦
         absurd (both_ways (beats b a) (x.least j b y.inside y.is_known) (y.first i a below x.is_known))
@@ -173,8 +173,8 @@ module _ (pages : ℕ) (touches : List GuestTouch) (scale : TraceScale) (limits 
         absurd (both_ways (beats a b) (y.least i a x.inside x.is_known) (x.first j b above y.is_known))
   ]
 
-no_line : SweepLine
-no_line = record {
+no_case : PlannedCase
+no_case = record {
   settings = record {
     min = 1;
     max = 1;
@@ -191,10 +191,10 @@ no_line = record {
     skip = false;
     base = None;
   };
-  outcome = record { rounds = 0; reason = few_remain; stop = 0; down = 0; total = 0 };
+  course = record { ending = Few; steps = 0; stop = 0; down = 0; total = 0 };
 }
 
-pub one_best_of : (pages : ℕ) (touches : List GuestTouch) (scale : TraceScale) (limits : Limits)
-    (lines : List SweepLine) (n : ℕ) (a b : Option CostAtStart) → IsBest pages touches scale limits lines n a
-    → IsBest pages touches scale limits lines n b → a ≡ b
-one_best_of pages touches scale limits lines n a b x y = one_best pages touches scale limits lines n no_line a b x y
+pub one_best_of : (manner : Manner) (pages : ℕ) (touches : List GuestTouch) (scale : TraceScale) (limits : Limits)
+    (cases : List PlannedCase) (n : ℕ) (a b : Option CostAtStart) → IsBest manner pages touches scale limits cases n a
+    → IsBest manner pages touches scale limits cases n b → a ≡ b
+one_best_of manner pages touches scale limits cases n a b x y = one_best manner pages touches scale limits cases n no_case a b x y

@@ -6,12 +6,12 @@ use Rattle.std.proofs.lemmas.List.Elements.{All-contains}
 use Rattle.std.proofs.lemmas.List.MinMax.{IsFirstBest-unique}
 use Rattle.std.specs.Cmp.{IsStrictWeakOrder}
 use Rattle.std.specs.List.{Contains}
-use Rattle.migration_model.specs.Sweeps.{SweepLine}
 use Rattle.predictions.specs.Starts.Choices.{IsChosen, known_of}
 use Rattle.predictions.specs.Starts.Costs.{CostAtStart, costs_at_starts}
 use Rattle.predictions.specs.Starts.Ranges.{AreExtremes, AreRanges, AreRangesOf, IsRange, MigrationNumbers}
 use Rattle.predictions.specs.Starts.Ranges.{RangesOfStarts}
 use Rattle.predictions.specs.Units.Scales.{TraceScale}
+use Rattle.predictions.specs.declared.starts.planned.PlannedCase.{PlannedCase}
 use Rattle.predictions.specs.declared.units.limits.Limits.{Limits}
 
 one_range : (ns : List ℕ) (a b c d : ℕ) → IsRange ns a c → IsRange ns b d → (a ≡ b) × (c ≡ d)
@@ -33,9 +33,9 @@ one_pair known a b c d x y =
       λ i. record { time = time.1 i; bytes = bytes.1 i; downtime = down.1 i },
     )
 
-one_of : (last : ℕ) (lines : List SweepLine) (known : List CostAtStart) (a b : RangesOfStarts)
-    → AreRangesOf last lines known a → AreRangesOf last lines known b → a ≡ b
-one_of last lines known a b x y =
+one_of : (last : ℕ) (cases : List PlannedCase) (known : List CostAtStart) (a b : RangesOfStarts)
+    → AreRangesOf last cases known a → AreRangesOf last cases known b → a ≡ b
+one_of last cases known a b x y =
     let count = x.count_is ∙ sym y.count_is in
     let known_is = x.known_is ∙ sym y.known_is in
     let converging = x.converging_is ∙ sym y.converging_is in
@@ -51,23 +51,23 @@ one_of last lines known a b x y =
     }
 
 -- if nothing is known, nothing has a range
-none_of : (last : ℕ) (lines : List SweepLine) (known : List CostAtStart) (a : RangesOfStarts) → known ≡ []
-    → AreRangesOf last lines known a → ⊥
-none_of last lines known a none x =
+none_of : (last : ℕ) (cases : List PlannedCase) (known : List CostAtStart) (a : RangesOfStarts) → known ≡ []
+    → AreRangesOf last cases known a → ⊥
+none_of last cases known a none x =
     let inside : Contains [] a.least.time =
     subst (λ (l : List CostAtStart). Contains (map (λ at. at.cost.time) l) a.least.time) none
     x.extremes.time.least_in in
     omega (arith, inside.1)
 
-pub one_ranges : (scale : TraceScale) (limits : Limits) (last : ℕ) (lines : List SweepLine)
-    (a b : Option RangesOfStarts) → AreRanges scale limits last lines a → AreRanges scale limits last lines b → a ≡ b
-one_ranges scale limits last lines None None x y = refl
-one_ranges scale limits last lines None (Some b) x y =
-    absurd (none_of last lines (known_of (costs_at_starts scale limits last lines)) b x y)
-one_ranges scale limits last lines (Some a) None x y =
-    absurd (none_of last lines (known_of (costs_at_starts scale limits last lines)) a y x)
-one_ranges scale limits last lines (Some a) (Some b) x y =
-    ap Some (one_of last lines (known_of (costs_at_starts scale limits last lines)) a b x y)
+pub one_ranges : (scale : TraceScale) (limits : Limits) (last : ℕ) (cases : List PlannedCase)
+    (a b : Option RangesOfStarts) → AreRanges scale limits last cases a → AreRanges scale limits last cases b → a ≡ b
+one_ranges scale limits last cases None None x y = refl
+one_ranges scale limits last cases None (Some b) x y =
+    absurd (none_of last cases (known_of (costs_at_starts scale limits last cases)) b x y)
+one_ranges scale limits last cases (Some a) None x y =
+    absurd (none_of last cases (known_of (costs_at_starts scale limits last cases)) a y x)
+one_ranges scale limits last cases (Some a) (Some b) x y =
+    ap Some (one_of last cases (known_of (costs_at_starts scale limits last cases)) a b x y)
 
 -- nothing is chosen of none alone
 not_none : (beats : CostAtStart → CostAtStart → Bool) (costs : List CostAtStart) (a : CostAtStart) → costs ≡ []

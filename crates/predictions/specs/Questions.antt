@@ -5,9 +5,10 @@ use Rattle.predictions.specs.Units.Scales.{TraceScale, scale_refusal, scale_with
 use Rattle.predictions.specs.declared.units.error.UnitsError.{UnitsError}
 use Rattle.predictions.specs.declared.units.limits.Limits.{Limits}
 use Rattle.migration_model.specs.Rates.{AreSettings, MigrationSettings, StopReason, few_remain, rounds_done, too_fast}
-use Rattle.migration_model.specs.Sweeps.{PlanOutcome}
+use Rattle.predictions.specs.Courses.Ends.{end_number}
 use Rattle.predictions.specs.Predictions.{GuestPrediction, kept_of, verdict_of}
 use Rattle.predictions.specs.declared.answer.Answer.{Answer}
+use Rattle.predictions.specs.declared.course.Course.{Course}
 use Rattle.predictions.specs.declared.answer.ErrorNumbers.{ErrorNumbers}
 use Rattle.predictions.specs.declared.question.Misfit.{Misfit}
 use Rattle.predictions.specs.declared.question.Misfit.TheVariants as misfits
@@ -94,14 +95,14 @@ verdict_number verdicts.No = 1
 verdict_number verdicts.Unknown = 2
 verdict_number verdicts.Uncertain = 3
 
--- the answer: the result of the plan, and what it predicts
-abbrev pub answer_of : PlanOutcome → GuestPrediction → Answer
-answer_of outcome p = record {
-  rounds = outcome.rounds;
-  reason = reason_number p.reason;
-  stop = outcome.stop;
-  down = outcome.down;
-  total = outcome.total;
+-- the answer: what the plan comes to, and what it predicts
+abbrev pub answer_of : Course → GuestPrediction → Answer
+answer_of course p = record {
+  rounds = course.steps;
+  reason = end_number p.ending;
+  stop = course.stop;
+  down = course.down;
+  total = course.total;
   left = p.left;
   time = capped p.cost.time;
   bytes = capped p.cost.bytes;

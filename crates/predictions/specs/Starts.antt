@@ -1,4 +1,5 @@
 -- At which ticks a migration may begin. This project's own.
+pub mod Cases
 pub mod Costs
 pub mod Choices
 pub mod Texts

@@ -1,29 +1,45 @@
 -- A prediction as lines. This project's own.
-use Rattle.std.specs.Prelude.{ℕ, nat_lt, Bool, true, false, if◌then◌else◌, List, [], ◌∷◌, ◌++◌, codes}
+use Rattle.std.specs.Prelude.{ℕ, nat_lt, not, Bool, if◌then◌else◌, List, [], ◌∷◌, ◌++◌, codes}
 use Rattle.std.specs.Prelude.{Option, None, Some}
-use Rattle.migration_model.specs.Rates.{StopReason, few_remain, rounds_done, too_fast}
 use Rattle.predictions.specs.Agreements.{sure_kept, sure_verdict}
 use Rattle.predictions.specs.Agreements.Texts.{converging_words, kept_words}
+use Rattle.predictions.specs.Courses.Ends.{converges}
 use Rattle.predictions.specs.Predictions.{GuestPrediction, MigrationCost, verdict_word}
 use Rattle.predictions.specs.Quantities.{bytes_text, error_text, time_text}
 use Rattle.predictions.specs.Redrawn.Errors.{SampleErrors}
 use Rattle.predictions.specs.declared.agreement.verdicts.Agreement.{Agreement}
+use Rattle.predictions.specs.declared.course.CourseEnd.{CourseEnd}
+use Rattle.predictions.specs.declared.course.CourseEnd.TheVariants as endings
+use Rattle.predictions.specs.declared.course.Manner.{Manner}
+use Rattle.predictions.specs.declared.course.Manner.TheVariants as manners
 use Rattle.predictions.specs.declared.verdict.Verdict.{Verdict}
 use Rattle.sweep_report.specs.Lines.{field, line}
 
--- why the plan ends if more than few pages are left, and after how many rounds
-abbrev pub ending : StopReason → List ℕ
-ending few_remain = codes "; rounds: "
-ending too_fast = codes "; the guest writes faster than the link sends; rounds: "
-ending rounds_done = codes "; all rounds that are allowed are done; rounds: "
+-- why the plan ends if more than few pages are left
+abbrev pub ending : CourseEnd → List ℕ
+ending endings.Few = []
+ending endings.Fast = codes "; the guest writes faster than the link sends"
+ending endings.Rounds = codes "; all rounds that are allowed are done"
+ending endings.Looks = codes "; 2,000 looks are done"
+ending endings.Cut = codes "; the trace ends first"
+ending endings.Level = codes "; the trace ends first, and the lists did not get shorter"
+
+-- what a plan is a number of
+abbrev pub steps_word : Manner → List ℕ
+steps_word manners.Looks = codes "; looks: "
+steps_word manners.Rounds = codes "; rounds: "
+
+-- why the plan ends, and after how many rounds or looks
+abbrev pub ending_words : Manner → CourseEnd → ℕ → List ℕ
+ending_words manner end steps = ending end ++ field (steps_word manner) steps
 
 abbrev pub verdict : Bool → List ℕ
 verdict is_kept = if is_kept then codes ", kept" else codes ", not kept"
 
--- an answer, how sure it is, and after how many rounds the plan ends
-abbrev pub verdict_line : Agreement → Verdict → StopReason → ℕ → List ℕ
-verdict_line a answer reason rounds = line (codes "converges: " ∷ verdict_word answer ∷ converging_words a
-    ∷ field (ending reason) rounds ∷ [])
+-- an answer, how sure it is, and why the plan ends
+abbrev pub verdict_line : Agreement → Verdict → GuestPrediction → List ℕ
+verdict_line a answer p = line (codes "converges: " ∷ verdict_word answer ∷ converging_words a
+    ∷ ending_words p.manner p.ending p.cost.steps ∷ [])
 
 -- the line on the downtime, beside its limit, whether that is kept, and how sure that is
 abbrev pub downtime_line : ℕ → Agreement → Verdict → ℕ → List ℕ
@@ -34,37 +50,38 @@ downtime_line limit a kept downtime = line (codes "downtime: " ∷ time_text dow
 abbrev pub time_line : ℕ → List ℕ
 time_line time = codes "total time: " ++ (time_text time ++ 10 ∷ [])
 
--- what a migration will be, with these answers
-abbrev pub facts_with : ℕ → Agreement → Verdict → Verdict → StopReason → MigrationCost → List ℕ
-facts_with limit a converges kept reason cost = verdict_line a converges reason cost.rounds
-    ++ (time_line cost.time ++ (line (codes "sent: " ∷ bytes_text cost.bytes ∷ [])
-    ++ downtime_line limit a kept cost.downtime))
+-- what a migration costs, and whether it keeps its limit
+abbrev pub cost_lines : ℕ → Agreement → Verdict → MigrationCost → List ℕ
+cost_lines limit a kept cost = time_line cost.time ++ (line (codes "sent: " ∷ bytes_text cost.bytes ∷ [])
+    ++ downtime_line limit a kept cost.downtime)
 
+-- what a migration will be
 abbrev pub facts_text : ℕ → Agreement → GuestPrediction → Option SampleErrors → List ℕ
 facts_text limit a p errors =
-    facts_with limit a (sure_verdict a p) (sure_kept limit a p.cost errors) p.reason p.cost
+    verdict_line a (sure_verdict a p) p ++ cost_lines limit a (sure_kept limit a p.cost errors) p.cost
 
 -- a line, if something holds
 abbrev pub line_if : Bool → List ℕ → List ℕ
 line_if holds words = if holds then words ++ 10 ∷ [] else []
 
 -- what an end other than `few` says of the downtime
-abbrev pub ends_early : StopReason → Bool
-ends_early few_remain = false
-ends_early too_fast = true
-ends_early rounds_done = true
-
-abbrev pub reason_words : StopReason → List ℕ
-reason_words few_remain = []
-reason_words too_fast =
+abbrev pub end_warning : CourseEnd → List ℕ
+end_warning endings.Few = []
+end_warning endings.Fast =
     codes "warning: the plan ends with `fast`, so nothing bounds the downtime; give more of the link"
-reason_words rounds_done = codes
-    "warning: the plan ends with `rounds`, so nothing bounds the downtime; allow more rounds"
+end_warning endings.Rounds =
+    codes "warning: the plan ends with `rounds`, so nothing bounds the downtime; allow more rounds"
+end_warning endings.Looks =
+    codes "warning: the plan ends with `looks`, so nothing bounds the downtime; give more of the link"
+end_warning endings.Cut =
+    codes "warning: the plan ends with `cut`, so nothing bounds the downtime; give more of the link"
+end_warning endings.Level =
+    codes "warning: the plan ends with `level`, so nothing bounds the downtime; give more of the link"
 
 -- what speaks against the prediction
 abbrev pub warnings : GuestPrediction → List ℕ
 warnings p = line_if (nat_lt p.left 100) (codes "warning: fewer than 100 pages decided the stop; chance moves it")
-    ++ line_if (ends_early p.reason) (reason_words p.reason)
+    ++ line_if (not (converges p.ending)) (end_warning p.ending)
 
 -- how far chance moves the prediction, if pages were sampled
 abbrev pub errors_line : Option SampleErrors → List ℕ

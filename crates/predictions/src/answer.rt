@@ -4,29 +4,30 @@ ghost use Rattle.std.specs.Prelude.{◌≡◌};
 ghost use Rattle.predictions.specs.Questions.{capped, reason_number, verdict_number};
 ghost use Rattle.rate_limit.specs.Pacing.{reason_of};
 
+use crate::course::Course;
 use crate::prediction::Prediction;
 use crate::redrawn::Errors;
 use crate::verdict::Verdict;
 use rate_limit::Reason;
-use round_planner::Outcome;
 
 /// What a migration will be. It is laid out as C's `struct precopy_prediction`.
 #[derive(Clone, Copy, Debug, PartialEq, Eq)]
 #[repr(C)]
 pub struct Answer {
-    /// How many rounds there are.
+    /// How many rounds or looks there are.
     pub rounds: u64,
-    /// Why there are no more rounds: 0 if few pages remain, 1 if the next rate is too high, 2 after the last round.
+    /// Why there are no more: 0 if few pages remain, 1 if the next rate is too high, 2 after the last round, 3 after the
+    /// last look, 4 if the trace ends first, 5 if it ends first and the lists did not get shorter.
     pub reason: u64,
     /// The tick at which the guest is stopped.
     pub stop: u64,
     /// How long the pages that are left take, in ticks.
     pub down: u64,
-    /// How many pages of the trace are sent, over all rounds and after the stop.
+    /// How many pages of the trace are sent, before the stop and after it.
     pub total: u64,
     /// How many of them are sent after the stop.
     pub left: u64,
-    /// From the start of the first round until the guest runs again, in microseconds.
+    /// From the start until the guest runs again, in microseconds.
     pub time: u64,
     /// How many bytes of the guest are sent.
     pub bytes: u64,
@@ -88,17 +89,17 @@ impl Answer {
     ghost use Rattle.std.specs.Prelude.{◌≡◌};
     ghost use Rattle.predictions.specs.Questions.{answer_of};
 
-    /// Returns the answer of a plan with this result that predicts this.
-    pub fn new(outcome: &Outcome, prediction: &Prediction) -> Answer
-        ensures { result ≡ answer_of outcome.now prediction.now }
+    /// Returns the answer of a plan that comes to this and predicts this.
+    pub fn new(course: &Course, prediction: &Prediction) -> Answer
+        ensures { result ≡ answer_of course.now prediction.now }
     {
         let cost = &prediction.cost;
         Answer {
-            rounds: outcome.rounds,
-            reason: number_of_reason(prediction.reason),
-            stop: outcome.stop,
-            down: outcome.down,
-            total: outcome.total,
+            rounds: course.steps,
+            reason: prediction.ending.number(),
+            stop: course.stop,
+            down: course.down,
+            total: course.total,
             left: prediction.left,
             time: capped(cost.time),
             bytes: capped(cost.bytes),

@@ -10,11 +10,11 @@ use sweep_report::Line;
 /// What a migration costs: how long it takes, how much it sends, and how long the guest does not run.
 #[derive(Clone, Copy, Debug, PartialEq, Eq)]
 pub struct Cost {
-    /// How many rounds there are.
-    pub rounds: u64,
-    /// From the start of the first round until the guest runs again, in microseconds.
+    /// How many rounds or looks there are.
+    pub steps: u64,
+    /// From the start until the guest runs again, in microseconds.
     pub time: u128,
-    /// How many bytes of the guest are sent, over all rounds and after the stop.
+    /// How many bytes of the guest are sent, before the stop and after it.
     pub bytes: u128,
     /// How long the guest does not run, in microseconds.
     pub downtime: u128,
@@ -31,7 +31,7 @@ impl Model for Cost {
     ghost Value = { MigrationCost };
 
     ghost view = { λ c. record {
-      rounds = c.rounds;
+      steps = c.steps;
       time = c.time;
       bytes = c.bytes;
       downtime = c.downtime;
@@ -42,7 +42,7 @@ impl Model for Cost {
     ghost invariant = { λ c. c.bytes < 2 ^ 110 };
 
     ghost inverse = { λ c. record {
-      rounds = c.rounds;
+      steps = c.steps;
       time = c.time;
       bytes = c.bytes;
       downtime = c.downtime;
@@ -63,7 +63,7 @@ impl Cost {
     {
         let downtime = scale.micros(course.down) + limits.reserve as u128;
         Cost {
-            rounds: course.steps,
+            steps: course.steps,
             time: scale.micros(course.stop.saturating_sub(start)) + downtime,
             bytes: scale.bytes(course.total),
             downtime,

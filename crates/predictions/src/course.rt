@@ -5,7 +5,8 @@
 ghost use Rattle.std.specs.Prelude.{◌≡◌, ◌≤◌, ◌<◌, ◌^◌, ℕ, List, length};
 ghost use Rattle.migration_model.specs.Looks.{AreHypervisorSettings};
 ghost use Rattle.migration_model.specs.Rates.{MigrationSettings};
-ghost use Rattle.migration_model.specs.Touches.{GuestTouch};
+ghost use Rattle.look_planner.specs.Sums.{AreSums};
+ghost use Rattle.migration_model.specs.Touches.{GuestTouch, last_tick_of};
 ghost use Rattle.page_bitmap.specs.Listing.{word_count};
 ghost use Rattle.predictions.specs.Courses.{IsCourse, IsCourseOver, course_settings, record_end};
 ghost use Rattle.predictions.specs.Courses.Ends.{look_ending, round_ending, stop_after};
@@ -58,8 +59,10 @@ pub enum CourseEnd {
     Few,
     /// A round dirtied more pages in a time than the link sends.
     Fast,
-    /// There were as many rounds or looks as there may be.
-    Most,
+    /// There were as many rounds as there may be.
+    Rounds,
+    /// There were as many looks as there may be.
+    Looks,
     /// The record ends first, and until then each list was shorter than the one before it.
     Cut,
     /// The record ends first, and its lists did not get shorter.
@@ -79,6 +82,39 @@ pub struct Course {
     pub down: u64,
     /// How many pages are sent in all.
     pub total: u64,
+}
+
+impl CourseEnd {
+    ghost use Rattle.std.specs.Prelude.{◌≡◌};
+    ghost use Rattle.predictions.specs.Courses.Ends.{end_number, end_word};
+
+    /// Returns the end as a word: `few`, `fast`, `rounds`, `looks`, `cut` or `level`.
+    pub fn word(&self) -> &'static str
+        ensures { result.now ≡ end_word self.now }
+    {
+        match self {
+            CourseEnd::Few => "few",
+            CourseEnd::Fast => "fast",
+            CourseEnd::Rounds => "rounds",
+            CourseEnd::Looks => "looks",
+            CourseEnd::Cut => "cut",
+            CourseEnd::Level => "level",
+        }
+    }
+
+    /// Returns the number of the end: 0 to 5.
+    pub fn number(&self) -> u64
+        ensures { result ≡ end_number self.now }
+    {
+        match self {
+            CourseEnd::Few => 0,
+            CourseEnd::Fast => 1,
+            CourseEnd::Rounds => 2,
+            CourseEnd::Looks => 3,
+            CourseEnd::Cut => 4,
+            CourseEnd::Level => 5,
+        }
+    }
 }
 
 /// Returns the tick at which the record of a plan of looks ends, of a record with this last tick.
@@ -113,7 +149,7 @@ fn round_ending(reason: Reason) -> CourseEnd
     match reason {
         Reason::Few => CourseEnd::Few,
         Reason::Fast => CourseEnd::Fast,
-        Reason::Rounds => CourseEnd::Most,
+        Reason::Rounds => CourseEnd::Rounds,
     }
 }
 
@@ -123,7 +159,7 @@ fn look_ending(end: PlanEnd, shortens: bool) -> CourseEnd
 {
     match end {
         PlanEnd::Few => CourseEnd::Few,
-        PlanEnd::Looks => CourseEnd::Most,
+        PlanEnd::Looks => CourseEnd::Looks,
         PlanEnd::Record => {
             if shortens {
                 CourseEnd::Cut
@@ -143,7 +179,8 @@ fn stop_after(ending: CourseEnd, tick: u64) -> u64
         CourseEnd::Cut => tick + 1,
         CourseEnd::Few => tick,
         CourseEnd::Fast => tick,
-        CourseEnd::Most => tick,
+        CourseEnd::Rounds => tick,
+        CourseEnd::Looks => tick,
         CourseEnd::Level => tick,
     }
 }
@@ -210,6 +247,25 @@ impl Course {
     }
 }
 
+/// Returns the sums of a hypervisor's plan of a trace.
+pub(crate) fn trace_sums<T: Timeline>(
+    timeline: &T,
+    settings: &Settings,
+    scale: &Scale,
+    marks: &mut [u64],
+    list: &mut [u32],
+) -> LookSums
+    requires marks { length marks.old ≡ word_count (T.pages timeline.now) }
+    requires list { length list.old ≡ T.pages timeline.now }
+    ensures sums { AreSums (T.pages timeline.now) (T.touches timeline.now)
+        (course_settings scale.now settings.now (last_tick_of (T.touches timeline.now))) result }
+    ensures low { result.stop ≤ 2 ^ 40 }
+{
+    let _pages = timeline.page_count();
+    let looks = course_settings(scale, settings, last_tick(timeline));
+    look_sums(timeline, &looks, marks, list)
+}
+
 /// Returns what a hypervisor's plan of a trace comes to.
 fn look_course<T: Timeline>(
     timeline: &T,
@@ -222,10 +278,7 @@ fn look_course<T: Timeline>(
     requires list { length list.old ≡ T.pages timeline.now }
     ensures { IsCourseOver manners.Looks (T.pages timeline.now) (T.touches timeline.now) scale.now settings.now result }
 {
-    let _pages = timeline.page_count();
-    let looks = course_settings(scale, settings, last_tick(timeline));
-    let sums = look_sums(timeline, &looks, marks, list);
-    Course::of_sums(&sums)
+    Course::of_sums(&trace_sums(timeline, settings, scale, marks, list))
 }
 
 /// Returns what Clark's plan of a trace comes to.

@@ -4,7 +4,6 @@
 
 ghost use Rattle.std.specs.Prelude.{ℕ, ◌≡◌, List, Option};
 ghost use Rattle.migration_model.specs.Rates.{MigrationSettings};
-ghost use Rattle.migration_model.specs.Sweeps.{SweepLine};
 ghost use Rattle.migration_model.specs.Touches.{GuestTouch};
 ghost use Rattle.predictions.specs.Agreements.{IsAgreement};
 ghost use Rattle.predictions.specs.Questions.{RefusesQuestion};
@@ -13,6 +12,7 @@ ghost use Rattle.predictions.specs.Remedies.{AreRemedies};
 ghost use Rattle.predictions.specs.Remedies.Trials.{MigrationTrial};
 ghost use Rattle.predictions.specs.Shares.{IsLinkShare, VerdictAt};
 ghost use Rattle.predictions.specs.Starts.{AreAccepted, RefusesStart};
+ghost use Rattle.predictions.specs.Starts.Cases.{AreCases};
 ghost use Rattle.predictions.specs.Starts.Choices.{IsBest, IsChosen, is_worse_start};
 ghost use Rattle.predictions.specs.Starts.Costs.{CostAtStart};
 ghost use Rattle.predictions.specs.Starts.Ranges.{AreRanges, RangesOfStarts};
@@ -24,6 +24,7 @@ ghost use Rattle.predictions.specs.declared.question.Question.{Question};
 ghost use Rattle.predictions.specs.declared.remedies.finding.Remedies.{Remedies};
 ghost use Rattle.predictions.specs.declared.shares.share.LinkShare.{LinkShare};
 ghost use Rattle.predictions.specs.declared.starts.cases.Starts.{Starts};
+ghost use Rattle.predictions.specs.declared.starts.planned.PlannedCase.{PlannedCase};
 ghost use Rattle.predictions.specs.declared.units.error.UnitsError.{UnitsError};
 ghost use Rattle.predictions.specs.declared.units.limits.Limits.{Limits};
 ghost use Rattle.rate_limit.specs.declared.error.SettingsError.{SettingsError};
@@ -42,11 +43,19 @@ pub fn one_agreement()
         → IsAgreement manner pages touches s scale limits b → a ≡ b }
 {}
 
+/// Some settings have one list of cases, by a manner.
+pub fn one_list_of_cases()
+    ensures { (manner : Manner) (pages : ℕ) (touches : List GuestTouch) (scale : TraceScale)
+        (settings : List MigrationSettings) (a b : List PlannedCase)
+        → AreCases manner pages touches scale settings a → AreCases manner pages touches scale settings b → a ≡ b }
+{}
+
 /// Some cases have one best start, or none.
 pub fn one_best()
-    ensures { (pages : ℕ) (touches : List GuestTouch) (scale : TraceScale) (limits : Limits) (lines : List SweepLine)
-        (n : ℕ) (a b : Option CostAtStart) → IsBest pages touches scale limits lines n a
-        → IsBest pages touches scale limits lines n b → a ≡ b }
+    ensures { (manner : Manner) (pages : ℕ) (touches : List GuestTouch) (scale : TraceScale) (limits : Limits)
+        (cases : List PlannedCase) (n : ℕ) (a b : Option CostAtStart)
+        → IsBest manner pages touches scale limits cases n a → IsBest manner pages touches scale limits cases n b
+        → a ≡ b }
 {}
 
 /// Some starts have one worst, or none.
@@ -57,9 +66,9 @@ pub fn one_worst()
 
 /// What migrations from several starts cost has one least and one greatest, or none.
 pub fn one_ranges()
-    ensures { (scale : TraceScale) (limits : Limits) (last_tick : ℕ) (lines : List SweepLine)
-        (a b : Option RangesOfStarts) → AreRanges scale limits last_tick lines a
-        → AreRanges scale limits last_tick lines b → a ≡ b }
+    ensures { (scale : TraceScale) (limits : Limits) (last_tick : ℕ) (cases : List PlannedCase)
+        (a b : Option RangesOfStarts) → AreRanges scale limits last_tick cases a
+        → AreRanges scale limits last_tick cases b → a ≡ b }
 {}
 
 /// One change of each kind keeps the limit of a migration, or ends it within the trace, or none does.

@@ -1,21 +1,21 @@
 //! A prediction as lines.
 
-ghost use Rattle.std.specs.Prelude.{◌≡◌, ◌++◌, ◌∷◌, ◌<◌, ◌^◌, [], OnOk, Some, codes};
+ghost use Rattle.std.specs.Prelude.{◌≡◌, ◌++◌, ◌∷◌, ◌<◌, ◌^◌, [], OnOk, Some, codes, not};
+ghost use Rattle.predictions.specs.Courses.Ends.{converges};
 ghost use Rattle.predictions.specs.Predictions.{verdict_word};
 ghost use Rattle.predictions.specs.Quantities.{bytes_text, time_text};
-ghost use Rattle.predictions.specs.Texts.{downtime_line, ending, ends_early, errors_line, facts_text, facts_with};
-ghost use Rattle.predictions.specs.Texts.{known_text, line_if, prediction_text, reason_words, time_line};
+ghost use Rattle.predictions.specs.Texts.{cost_lines, downtime_line, end_warning, ending, ending_words, errors_line};
+ghost use Rattle.predictions.specs.Texts.{facts_text, known_text, line_if, prediction_text, steps_word, time_line};
 ghost use Rattle.predictions.specs.Texts.{unknown_text, verdict_line, warnings};
-ghost use Rattle.rate_limit.specs.Pacing.{reason_of};
 ghost use Rattle.sweep_report.specs.Lines.{line};
 
 use crate::agreement::{Agreement, push_converging, push_kept};
 use crate::cost::Cost;
+use crate::course::{CourseEnd, Manner};
 use crate::prediction::Prediction;
 use crate::quantities::{push_bytes, push_error, push_time};
 use crate::redrawn::Errors;
 use crate::verdict::Verdict;
-use rate_limit::Reason;
 use std::alloc::AllocError;
 use sweep_report::{end_line, push_field};
 
@@ -26,15 +26,42 @@ const MANY_PAGES: u64 = 100;
 const UNKNOWN: &str =
     "converges: unknown, the trace ends before the migration does; record longer\n";
 
-/// Returns what a reason says of the end, if more than few pages are left.
-fn ending_of(reason: &Reason) -> &'static str
-    ensures { result.now ≡ ending (reason_of reason.now) }
+/// Returns what is said of an end, if more than few pages are left.
+fn ending_of(end: CourseEnd) -> &'static str
+    ensures { result.now ≡ ending end }
 {
-    match reason {
-        Reason::Few => "; rounds: ",
-        Reason::Fast => "; the guest writes faster than the link sends; rounds: ",
-        Reason::Rounds => "; all rounds that are allowed are done; rounds: ",
+    match end {
+        CourseEnd::Few => "",
+        CourseEnd::Fast => "; the guest writes faster than the link sends",
+        CourseEnd::Rounds => "; all rounds that are allowed are done",
+        CourseEnd::Looks => "; 2,000 looks are done",
+        CourseEnd::Cut => "; the trace ends first",
+        CourseEnd::Level => "; the trace ends first, and the lists did not get shorter",
     }
+}
+
+/// Returns what a plan is a number of.
+fn steps_word(manner: Manner) -> &'static str
+    ensures { result.now ≡ steps_word manner }
+{
+    match manner {
+        Manner::Looks => "; looks: ",
+        Manner::Rounds => "; rounds: ",
+    }
+}
+
+/// Appends why a plan ends, and after how many rounds or looks.
+fn push_ending(
+    text: &mut Vec<u8>,
+    manner: Manner,
+    end: CourseEnd,
+    steps: u64,
+) -> Result<(), AllocError>
+    ensures { OnOk result (text.new.items ≡ text.old.items ++ ending_words manner end steps) }
+{
+    text.extend_from_slice(ending_of(end).as_bytes())?;
+    push_field(text, steps_word(manner), steps)?;
+    Ok(())
 }
 
 /// Appends whether a migration converges.
@@ -51,15 +78,19 @@ fn push_verdict(
     text: &mut Vec<u8>,
     agreement: &Agreement,
     verdict: Verdict,
-    reason: &Reason,
-    rounds: u64,
+    prediction: &Prediction,
 ) -> Result<(), AllocError>
-    ensures { OnOk result (text.new.items ≡ text.old.items
-        ++ verdict_line agreement.now verdict (reason_of reason.now) rounds) }
+    ensures { OnOk result (text.new.items ≡ text.old.items ++ verdict_line agreement.now verdict prediction.now) }
 {
+    let Prediction {
+        manner,
+        ending,
+        cost,
+        ..
+    } = prediction;
     push_answer(text, verdict)?;
     push_converging(text, agreement)?;
-    push_field(text, ending_of(reason), rounds)?;
+    push_ending(text, *manner, *ending, cost.steps)?;
     end_line(text)?;
     Ok(())
 }
@@ -113,20 +144,16 @@ fn push_downtime(
     Ok(())
 }
 
-/// Appends what a migration will be, with some answers.
-fn push_facts_with(
+/// Appends what a migration costs, and whether it keeps its limit.
+fn push_cost(
     text: &mut Vec<u8>,
     limit: u64,
     agreement: &Agreement,
-    converges: Verdict,
     kept: Verdict,
-    reason: &Reason,
     cost: &Cost,
 ) -> Result<(), AllocError>
-    ensures { OnOk result (text.new.items ≡ text.old.items
-        ++ facts_with limit agreement.now converges kept (reason_of reason.now) cost.now) }
+    ensures { OnOk result (text.new.items ≡ text.old.items ++ cost_lines limit agreement.now kept cost.now) }
 {
-    push_verdict(text, agreement, converges, reason, cost.rounds)?;
     push_time_line(text, cost.time)?;
     push_sent(text, cost.bytes)?;
     push_downtime(text, cost.downtime, limit, kept, agreement)?;
@@ -145,9 +172,10 @@ fn push_facts(
         ++ facts_text limit agreement.now prediction.now errors.now) }
 {
     let converges = agreement.verdict(prediction);
-    let Prediction { reason, cost, .. } = prediction;
+    push_verdict(text, agreement, converges, prediction)?;
+    let cost = &prediction.cost;
     let kept = agreement.kept(limit, cost, errors);
-    push_facts_with(text, limit, agreement, converges, kept, reason, cost)?;
+    push_cost(text, limit, agreement, kept, cost)?;
     Ok(())
 }
 
@@ -162,24 +190,33 @@ fn push_if(text: &mut Vec<u8>, holds: bool, words: &str) -> Result<(), AllocErro
     end_line(text)
 }
 
-/// Returns whether a plan ends with another reason than `few`.
-fn is_early(reason: &Reason) -> bool
-    ensures { result ≡ ends_early (reason_of reason.now) }
+/// Returns whether a plan has another end than `few`.
+fn is_early(ending: CourseEnd) -> bool
+    ensures { result ≡ not (converges ending) }
 {
-    !matches!(reason, Reason::Few)
+    !matches!(ending, CourseEnd::Few)
 }
 
 /// Returns what an end other than `few` says of the downtime.
-fn warning_of(reason: &Reason) -> &'static str
-    ensures { result.now ≡ reason_words (reason_of reason.now) }
+fn warning_of(ending: CourseEnd) -> &'static str
+    ensures { result.now ≡ end_warning ending }
 {
-    match reason {
-        Reason::Few => "",
-        Reason::Fast => {
+    match ending {
+        CourseEnd::Few => "",
+        CourseEnd::Fast => {
             "warning: the plan ends with `fast`, so nothing bounds the downtime; give more of the link"
         }
-        Reason::Rounds => {
+        CourseEnd::Rounds => {
             "warning: the plan ends with `rounds`, so nothing bounds the downtime; allow more rounds"
+        }
+        CourseEnd::Looks => {
+            "warning: the plan ends with `looks`, so nothing bounds the downtime; give more of the link"
+        }
+        CourseEnd::Cut => {
+            "warning: the plan ends with `cut`, so nothing bounds the downtime; give more of the link"
+        }
+        CourseEnd::Level => {
+            "warning: the plan ends with `level`, so nothing bounds the downtime; give more of the link"
         }
     }
 }
@@ -193,8 +230,8 @@ fn push_warnings(text: &mut Vec<u8>, prediction: &Prediction) -> Result<(), Allo
         prediction.left < MANY_PAGES,
         "warning: fewer than 100 pages decided the stop; chance moves it",
     )?;
-    let reason = &prediction.reason;
-    push_if(text, is_early(reason), warning_of(reason))?;
+    let ending = prediction.ending;
+    push_if(text, is_early(ending), warning_of(ending))?;
     Ok(())
 }
 

@@ -8,6 +8,7 @@ use Rattle.std.specs.Prelude.{List, length, slice_index_or}
 use Rattle.migration_model.specs.Sweeps.{SweepLine, is_better}
 use Rattle.migration_model.specs.Touches.{GuestTouches, last_tick_of}
 use Rattle.predictions.specs.Redrawn.Errors.{AreErrors, SampleErrors}
+use Rattle.predictions.specs.Starts.Cases.{case_of_line}
 use Rattle.predictions.specs.Starts.Choices.{is_likely}
 use Rattle.predictions.specs.Starts.Costs.{CostAtStart, cost_at_start}
 use Rattle.predictions.specs.declared.course.Manner.TheVariants as manners
@@ -32,7 +33,9 @@ AreCaseErrors log (Some known) line errors =
 -- a case with its errors as a start
 abbrev pub case_with : GuestTouches → Measured → SweepLine → SampleErrors → CostAtStart
 case_with log known line errors =
-    record (cost_at_start known.scale known.limits (last_tick_of log.touches) line) { errors = Some errors }
+    record (cost_at_start known.scale known.limits (last_tick_of log.touches) (case_of_line line)) {
+      errors = Some errors;
+    }
 
 -- whether a case with these errors is likely to keep its limit; nothing is asked if none are counted
 abbrev pub is_likely_with : GuestTouches → Option Measured → SweepLine → Option SampleErrors → Bool

@@ -3,7 +3,8 @@ use Rattle.std.specs.Prelude.{ℕ, ◌==◌, if◌then◌else◌, List, [], ◌�
 use Rattle.predictions.specs.Units.Scales.{TraceScale}
 use Rattle.predictions.specs.declared.units.limits.Limits.{Limits}
 use Rattle.json.specs.Token.{Token}
-use Rattle.migration_model.specs.Rates.{MigrationSettings, word_of}
+use Rattle.migration_model.specs.Rates.{MigrationSettings}
+use Rattle.predictions.specs.Courses.Ends.{end_word}
 use Rattle.predictions.specs.Hosts.{link_in_mib, millis_for_pages}
 use Rattle.predictions.specs.Agreements.{sure_kept, sure_verdict}
 use Rattle.predictions.specs.Predictions.{GuestPrediction, verdict_word}
@@ -54,7 +55,7 @@ hosts_object limits =
 -- the migration of a plan: why it stops, what it costs, how many pages of the trace are sent after the stop, and the
 -- errors
 abbrev pub migration_object : GuestPrediction → Option SampleErrors → List Token
-migration_object p errors = object_of (text_member (codes "why") (word_of p.reason) ∷
+migration_object p errors = object_of (text_member (codes "why") (end_word p.ending) ∷
     (cost_numbers p.cost ++ number_member (codes "left_pages") p.left ∷ errors_member errors ∷ []))
 
 -- it is left out if the trace ends before it

@@ -1,13 +1,16 @@
 -- What the same migration costs from each of some starts.
-use Rattle.std.specs.Prelude.{◌≡◌, ℕ, ◌≤◌, List, length, Option, None, Some}
+use Rattle.std.specs.Prelude.{◌≡◌, ℕ, ◌≤◌, List, length, map, Option, None, Some}
 use Rattle.migration_model.specs.Sweeps.{SweepLine, AreLines}
 use Rattle.migration_model.specs.Touches.{GuestTouches, last_tick_of}
 use Rattle.migration_model.specs.Windows.{working_sets_of}
+use Rattle.predictions.specs.Starts.Cases.{case_of_line}
 use Rattle.predictions.specs.Starts.Choices.{IsBest, IsChosen, is_worse_start, known_of}
 use Rattle.predictions.specs.Starts.Costs.{CostAtStart, costs_at_starts}
 use Rattle.predictions.specs.Starts.{RefusesStarts, cases_from, count_of}
 use Rattle.predictions.specs.Starts.Texts.{starts_text_of}
+use Rattle.predictions.specs.declared.course.Manner.TheVariants as manners
 use Rattle.predictions.specs.declared.starts.error.StartsError.TheVariants as refusals
+use Rattle.predictions.specs.declared.starts.planned.PlannedCase.{PlannedCase}
 use Rattle.predictions.specs.Predictions.{kept_of}
 use Rattle.predictions.specs.declared.verdict.Verdict.{Verdict}
 use Rattle.predictions.specs.declared.verdict.Verdict.TheVariants.{Unknown}
@@ -28,8 +31,10 @@ pub record AreStartsOf (log : GuestTouches) (asked : AskedStarts) (costs : List 
   pub lines : List SweepLine
   pub are_lines : AreLines log.pages log.touches
       (cases_from asked.settings asked.starts (last_tick_of log.touches)) lines
-  pub costs_are : costs ≡ costs_at_starts asked.scale asked.limits (last_tick_of log.touches) lines
-  pub best_is : IsBest log.pages log.touches asked.scale asked.limits lines (length lines) best
+  pub cases : List PlannedCase
+  pub cases_are : cases ≡ map case_of_line lines
+  pub costs_are : costs ≡ costs_at_starts asked.scale asked.limits (last_tick_of log.touches) cases
+  pub best_is : IsBest manners.Rounds log.pages log.touches asked.scale asked.limits cases (length cases) best
   pub worst_is : IsChosen (is_worse_start asked.limits.downtime) (known_of costs) worst
 
 -- the starts in some form

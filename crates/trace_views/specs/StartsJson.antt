@@ -11,7 +11,7 @@ use Rattle.trace_views.specs.Json.{array_of, member_of, number_member, object_of
 -- what a migration costs, and whether the limit is kept
 abbrev pub cost_numbers : MigrationCost → List (List Token)
 cost_numbers cost =
-    number_member (codes "rounds") cost.rounds ∷ seconds_member (codes "time_seconds") cost.time
+    number_member (codes "rounds") cost.steps ∷ seconds_member (codes "time_seconds") cost.time
     ∷ number_member (codes "sent_bytes") cost.bytes ∷ seconds_member (codes "down_seconds") cost.downtime ∷ []
 
 abbrev pub cost_members : MigrationCost → List (List Token)

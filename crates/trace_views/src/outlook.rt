@@ -12,8 +12,9 @@ use predictions::looks::LookForecast;
 use predictions::redrawn::Errors;
 use predictions::remedies::{Remedies, Trial};
 use predictions::shares::LinkShare;
-use predictions::starts::{StartRanges, ranges_over, spread_cases};
+use predictions::starts::{StartRanges, cases_of_lines, ranges_over, spread_cases};
 use predictions::{Manner, Measure, Prediction};
+use rate_limit::Settings;
 use round_planner::plan;
 use std::alloc::Global;
 use std::thread::Threads;
@@ -43,17 +44,19 @@ pub struct Outlook {
 fn ranges_from<R: Threads + Sync>(
     rt: &R,
     alloc: Global,
-    asked: &AskedPrediction,
+    settings: &Settings,
+    measure: &Measure,
     log: &TouchLog,
 ) -> Result<Option<StartRanges>, ViewError>
-    ensures made { IfOk result (AreRangesOver log.now asked.now) }
+    ensures made { IfOk result (AreRangesOver log.now settings.now measure.now) }
     ensures refused { IfErr result (λ e. e ≡ ViewError.Memory) }
 {
     let last = last_tick(log);
-    let cases = spread_cases(alloc, &asked.settings, last)?;
-    let workers = asked.settings.asked().workers as usize;
-    let lines = planned(rt, alloc, &cases, workers, log)?;
-    Ok(ranges_over(alloc, &asked.scale, &asked.limits, &lines, last)?)
+    let starts = spread_cases(alloc, settings, last)?;
+    let workers = settings.asked().workers as usize;
+    let lines = planned(rt, alloc, &starts, workers, log)?;
+    let cases = cases_of_lines(alloc, &lines)?;
+    Ok(ranges_over(alloc, measure, &cases, last)?)
 }
 
 /// Returns what comes of a migration over a log if the hypervisor looks as QEMU does.
@@ -100,12 +103,12 @@ pub(crate) fn outlook_over<R: Threads + Sync>(
     let prediction = Prediction::new(scale, limits, start, &plan, last_tick(log));
     let errors = Errors::of_trace(alloc, log, &asked.settings, scale, Manner::Rounds)?;
     let looks = looks_over(alloc, asked, log)?;
-    let ranges = ranges_from(rt, alloc, asked, log)?;
     let measure = Measure {
         scale: *scale,
         limits: *limits,
         manner: Manner::Rounds,
     };
+    let ranges = ranges_from(rt, alloc, &asked.settings, &measure, log)?;
     let agreement = Agreement::of_trace(alloc, log, &asked.settings, &measure)?;
     let trial = trial_of(asked);
     let share = LinkShare::of_trace(alloc, log, &trial)?;

@@ -103,7 +103,7 @@ fn write_foretold(
     ensures { OnOk result (out.new ≡ out.old ++ migration_object prediction.now errors.now) }
 {
     out.begin_object()?;
-    out.text_member("why", prediction.reason.word())?;
+    out.text_member("why", prediction.ending.word())?;
     write_cost_numbers(alloc, out, &prediction.cost)?;
     out.number_member("left_pages", prediction.left)?;
     write_errors(alloc, out, errors)?;

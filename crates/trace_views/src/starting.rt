@@ -13,10 +13,10 @@ use crate::shown_text::ViewText;
 use crate::starts_document::json_starts;
 use crate::sweeping::planned;
 use guest_log::last_tick;
-use predictions::Verdict;
 use predictions::starts::{
-    StartCost, best_start, known_starts, start_costs, starts_text, worst_start,
+    StartCost, best_start, cases_of_lines, known_starts, start_costs, starts_text, worst_start,
 };
+use predictions::{Manner, Measure, Verdict};
 use report_pictures::{Chosen, starts_chart};
 use std::alloc::Global;
 use std::thread::Threads;
@@ -54,12 +54,18 @@ fn starts_found<R: Threads + Sync>(
     ensures refused { IfErr result (RefusesStartsView log.now asked.now) }
 {
     let last = last_tick(log);
-    let cases = asked.starts.cases(alloc, &asked.settings, last)?;
+    let starts = asked.starts.cases(alloc, &asked.settings, last)?;
     let workers = asked.settings.asked().workers as usize;
-    let lines = planned(rt, alloc, &cases, workers, log)?;
-    let costs = start_costs(alloc, &asked.scale, &asked.limits, &lines, last)?;
+    let lines = planned(rt, alloc, &starts, workers, log)?;
+    let cases = cases_of_lines(alloc, &lines)?;
+    let measure = Measure {
+        scale: asked.scale,
+        limits: asked.limits,
+        manner: Manner::Rounds,
+    };
+    let costs = start_costs(alloc, &measure, &cases, last)?;
     let known = known_starts(alloc, &costs)?;
-    let best = best_start(alloc, log, &asked.scale, &asked.limits, &lines)?;
+    let best = best_start(alloc, log, &measure, &cases)?;
     let worst = worst_start(asked.limits.downtime, &known);
     Ok(Found { costs, best, worst })
 }

@@ -21,7 +21,7 @@ pub(crate) fn write_cost_numbers(
 ) -> Result<(), AllocError>
     ensures { OnOk result (out.new ≡ out.old ++ flat_map (λ m. m) (cost_numbers cost.now)) }
 {
-    out.number_member("rounds", cost.rounds)?;
+    out.number_member("rounds", cost.steps)?;
     out.seconds_member(alloc, "time_seconds", cost.time)?;
     out.wide_member("sent_bytes", cost.bytes)?;
     out.seconds_member(alloc, "down_seconds", cost.downtime)?;

@@ -1,5 +1,5 @@
 //! What plans come to. By looks it is what the model `python/precopy_dev/models/looks.py` says, and by rounds
-//! `bench/redrawn.py`. Neither shares code with the crate.
+//! `python/precopy_dev/models/redrawn.py`. Neither shares code with the crate.
 
 use super::plan::guest;
 use super::redrawn::WRITES;

@@ -1,5 +1,5 @@
-//! Plans of redrawn pages and standard errors. The results come from `bench/redrawn.py`, which shares no code with the
-//! crate.
+//! Plans of redrawn pages and standard errors. The results come from `python/precopy_dev/models/redrawn.py`, which
+//! shares no code with the crate.
 
 use super::plan::{Told, guest, told};
 use guest_log::Timeline;

@@ -1,5 +1,5 @@
 -- Why plans end, and what plans of these sums come to. This project's own.
-use Rattle.std.specs.Prelude.{ℕ, ◌+◌, Bool, true, false, if◌then◌else◌}
+use Rattle.std.specs.Prelude.{ℕ, ◌+◌, Bool, true, false, if◌then◌else◌, List, codes}
 use Rattle.look_planner.specs.declared.parts.PlanEnd.{PlanEnd}
 use Rattle.look_planner.specs.declared.parts.PlanEnd.TheVariants as looks
 use Rattle.look_planner.specs.declared.sums.LookSums.{LookSums}
@@ -13,12 +13,12 @@ use Rattle.predictions.specs.declared.course.CourseEnd.TheVariants as endings
 abbrev pub round_ending : StopReason → CourseEnd
 round_ending few_remain = endings.Few
 round_ending too_fast = endings.Fast
-round_ending rounds_done = endings.Most
+round_ending rounds_done = endings.Rounds
 
 -- why a plan of looks ends, if its lists get shorter or do not
 abbrev pub look_ending : PlanEnd → Bool → CourseEnd
 look_ending looks.Few shortens = endings.Few
-look_ending looks.Looks shortens = endings.Most
+look_ending looks.Looks shortens = endings.Looks
 look_ending looks.Record shortens = if shortens then endings.Cut else endings.Level
 
 -- when a plan stops that ends so at a tick: if the record cuts it while its lists get shorter, after the record
@@ -26,7 +26,8 @@ abbrev pub stop_after : CourseEnd → ℕ → ℕ
 stop_after endings.Cut tick = tick + 1
 stop_after endings.Few tick = tick
 stop_after endings.Fast tick = tick
-stop_after endings.Most tick = tick
+stop_after endings.Rounds tick = tick
+stop_after endings.Looks tick = tick
 stop_after endings.Level tick = tick
 
 -- what plans of these sums come to
@@ -52,6 +53,24 @@ course_of_looks sums = record {
 abbrev pub converges : CourseEnd → Bool
 converges endings.Few = true
 converges endings.Fast = false
-converges endings.Most = false
+converges endings.Rounds = false
+converges endings.Looks = false
 converges endings.Cut = false
 converges endings.Level = false
+
+-- the word of an end, and its number
+abbrev pub end_word : CourseEnd → List ℕ
+end_word endings.Few = codes "few"
+end_word endings.Fast = codes "fast"
+end_word endings.Rounds = codes "rounds"
+end_word endings.Looks = codes "looks"
+end_word endings.Cut = codes "cut"
+end_word endings.Level = codes "level"
+
+abbrev pub end_number : CourseEnd → ℕ
+end_number endings.Few = 0
+end_number endings.Fast = 1
+end_number endings.Rounds = 2
+end_number endings.Looks = 3
+end_number endings.Cut = 4
+end_number endings.Level = 5

@@ -5,11 +5,12 @@
 use Rattle.std.specs.Prelude.{◌≡◌, ℕ, ◌+◌, ◌*◌, ◌-◌, ◌^◌, ◌<◌, min, nat_le, nat_lt, ◌&&◌, ◌||◌, ◌==◌, not, true, false}
 use Rattle.std.specs.Prelude.{Bool, if◌then◌else◌, List, [], length, slice_index_or, Option, None, Some}
 use Rattle.std.specs.List.{IsFirstBest, filter}
-use Rattle.migration_model.specs.Sweeps.{SweepLine}
 use Rattle.migration_model.specs.Touches.{GuestTouch, last_tick_of}
 use Rattle.predictions.specs.Redrawn.Errors.{SampleErrors}
 use Rattle.predictions.specs.Starts.Costs.{CostAtStart, IsRated, cost_at_start, plain_of}
 use Rattle.predictions.specs.Units.Scales.{TraceScale}
+use Rattle.predictions.specs.declared.course.Manner.{Manner}
+use Rattle.predictions.specs.declared.starts.planned.PlannedCase.{PlannedCase}
 use Rattle.predictions.specs.declared.units.limits.Limits.{Limits}
 
 -- the starts from which a migration ends within the trace; nothing is known of others
@@ -71,27 +72,28 @@ IsChosen beats costs (Some chosen) =
     (at : ℕ) × IsFirstBest beats costs (length costs) at × (slice_index_or costs at chosen ≡ chosen)
 
 -- the start of a case, by its number, with its errors, if the migration ends within the trace
-pub record IsKnownAt (pages : ℕ) (touches : List GuestTouch) (scale : TraceScale) (limits : Limits)
-    (lines : List SweepLine) (number : ℕ) (at : CostAtStart) : Type 0 where
-  pub rated : (d : SweepLine) → IsRated pages touches scale limits (slice_index_or lines number d) at
+pub record IsKnownAt (manner : Manner) (pages : ℕ) (touches : List GuestTouch) (scale : TraceScale) (limits : Limits)
+    (cases : List PlannedCase) (number : ℕ) (at : CostAtStart) : Type 0 where
+  pub rated : (d : PlannedCase) → IsRated manner pages touches scale limits (slice_index_or cases number d) at
   pub known : at.cost.is_late ≡ false
 
 -- of the first `n` cases this one has the best start, the first of equals: with the errors that each has
-pub record IsBestOf (pages : ℕ) (touches : List GuestTouch) (scale : TraceScale) (limits : Limits)
-    (lines : List SweepLine) (n number : ℕ) (best : CostAtStart) : Type 0 where
+pub record IsBestOf (manner : Manner) (pages : ℕ) (touches : List GuestTouch) (scale : TraceScale) (limits : Limits)
+    (cases : List PlannedCase) (n number : ℕ) (best : CostAtStart) : Type 0 where
   pub inside : number < n
-  pub is_known : IsKnownAt pages touches scale limits lines number best
-  pub least : (k : ℕ) (at : CostAtStart) → k < n → IsKnownAt pages touches scale limits lines k at
+  pub is_known : IsKnownAt manner pages touches scale limits cases number best
+  pub least : (k : ℕ) (at : CostAtStart) → k < n → IsKnownAt manner pages touches scale limits cases k at
       → is_better_start limits.downtime at best ≡ false
-  pub first : (k : ℕ) (at : CostAtStart) → k < number → IsKnownAt pages touches scale limits lines k at
+  pub first : (k : ℕ) (at : CostAtStart) → k < number → IsKnownAt manner pages touches scale limits cases k at
       → is_better_start limits.downtime best at ≡ true
 
 -- the best start of the first `n` cases, or none if no migration ends within the trace
-abbrev pub IsBest : ℕ → List GuestTouch → TraceScale → Limits → List SweepLine → ℕ → Option CostAtStart → Type 0
-IsBest pages touches scale limits lines n None = (k : ℕ) (d : SweepLine) → k < n
-    → is_known (cost_at_start scale limits (last_tick_of touches) (slice_index_or lines k d)) ≡ false
-IsBest pages touches scale limits lines n (Some best) =
-    (number : ℕ) × IsBestOf pages touches scale limits lines n number best
+abbrev pub IsBest : Manner → ℕ → List GuestTouch → TraceScale → Limits → List PlannedCase → ℕ → Option CostAtStart
+    → Type 0
+IsBest manner pages touches scale limits cases n None = (k : ℕ) (d : PlannedCase) → k < n
+    → is_known (cost_at_start scale limits (last_tick_of touches) (slice_index_or cases k d)) ≡ false
+IsBest manner pages touches scale limits cases n (Some best) =
+    (number : ℕ) × IsBestOf manner pages touches scale limits cases n number best
 
 -- whether a start is better than the best so far, if there is one
 abbrev pub beats_any : ℕ → CostAtStart → Option CostAtStart → Bool
@@ -99,16 +101,16 @@ beats_any limit at None = true
 beats_any limit at (Some best) = is_better_start limit at best
 
 -- The better of the best start so far and that of a case. If the case has another one, that has its errors.
-pub record IsTaken (pages : ℕ) (touches : List GuestTouch) (scale : TraceScale) (limits : Limits) (line : SweepLine)
-    (best : Option CostAtStart) (at : CostAtStart) : Type 0 where
-  pub rated : IsRated pages touches scale limits line at
+pub record IsTaken (manner : Manner) (pages : ℕ) (touches : List GuestTouch) (scale : TraceScale) (limits : Limits)
+    (case : PlannedCase) (best : Option CostAtStart) (at : CostAtStart) : Type 0 where
+  pub rated : IsRated manner pages touches scale limits case at
   pub known : at.cost.is_late ≡ false
   pub better : beats_any limits.downtime at best ≡ true
 
 -- nothing of the case is known, or its start is no better with its errors
-abbrev pub IsPassed : ℕ → List GuestTouch → TraceScale → Limits → SweepLine → Option CostAtStart → Type 0
-IsPassed pages touches scale limits line None =
-    is_known (cost_at_start scale limits (last_tick_of touches) line) ≡ false
-IsPassed pages touches scale limits line (Some best) =
-    (at : CostAtStart) → IsRated pages touches scale limits line at → at.cost.is_late ≡ false
+abbrev pub IsPassed : Manner → ℕ → List GuestTouch → TraceScale → Limits → PlannedCase → Option CostAtStart → Type 0
+IsPassed manner pages touches scale limits case None =
+    is_known (cost_at_start scale limits (last_tick_of touches) case) ≡ false
+IsPassed manner pages touches scale limits case (Some best) =
+    (at : CostAtStart) → IsRated manner pages touches scale limits case at → at.cost.is_late ≡ false
     → is_better_start limits.downtime at best ≡ false

@@ -7,11 +7,11 @@ use Rattle.std.specs.List.{All, Contains, count_by}
 use Rattle.predictions.specs.Units.Scales.{TraceScale}
 use Rattle.predictions.specs.declared.units.limits.Limits.{Limits}
 use Rattle.migration_model.specs.Rates.{MigrationSettings}
-use Rattle.migration_model.specs.Sweeps.{SweepLine}
 use Rattle.predictions.specs.Starts.Choices.{known_of}
 use Rattle.predictions.specs.Starts.Costs.{CostAtStart, costs_at_starts}
 use Rattle.predictions.specs.declared.starts.cases.Starts.{Starts}
-use Rattle.predictions.specs.Predictions.{ends_with_few}
+use Rattle.predictions.specs.Courses.Ends.{converges}
+use Rattle.predictions.specs.declared.starts.planned.PlannedCase.{PlannedCase}
 
 -- the starts: at most 21, from the tick of the copy at the destination, or else from tick 0, to the last tick
 abbrev pub spread_starts : MigrationSettings → ℕ → Starts
@@ -49,21 +49,21 @@ pub record AreExtremes (known : List CostAtStart) (least greatest : MigrationNum
   pub bytes : IsRange (map (λ at. at.cost.bytes) known) least.bytes greatest.bytes
   pub downtime : IsRange (map (λ at. at.cost.downtime) known) least.downtime greatest.downtime
 
--- whether a migration converges within touches of which the last has this tick
-abbrev pub converges_by : ℕ → SweepLine → Bool
-converges_by last_tick line = nat_le line.outcome.stop last_tick && ends_with_few line.outcome.reason
+-- whether the migration of a case converges within touches of which the last has this tick
+abbrev pub converges_by : ℕ → PlannedCase → Bool
+converges_by last_tick case = nat_le case.course.stop last_tick && converges case.course.ending
 
 -- the ranges of what some migrations cost, of which these are known
-pub record AreRangesOf (last_tick : ℕ) (lines : List SweepLine)
+pub record AreRangesOf (last_tick : ℕ) (cases : List PlannedCase)
     (known : List CostAtStart) (ranges : RangesOfStarts) : Type 0 where
-  pub count_is : ranges.count ≡ length lines
+  pub count_is : ranges.count ≡ length cases
   pub known_is : ranges.known ≡ length known
-  pub converging_is : ranges.converging ≡ count_by (converges_by last_tick) lines
+  pub converging_is : ranges.converging ≡ count_by (converges_by last_tick) cases
   pub kept_is : ranges.kept ≡ count_by (λ at. at.cost.is_kept) known
   pub extremes : AreExtremes known ranges.least ranges.greatest
 
--- the ranges of what the migrations of the cases of a sweep cost, if one of them is known
-abbrev pub AreRanges : TraceScale → Limits → ℕ → List SweepLine → Option RangesOfStarts → Type 0
-AreRanges scale limits last_tick lines None = known_of (costs_at_starts scale limits last_tick lines) ≡ []
-AreRanges scale limits last_tick lines (Some ranges) =
-    AreRangesOf last_tick lines (known_of (costs_at_starts scale limits last_tick lines)) ranges
+-- the ranges of what the migrations of some cases cost, if one of them is known
+abbrev pub AreRanges : TraceScale → Limits → ℕ → List PlannedCase → Option RangesOfStarts → Type 0
+AreRanges scale limits last_tick cases None = known_of (costs_at_starts scale limits last_tick cases) ≡ []
+AreRanges scale limits last_tick cases (Some ranges) =
+    AreRangesOf last_tick cases (known_of (costs_at_starts scale limits last_tick cases)) ranges

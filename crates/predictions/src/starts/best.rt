@@ -6,27 +6,27 @@ ghost use Rattle.std.specs.Prelude.{◌≡◌, IfOk, None, Some, length};
 ghost use Rattle.predictions.specs.Starts.Choices.{IsBest, IsPassed, IsTaken, beats_any};
 ghost use Rattle.predictions.specs.Starts.Costs.{CostAtStart, IsRated};
 
-use crate::course::Manner;
+use crate::measure::Measure;
 use crate::redrawn::Errors;
 use crate::starts::choosing::is_better;
+use crate::starts::planned::PlannedCase;
 use crate::starts::starting::{StartCost, start_cost};
-use crate::units::{Limits, Scale};
 use guest_log::{Timeline, last_tick};
 use std::alloc::{AllocError, Global};
-use sweep_report::Line;
 
 /// Returns the start of a case with its errors. The only error is that memory runs out.
 fn rated<T: Timeline>(
     alloc: Global,
     timeline: &T,
-    scale: &Scale,
-    limits: &Limits,
-    line: &Line,
+    measure: &Measure,
+    case: &PlannedCase,
 ) -> Result<StartCost, AllocError>
-    ensures { IfOk result (IsRated (T.pages timeline.now) (T.touches timeline.now) scale.now limits.now line.now) }
+    ensures { IfOk result (IsRated measure.now.manner (T.pages timeline.now) (T.touches timeline.now)
+        measure.now.scale measure.now.limits case.now) }
 {
-    let plain = start_cost(scale, limits, line, last_tick(timeline));
-    let errors = Errors::of_trace(alloc, timeline, &line.settings, scale, Manner::Rounds)?;
+    let plain = start_cost(measure, case, last_tick(timeline));
+    let Measure { scale, manner, .. } = measure;
+    let errors = Errors::of_trace(alloc, timeline, &case.settings, scale, *manner)?;
     Ok(StartCost { errors, ..plain })
 }
 
@@ -45,25 +45,24 @@ fn is_better_than(limit: u64, at: &StartCost, best: &Option<StartCost>) -> bool
 fn better<T: Timeline>(
     alloc: Global,
     timeline: &T,
-    scale: &Scale,
-    limits: &Limits,
-    line: &Line,
+    measure: &Measure,
+    case: &PlannedCase,
     best: &Option<StartCost>,
 ) -> Result<Option<StartCost>, AllocError>
-    ensures taken { IfOk result (λ found. (at : CostAtStart) → found ≡ Some at → IsTaken (T.pages timeline.now)
-        (T.touches timeline.now) scale.now limits.now line.now best.now at) }
-    ensures passed { IfOk result (λ found. found ≡ None → IsPassed (T.pages timeline.now) (T.touches timeline.now)
-        scale.now limits.now line.now best.now) }
+    ensures taken { IfOk result (λ found. (at : CostAtStart) → found ≡ Some at → IsTaken measure.now.manner
+        (T.pages timeline.now) (T.touches timeline.now) measure.now.scale measure.now.limits case.now best.now at) }
+    ensures passed { IfOk result (λ found. found ≡ None → IsPassed measure.now.manner (T.pages timeline.now)
+        (T.touches timeline.now) measure.now.scale measure.now.limits case.now best.now) }
 {
-    let limit = limits.downtime;
-    let plain = start_cost(scale, limits, line, last_tick(timeline));
+    let limit = measure.limits.downtime;
+    let plain = start_cost(measure, case, last_tick(timeline));
     if plain.cost.is_late {
         return Ok(None);
     }
     if !is_better_than(limit, &plain, best) {
         return Ok(None);
     }
-    let at = rated(alloc, timeline, scale, limits, line)?;
+    let at = rated(alloc, timeline, measure, case)?;
     if is_better_than(limit, &at, best) {
         Ok(Some(at))
     } else {
@@ -76,16 +75,15 @@ fn better<T: Timeline>(
 pub fn best_start<T: Timeline>(
     alloc: Global,
     timeline: &T,
-    scale: &Scale,
-    limits: &Limits,
-    lines: &[Line],
+    measure: &Measure,
+    cases: &[PlannedCase],
 ) -> Result<Option<StartCost>, AllocError>
-    ensures { IfOk result (IsBest (T.pages timeline.now) (T.touches timeline.now) scale.now limits.now lines.now
-        (length lines.now)) }
+    ensures { IfOk result (IsBest measure.now.manner (T.pages timeline.now) (T.touches timeline.now) measure.now.scale
+        measure.now.limits cases.now (length cases.now)) }
 {
     let mut best = None;
-    for line in lines {
-        match better(alloc, timeline, scale, limits, line, &best)? {
+    for case in cases {
+        match better(alloc, timeline, measure, case, &best)? {
             Some(at) => best = Some(at),
             None => {}
         }

@@ -7,18 +7,18 @@ ghost use Rattle.std.specs.List.{count_by};
 ghost use Rattle.predictions.specs.Starts.Ranges.{AreExtremes, AreRanges, converges_by};
 
 use crate::cost::Cost;
+use crate::course::{Course, CourseEnd};
+use crate::measure::Measure;
 use crate::starts::choosing::known_starts;
+use crate::starts::planned::PlannedCase;
 use crate::starts::starting::{StartCost, start_costs};
-use crate::units::{Limits, Scale};
-use rate_limit::Reason;
 use std::alloc::{AllocError, Global};
 use std::marker::Model;
-use sweep_report::Line;
 
 /// How long a migration takes, what it sends, and how long the guest does not run.
 #[derive(Clone, Copy, Debug, PartialEq, Eq)]
 pub struct CostNumbers {
-    /// From the start of the first round until the guest runs again, in microseconds.
+    /// From the start until the guest runs again, in microseconds.
     pub time: u128,
     /// How many bytes of the guest are sent.
     pub bytes: u128,
@@ -138,20 +138,21 @@ fn extremes(known: &[StartCost]) -> (CostNumbers, CostNumbers)
     (least, greatest)
 }
 
-/// Returns whether a migration converges within a trace with this last tick.
-fn converges(line: &Line, last_tick: u64) -> bool
-    ensures { result ≡ converges_by last_tick line.now }
+/// Returns whether the migration of a case converges within a trace with this last tick.
+fn converges(case: &PlannedCase, last_tick: u64) -> bool
+    ensures { result ≡ converges_by last_tick case.now }
 {
-    line.stop <= last_tick && matches!(line.reason, Reason::Few)
+    let Course { stop, ending, .. } = case.course;
+    stop <= last_tick && matches!(ending, CourseEnd::Few)
 }
 
 /// Returns how many migrations converge within a trace with this last tick.
-fn converging(lines: &[Line], last_tick: u64) -> u64
-    ensures { result ≡ count_by (converges_by last_tick) lines.now }
+fn converging(cases: &[PlannedCase], last_tick: u64) -> u64
+    ensures { result ≡ count_by (converges_by last_tick) cases.now }
 {
     let mut count = 0;
-    for line in lines {
-        if converges(line, last_tick) {
+    for case in cases {
+        if converges(case, last_tick) {
             count += 1;
         }
     }
@@ -171,27 +172,26 @@ fn keeping(known: &[StartCost]) -> u64
     count
 }
 
-/// Returns the ranges of what the migrations of the cases of a sweep cost, over a trace of this scale and with this
-/// last tick. There are none if no migration ends within the trace.
+/// Returns the ranges of what the migrations of some cases cost, over a trace with this last tick. There are none if no
+/// migration ends within the trace.
 pub fn ranges_over(
     alloc: Global,
-    scale: &Scale,
-    limits: &Limits,
-    lines: &[Line],
+    measure: &Measure,
+    cases: &[PlannedCase],
     last_tick: u64,
 ) -> Result<Option<StartRanges>, AllocError>
-    ensures { IfOk result (AreRanges scale.now limits.now last_tick lines.now) }
+    ensures { IfOk result (AreRanges measure.now.scale measure.now.limits last_tick cases.now) }
 {
-    let costs = start_costs(alloc, scale, limits, lines, last_tick)?;
+    let costs = start_costs(alloc, measure, cases, last_tick)?;
     let known = known_starts(alloc, &costs)?;
     if known.is_empty() {
         return Ok(None);
     }
     let (least, greatest) = extremes(&known);
     Ok(Some(StartRanges {
-        count: lines.len() as u64,
+        count: cases.len() as u64,
         known: known.len() as u64,
-        converging: converging(lines, last_tick),
+        converging: converging(cases, last_tick),
         kept: keeping(&known),
         least,
         greatest,

@@ -4,16 +4,16 @@ ghost use Rattle.std.specs.Prelude.{◌≡◌, IfOk};
 ghost use Rattle.predictions.specs.Starts.Costs.{cost_at_start, costs_at_starts};
 
 use crate::cost::Cost;
+use crate::measure::Measure;
 use crate::redrawn::Errors;
-use crate::units::{Limits, Scale};
+use crate::starts::planned::PlannedCase;
 use std::alloc::{AllocError, Global};
 use std::marker::Model;
-use sweep_report::Line;
 
 /// A start, and what the migration costs that begins there.
 #[derive(Clone, Copy, Debug, PartialEq, Eq)]
 pub struct StartCost {
-    /// The tick at which the first round begins.
+    /// The tick at which it begins.
     pub start: u64,
     /// What the migration costs.
     pub cost: Cost,
@@ -31,31 +31,32 @@ impl Model for StartCost {
     ghost inverse = { λ s. record { start = s.start; cost = s.cost; errors = s.errors } };
 }
 
-/// Returns what the migration of a case of a sweep costs, by its plan alone.
-pub(crate) fn start_cost(scale: &Scale, limits: &Limits, line: &Line, last_tick: u64) -> StartCost
-    ensures { result ≡ cost_at_start scale.now limits.now last_tick line.now }
+/// Returns what the migration of a case costs, by its plan alone.
+pub(crate) fn start_cost(measure: &Measure, case: &PlannedCase, last_tick: u64) -> StartCost
+    ensures { result ≡ cost_at_start measure.now.scale measure.now.limits last_tick case.now }
 {
+    let Measure { scale, limits, .. } = measure;
+    let start = case.settings.asked().start;
     StartCost {
-        start: line.settings.asked().start,
-        cost: Cost::of_line(scale, limits, line, last_tick),
+        start,
+        cost: Cost::new(scale, limits, start, &case.course, last_tick),
         errors: None,
     }
 }
 
-/// Returns what the migration of each case of a sweep costs by its plan alone, over a trace of this scale and with this
-/// last tick.
+/// Returns what the migration of each case costs by its plan alone, over a trace with this last tick.
 pub fn start_costs(
     alloc: Global,
-    scale: &Scale,
-    limits: &Limits,
-    lines: &[Line],
+    measure: &Measure,
+    cases: &[PlannedCase],
     last_tick: u64,
 ) -> Result<Vec<StartCost>, AllocError>
-    ensures { IfOk result (λ costs. costs.items ≡ costs_at_starts scale.now limits.now last_tick lines.now) }
+    ensures { IfOk result (λ costs. costs.items
+        ≡ costs_at_starts measure.now.scale measure.now.limits last_tick cases.now) }
 {
-    let mut costs = Vec::with_capacity(alloc, lines.len())?;
-    for line in lines {
-        costs.push(start_cost(scale, limits, line, last_tick))?;
+    let mut costs = Vec::with_capacity(alloc, cases.len())?;
+    for case in cases {
+        costs.push(start_cost(measure, case, last_tick))?;
     }
     Ok(costs)
 }

@@ -3,8 +3,8 @@ use Rattle.std.specs.List.{count_by}
 use Rattle.predictions.specs.Starts.Ranges.{converges_by}
 use Rattle.predictions.proofs.starts.ranges.converging.Given as goal
 
-abbrev pub invariant-loop-line : goal.invariant-loop-line
-invariant-loop-line l = record {
-  count : l.count ≡ count_by (converges_by l.last_tick) (take l.line-index l.lines);
-  low : l.count ≤ l.line-index;
+abbrev pub invariant-loop-case : goal.invariant-loop-case
+invariant-loop-case l = record {
+  count : l.count ≡ count_by (converges_by l.last_tick) (take l.case-index l.cases);
+  low : l.count ≤ l.case-index;
 }
