@@ -261,6 +261,8 @@ def lines_of(asked: Question, told: Answer) -> list[str]:
     if told.errors:
         sent, time, down = told.errors
         lines.append(f"standard errors: sent {size_text(sent)}, time {error_text(time)}, downtime {error_text(down)}")
+        if told.downtime <= asked.downtime < told.downtime + 2 * down:
+            lines.append("warning: the limit is kept by less than two standard errors")
     lines += ["warning: fewer than 100 pages decided the stop; chance moves it"] * (told.left < 100)
     return lines + [f"warning: {warning}"] * (told.why != "few")
 

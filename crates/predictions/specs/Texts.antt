@@ -1,7 +1,7 @@
 -- A prediction as lines. This project's own.
 use Rattle.std.specs.Prelude.{ℕ, nat_lt, not, Bool, if◌then◌else◌, List, [], ◌∷◌, ◌++◌, codes}
 use Rattle.std.specs.Prelude.{Option, None, Some}
-use Rattle.predictions.specs.Agreements.{sure_kept, sure_verdict}
+use Rattle.predictions.specs.Agreements.{sure_kept, sure_verdict, withstands}
 use Rattle.predictions.specs.Agreements.Texts.{converging_words, kept_words}
 use Rattle.predictions.specs.Courses.Ends.{converges}
 use Rattle.predictions.specs.Predictions.{GuestPrediction, MigrationCost, verdict_word}
@@ -89,9 +89,15 @@ errors_line None = []
 errors_line (Some errors) = line (codes "standard errors: sent " ∷ bytes_text errors.bytes ∷ codes ", time "
     ∷ error_text errors.time ∷ codes ", downtime " ∷ error_text errors.downtime ∷ [])
 
+-- a warning that the plan keeps the limit, but not with two standard errors of the downtime
+abbrev pub doubt_line : ℕ → MigrationCost → Option SampleErrors → List ℕ
+doubt_line limit cost errors =
+    line_if (not (withstands limit cost errors)) (codes "warning: the limit is kept by less than two standard errors")
+
 -- a prediction of a migration that ends within the trace
 abbrev pub known_text : ℕ → Agreement → GuestPrediction → Option SampleErrors → List ℕ
-known_text limit a p errors = facts_text limit a p errors ++ (errors_line errors ++ warnings p)
+known_text limit a p errors =
+    facts_text limit a p errors ++ (errors_line errors ++ (doubt_line limit p.cost errors ++ warnings p))
 
 -- all that is known of a migration if the trace, which goes on for so many microseconds, ends before it
 abbrev pub unknown_text : ℕ → List ℕ

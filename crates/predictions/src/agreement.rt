@@ -12,4 +12,5 @@ pub use drawing::draw_counts;
 pub use numbers::AgreementNumbers;
 pub use starting::start_counts;
 pub use verdicts::Agreement;
+pub(crate) use verdicts::withstands;
 pub(crate) use words::{push_converging, push_kept};

@@ -4,12 +4,12 @@ ghost use Rattle.std.specs.Prelude.{◌≡◌, ◌++◌, ◌∷◌, ◌<◌, ◌
 ghost use Rattle.predictions.specs.Courses.Ends.{converges};
 ghost use Rattle.predictions.specs.Predictions.{verdict_word};
 ghost use Rattle.predictions.specs.Quantities.{bytes_text, time_text};
-ghost use Rattle.predictions.specs.Texts.{cost_lines, downtime_line, end_warning, ending, ending_words, errors_line};
-ghost use Rattle.predictions.specs.Texts.{facts_text, known_text, line_if, prediction_text, steps_word, time_line};
-ghost use Rattle.predictions.specs.Texts.{unknown_text, verdict_line, warnings};
+ghost use Rattle.predictions.specs.Texts.{cost_lines, doubt_line, downtime_line, end_warning, ending, ending_words};
+ghost use Rattle.predictions.specs.Texts.{errors_line, facts_text, known_text, line_if, prediction_text, steps_word};
+ghost use Rattle.predictions.specs.Texts.{time_line, unknown_text, verdict_line, warnings};
 ghost use Rattle.sweep_report.specs.Lines.{line};
 
-use crate::agreement::{Agreement, push_converging, push_kept};
+use crate::agreement::{Agreement, push_converging, push_kept, withstands};
 use crate::cost::Cost;
 use crate::course::{CourseEnd, Manner};
 use crate::prediction::Prediction;
@@ -259,6 +259,23 @@ fn push_errors(text: &mut Vec<u8>, errors: &Option<Errors>) -> Result<(), AllocE
     }
 }
 
+/// Appends a warning if the plan keeps the limit, but not with two standard errors of the downtime.
+fn push_doubt(
+    text: &mut Vec<u8>,
+    limit: u64,
+    prediction: &Prediction,
+    errors: &Option<Errors>,
+) -> Result<(), AllocError>
+    ensures { OnOk result (text.new.items ≡ text.old.items ++ doubt_line limit prediction.now.cost errors.now) }
+{
+    let is_doubtful = !withstands(limit, &prediction.cost, errors);
+    push_if(
+        text,
+        is_doubtful,
+        "warning: the limit is kept by less than two standard errors",
+    )
+}
+
 /// Appends what is known of a migration that ends within the trace.
 fn push_known(
     text: &mut Vec<u8>,
@@ -272,6 +289,7 @@ fn push_known(
 {
     push_facts(text, limit, prediction, errors, agreement)?;
     push_errors(text, errors)?;
+    push_doubt(text, limit, prediction, errors)?;
     push_warnings(text, prediction)
 }
 

@@ -49,7 +49,7 @@ fn if_sure(sure: bool, verdict: Verdict) -> Verdict
 }
 
 /// Returns whether a limit that the plan keeps is kept with two standard errors of the downtime.
-fn withstands(limit: u64, cost: &Cost, errors: &Option<Errors>) -> bool
+pub(crate) fn withstands(limit: u64, cost: &Cost, errors: &Option<Errors>) -> bool
     ensures { result ≡ withstands limit cost.now errors.now }
 {
     let at = StartCost {
