@@ -2,3 +2,4 @@ pub mod Puts
 pub mod Left
 pub mod Choices
 pub mod OneRefusal
+pub mod Agreeing

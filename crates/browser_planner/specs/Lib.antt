@@ -8,3 +8,4 @@ pub mod Errors
 pub mod Starts
 pub mod Remedies
 pub mod Forecasts
+pub mod Agreements

@@ -45,7 +45,7 @@ pub extern "C" fn lent_question(question: &Question, settings: &mut PlanSettings
 
 /// Returns how many pages were dirtied in the last round of a plan with this result, whose rounds are at the front of a
 /// buffer.
-fn last_dirtied(rounds: &[RoundRow], outcome: &Outcome) -> u64
+pub(crate) fn last_dirtied(rounds: &[RoundRow], outcome: &Outcome) -> u64
     requires { outcome.now.rounds ≤ length rounds.now }
     ensures { result ≡ last_by (λ row. row.dirtied) (take outcome.now.rounds rounds.now) }
 {

@@ -1,6 +1,6 @@
 //! The calls of the planner in a web page: tests of traces and settings, the plan of a trace, its windows, what a
-//! migration with given limits will be, by its plan and like QEMU, how far a sample's draw moves that, what keeps the
-//! limit, and which of several starts is the best.
+//! migration with given limits will be, by its plan and like QEMU, how far a sample's draw moves that, how sure it is,
+//! what keeps the limit, and which of several starts is the best.
 //!
 //! Nothing is allocated: the caller lends the bytes of the trace, room for the call's own work, and slots for what it
 //! answers. No call keeps anything between two calls. A call answers 0, or the number of a refusal; if that is not 0,
@@ -10,6 +10,9 @@
 //! out as in `include/precopy.h`.
 #![tactic(auto)]
 
+#[cfg(test)]
+mod agreement_tests;
+mod agreements;
 mod answering;
 mod answers;
 mod errors;

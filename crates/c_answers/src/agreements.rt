@@ -8,7 +8,8 @@ ghost use Rattle.migration_model.specs.Touches.{last_tick_of};
 ghost use Rattle.migration_model.specs.Trace.{GuestTrace, Spells};
 ghost use Rattle.predictions.specs.Predictions.{prediction_of};
 ghost use Rattle.predictions.specs.Questions.{Fits, scale_in};
-ghost use Rattle.c_answers.specs.Agreements.{IsAgreementOf, IsAgreementOver};
+ghost use Rattle.c_answers.specs.Agreements.{IsAgreementOf};
+ghost use Rattle.c_layout.specs.Agreements.{IsAgreementOver};
 ghost use Rattle.c_answers.specs.Predictions.{IsAsked, RefusesPrediction, number_of_question};
 
 use crate::inquiries::{Inquiry, inquiry_of};

@@ -4,3 +4,4 @@ pub mod Sums
 pub mod Forecasts
 pub mod Shares
 pub mod Starts
+pub mod Agreements
