@@ -386,7 +386,7 @@ class Page {
     this.controls.refuse(found.refusal, nearest);
   }
 
-  /** The predictions whose standard errors are shown: that of now, or else the last one, and the kept ones. */
+  /** The predictions whose verdicts are shown: that of now, or else the last one, and the kept ones. */
   predictionsShown({ found, kept }) {
     return [found.value ?? this.plans.last, ...keptPredictions(kept.filter(({ name }) => !name))].filter(Boolean);
   }
@@ -394,13 +394,10 @@ class Page {
   /** Asks for what takes long, and tells the predictions what is known of it. */
   askLate() {
     const { trace, found } = this.shown;
-    const predictions = [...this.predictionsShown(this.shown), ...this.starts.chosen()];
+    const shown = { plans: this.predictionsShown(this.shown), starts: this.starts.chosen() };
     this.links.follow(found.value ?? null, trace.sizes);
-    this.late.follow(trace, found.value ?? null, predictions, () => this.links.questions());
-    predictions.forEach((some) => {
-      some.errors = this.late.errorsOf(trace, some);
-      some.forecast = this.late.forecastOf(trace, some);
-    });
+    this.late.follow(trace, found.value ?? null, shown, () => this.links.questions());
+    this.late.tell(trace, shown);
   }
 
   /** Draws an answer of some kind that has come. If another trace is open meanwhile, its plan will draw it. */
@@ -408,7 +405,7 @@ class Page {
     if (this.shown?.trace !== this.desk.trace) {
       return;
     }
-    const { settings, kept } = this.shown;
+    const { settings, found, kept } = this.shown;
     if (kind === "curve") {
       this.drawLinks();
       return;
@@ -420,11 +417,11 @@ class Page {
     }
     if (kind !== "errors") {
       this.drawLimits();
-      return;
     }
-    this.starts.tell();
-    if (this.plans.last) {
-      this.plans.drawComparison(settings, kept);
+    if (kind === "errors" || kind === "agreement") {
+      this.starts.tell();
+      this.plans.drawLate(settings, found, kept);
+      this.announceDrawn();
     }
   }
 
@@ -459,7 +456,7 @@ class Page {
     this.announce();
   }
 
-  /** Announces the plan of what is asked now: at once if it is drawn, else when it is. */
+  /** Announces the plan of what is asked now once it is drawn, and it is known how sure its verdict is. */
   announce() {
     this.isUntold = true;
     this.announceDrawn();
@@ -467,8 +464,11 @@ class Page {
 
   announceDrawn() {
     if (this.isUntold && this.shown?.revision === this.revision && this.shown.trace === this.desk.trace) {
-      this.isUntold = false;
-      announce(this.plans.wordsOf(this.shown.found));
+      const words = this.plans.wordsOf(this.shown.found);
+      this.isUntold = words === null;
+      if (words !== null) {
+        announce(words);
+      }
     }
   }
 

@@ -36,6 +36,7 @@ OF_PLANNER = {
     "Errors": "ERRORS",
     "Amounts": "REMEDIES",
     "Forecast": "FORECAST",
+    "Agreement": "AGREEMENT",
 }
 # Structs that Rust's callers see as they are in C stand in its sources by hand, with what they mean.
 RUST_BY_HAND = {"Page", "Round", "Taken", "Trace", "Write"}

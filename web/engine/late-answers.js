@@ -1,11 +1,12 @@
-// What takes long to answer: standard errors, what comes of a plan like QEMU, what keeps a limit, and whether a rounded
-// amount does too. A worker of its own answers it, so that no plan waits. Only what is shown is asked for: what was
-// asked before and has no answer yet is left out.
+// What takes long to answer: standard errors, how sure verdicts are, what comes of a plan like QEMU, what keeps a
+// limit, and whether a rounded amount does too. A worker of its own answers it, so that no plan waits. Only what is
+// shown is asked for: what was asked before and has no answer yet is left out.
 
 import { fewDigitsOffers } from "../model/offers.js";
 import { PlannerClient, WorkerEnded } from "./planner-client.js";
 import { answerOver, isGood, isUnknown, remediesOver } from "../model/predictions.js";
 import { Refusal } from "./planner.js";
+import { mayBeSure } from "../model/sureness.js";
 import { firstWay, waysOf } from "../model/ways.js";
 
 /** How many answers are kept. */
@@ -35,19 +36,21 @@ export class LateAnswers {
   }
 
   /**
-   * Learns what is shown: the prediction whose limit counts, if there is one, and all whose errors are shown. What
-   * `questionsOfCurves` returns comes last, and is not made before all else is known.
+   * Learns what is shown: the prediction whose limit counts, if there is one, the plans whose verdicts are shown, and
+   * starts, of which errors are. What `questionsOfCurves` returns comes last, and is not made before all else is known.
    */
-  follow(trace, prediction, predictions, questionsOfCurves) {
+  follow(trace, prediction, { plans, starts }, questionsOfCurves) {
     const ask = (kind, { question }) => ({ kind, trace, question, key: lateKey(kind, trace, question) });
-    const errors = predictions.filter(mayHaveErrors).map((some) => ask("errors", some));
+    const errors = [...plans, ...starts].filter(mayHaveErrors).map((some) => ask("errors", some));
+    const sure = plans.filter(mayBeSure).map((some) => ask("agreement", some));
     const forecast = prediction ? [ask("forecast", prediction)] : [];
     const isOpen = prediction && this.leastOf(trace, prediction) === undefined;
     const remedies = isOpen ? [ask("remedies", prediction)] : [];
     const offers = prediction ? this.offersOf(trace, prediction).map((some) => ask("predict", some)) : [];
     const ways = prediction ? Object.values(this.waysOf(trace, prediction)) : [];
     const asked = ways.filter((way) => way.ask).map((way) => ask("predict", way.ask));
-    this.wanted = [...forecast, ...errors.slice(0, 1), ...remedies, ...offers, ...asked, ...errors.slice(1)];
+    const first = [...forecast, ...errors.slice(0, 1), ...sure.slice(0, 1)];
+    this.wanted = [...first, ...remedies, ...offers, ...asked, ...errors.slice(1), ...sure.slice(1)];
     this.curves = null;
     this.curvesOf = () => questionsOfCurves().map((question) => ({ ...ask("predict", { question }), of: "curve" }));
     if (!this.isAsking) {
@@ -60,6 +63,20 @@ export class LateAnswers {
     return mayHaveErrors(prediction) ? this.known.get(lateKey("errors", trace, prediction.question)) : null;
   }
 
+  /** Tells plans and starts that are shown what is known of them. */
+  tell(trace, { plans, starts }) {
+    [...plans, ...starts].forEach((some) => { some.errors = this.errorsOf(trace, some); });
+    plans.forEach((some) => {
+      some.agreement = this.agreementOf(trace, some);
+      some.forecast = this.forecastOf(trace, some);
+    });
+  }
+
+  /** How sure the verdicts of a prediction are: null if nothing tells it, and undefined if it is still to come. */
+  agreementOf(trace, prediction) {
+    return mayBeSure(prediction) ? this.known.get(lateKey("agreement", trace, prediction.question)) : null;
+  }
+
   /** What comes of a prediction like QEMU: null if there is no answer, and undefined if it is still to come. */
   forecastOf(trace, prediction) {
     return answerOver(trace, this.known.get(lateKey("forecast", trace, prediction.question)));
@@ -67,7 +84,8 @@ export class LateAnswers {
 
   /** What keeps the limit of a prediction: null if there is no answer, and undefined if it is still to come. */
   leastOf(trace, prediction) {
-    return remediesOver(trace, this.known.get(lateKey("remedies", trace, prediction.question)));
+    const remedies = this.known.get(lateKey("remedies", trace, prediction.question));
+    return remediesOver(trace, prediction.cost, this.agreementOf(trace, prediction), remedies);
   }
 
   /** The answer to a question: null if there is none, and undefined if it is still to come. */

@@ -115,6 +115,7 @@ const ANSWERS = {
   open: openTrace,
   predict: ({ question }) => planner().predict(question),
   errors: ({ question }) => planner().errors(question),
+  agreement: ({ question }) => planner().agreement(question),
   forecast: ({ question }) => planner().forecast(question),
   remedies: ({ question }) => planner().remedies(question),
   windows: ({ settings }) => planner().windows(settings),

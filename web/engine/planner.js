@@ -1,9 +1,9 @@
 // The proved planner. It is a WebAssembly module that allocates nothing: this file lends it memory, and no other file
 // touches that memory. Addresses and lengths are BigInt, since the memory has 64-bit addresses.
 
-import { ANSWER, ERRORS, FORECAST, QUESTION, REMEDIES, ROUND, SETTINGS, SUMS } from "../model/interface.js";
+import { AGREEMENT, ANSWER, ERRORS, FORECAST, QUESTION, REMEDIES, ROUND, SETTINGS, SUMS } from "../model/interface.js";
 import {
-  readAnswer, readErrors, readForecast, readRemedies, REASONS, writeQuestion, writeSettings,
+  readAgreement, readAnswer, readErrors, readForecast, readRemedies, REASONS, writeQuestion, writeSettings,
 } from "../model/questions.js";
 
 /** The most bytes of a trace. */
@@ -70,7 +70,7 @@ function placesFrom(base) {
   const lengths = {
     record: 8, sizes: SIZES_SIZE, settings: SETTINGS.size, sums: SUMS.size, count: 8, rounds: MOST_ROUNDS * ROUND.size,
     question: QUESTION.size, answers: MOST_ANSWERS * START_SIZE, errors: ERRORS.size, choice: CHOICE_SIZE,
-    remedies: REMEDIES.size, forecast: FORECAST.size,
+    remedies: REMEDIES.size, forecast: FORECAST.size, agreement: AGREEMENT.size,
     marks: MOST_PAGES / 8, bits: 3 * MOST_PAGES / 8, list: 2 * MOST_PAGES * 4, pageMarks: MOST_PAGES * PAGE_MARK_SIZE,
   };
   const places = {};
@@ -234,6 +234,16 @@ export class Planner {
       ...this.slice("bits", 3 * MOST_PAGES / 64), BigInt(this.places.errors),
     ]);
     return readErrors(this.view(), this.places.errors);
+  }
+
+  /** How sure the answer to a question is. It takes as long as 62 plans, and as 22 if no pages were sampled. */
+  agreement(question) {
+    writeQuestion(this.view(), this.places.question, question);
+    this.ask("lent_agreement", "question", [
+      ...this.slice("touches", this.sizes.writes), ...this.slice("bits", 3 * MOST_PAGES / 64),
+      ...this.slice("list", 2 * MOST_PAGES), ...this.slice("rounds", MOST_ROUNDS), BigInt(this.places.agreement),
+    ]);
+    return readAgreement(this.view(), this.places.agreement);
   }
 
   /** Whether the limit of a question is kept, and what keeps it. It takes as long as 35 plans, and at most 187. */

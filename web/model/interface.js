@@ -49,6 +49,12 @@ export const FORECAST = {
   narrow: ["end", "kept"],
 };
 
+export const AGREEMENT = {
+  size: 64,
+  wide: ["draws", "drawsKnown", "drawsConverging", "drawsKept", "starts", "startsConverging", "startsKept"],
+  narrow: ["converges", "kept"],
+};
+
 /** What is wrong with a trace, by the number of the refusal. */
 export const TRACE_REFUSALS = {
   1: "it has fewer than the 16 bytes of a header",

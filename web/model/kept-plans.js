@@ -3,6 +3,11 @@
 
 import { MOST_KEPT } from "./state.js";
 
+/** What is told later of a prediction; nothing if it is still to come. */
+function laterOf({ errors = null, agreement = null }) {
+  return { errors, agreement };
+}
+
 export class KeptPlans {
   /** `find` has settings planned over a trace. */
   constructor(find) {
@@ -31,8 +36,8 @@ export class KeptPlans {
     }
     const { digest, source: { name } } = shown.trace;
     const plans = shown.kept.filter((plan) => !plan.name && plan.found.value);
-    // Errors that are still to come will not come.
-    plans.forEach(({ found }) => { found.value.errors ??= null; });
+    // What is still to come of them will not come.
+    plans.forEach(({ found: { value } }) => { Object.assign(value, laterOf(value)); });
     const named = plans.map(({ settings, found }) => ({ settings, found, name, digest }));
     this.left = [...this.left.filter((plan) => plan.digest !== digest), ...named].slice(-MOST_KEPT);
   }

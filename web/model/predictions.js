@@ -5,6 +5,7 @@ import { askedOf, OWN_INCREMENT } from "./asking.js";
 import { hostCommands } from "./hosts.js";
 import { bytesText, counted, countOf, timeText } from "./numbers.js";
 import { commandWord } from "./quantities.js";
+import { isOfPlan, sureWords, verdictsOf } from "./sureness.js";
 import { limitsOf, RATE_UNITS, scaleOf, TIME_UNITS } from "./units.js";
 
 /** If fewer pages than these are left, chance moves the downtime by more than a tenth. */
@@ -27,9 +28,16 @@ export function answerOver(trace, answer) {
     ? { ...answer, converges: "uncertain", kept: "uncertain" } : answer;
 }
 
-/** What keeps a limit over a trace, by the module's answer: undefined while that is still to come. */
-export function remediesOver(trace, remedies) {
-  return isUnsure(trace) ? NOTHING_SURE : remedies;
+/**
+ * What keeps a limit over a trace, by the module's answer: undefined while that is still to come. Where the plan keeps
+ * it and that is not sure, nothing is offered.
+ */
+export function remediesOver(trace, cost, agreement, remedies) {
+  if (isUnsure(trace)) {
+    return { ...NOTHING_SURE, isStill: true };
+  }
+  const isSure = !isGood(cost) || (agreement && isGood(agreement));
+  return isSure ? remedies : agreement && NOTHING_SURE;
 }
 
 /** What a migration costs by an answer, in microseconds and bytes, and the verdicts. */
@@ -64,8 +72,8 @@ export function beginsLate({ settings, last }) {
   return settings.start > last;
 }
 
-/** Whether nothing that is told of a migration is sure. */
-export function isUncertain({ cost }) {
+/** Whether nothing that is told of a migration is sure, since its guest stood still. */
+export function isOfStill({ cost }) {
   return cost.kept === "uncertain";
 }
 
@@ -85,9 +93,18 @@ export function reasonWords({ plan, settings, scale }) {
   }[plan.reason];
 }
 
-/** How a plan that ends within the trace ends, in a sentence. */
+/** How a plan that ends within the trace ends, and how sure that is, in a sentence. */
 export function endingOf(prediction) {
-  return `It ${prediction.cost.converges === "yes" ? "converges" : "does not converge"}: ${reasonWords(prediction)}.`;
+  const [verdict, reason] = [verdictsOf(prediction).converges, reasonWords(prediction)];
+  if (isOfPlan(prediction)) {
+    return `It ${verdict === "yes" ? "converges" : "does not converge"}, by the plan alone: ${reason}.`;
+  }
+  const counts = sureWords(prediction, "converges");
+  return {
+    yes: `It converges, ${counts}: ${reason}.`,
+    no: `It does not converge (it does ${counts}): ${reason}.`,
+    uncertain: `It is uncertain whether it converges (it does ${counts}): by the plan ${reason}.`,
+  }[verdict];
 }
 
 /** What comes of a plan like QEMU, in the words of `precopy-view predict`. */

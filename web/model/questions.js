@@ -1,11 +1,11 @@
 // Questions about a migration and their answers, as the module lays them out: in numbers of 64 bits, and after them of
 // 32. Their meaning stands in `crates/predictions`.
 
-import { ANSWER, ERRORS, FORECAST, QUESTION, REMEDIES, SETTINGS } from "./interface.js";
+import { AGREEMENT, ANSWER, ERRORS, FORECAST, QUESTION, REMEDIES, SETTINGS } from "./interface.js";
 
 /** The module's reasons of a stop, and its verdicts. */
 export const REASONS = ["few", "fast", "rounds"];
-const VERDICTS = ["yes", "no", "unknown"];
+const VERDICTS = ["yes", "no", "unknown", "uncertain"];
 
 /** Why a migration like QEMU ends: few pages are left, the trace ends first, or it begins after the trace. */
 const FORECAST_ENDS = ["few", "record", "none"];
@@ -49,6 +49,13 @@ export function readAnswer(view, at) {
 export function readErrors(view, at) {
   const { bytes, time, downtime, hasErrors } = read(view, at, ERRORS);
   return hasErrors === 0 ? null : { bytes, time, downtime };
+}
+
+/** Reads how sure an answer is: counts of redraws and of starts as numbers, verdicts as words. */
+export function readAgreement(view, at) {
+  const { converges, kept, ...counts } = read(view, at, AGREEMENT);
+  const numbers = Object.entries(counts).map(([name, count]) => [name, Number(count)]);
+  return { ...Object.fromEntries(numbers), converges: VERDICTS[converges], kept: VERDICTS[kept] };
 }
 
 /**

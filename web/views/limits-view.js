@@ -17,22 +17,23 @@ const SHORT_WORDS = { link: "link", downtime: "limit" };
 /** What the answer says of a migration that ends after the trace. */
 const UNKNOWN = "unknown, since the trace ends before the migration does.";
 
-/** What it says of a guest that stood still: no amount, since none is sure. */
-const UNCERTAIN = "uncertain, since the guest stood still while it was recorded.";
+/** What it says of a guest that stood still, and of a plan that keeps the limit if that is not sure: no amount. */
+const STILL = "uncertain, since the guest stood still while it was recorded.";
+const UNCERTAIN = "uncertain; give more of the link, or a longer downtime.";
 
 /** What the answer says first. */
-function headOf({ isUncertain, isKept, ends, link, downtime, speed }) {
+function headOf({ isUncertain, isStill, isKept, ends, link, downtime, speed }) {
   if (isUncertain) {
-    return UNCERTAIN;
+    return isStill ? STILL : UNCERTAIN;
   }
   const isAlone = [link, downtime, speed].every((amount) => amount === null);
   if (!ends) {
-    return `${UNKNOWN}${isAlone ? "" : " One of these, changed alone, is enough:"}`;
+    return `${UNKNOWN}${isAlone ? "" : " By its plan alone one of these, changed alone, is enough:"}`;
   }
   if (isKept) {
-    return isAlone ? "these settings." : "these settings. So is each of these, changed alone:";
+    return isAlone ? "these settings." : "these settings. By its plan alone, so is each of these, changed alone:";
   }
-  return isAlone ? "nothing that was tried." : "one of these, changed alone:";
+  return isAlone ? "nothing that was tried." : "by its plan alone, one of these, changed alone:";
 }
 
 /** The ways out of a prediction that ends after the trace, without a link that only says again what keeps the limit. */
@@ -132,7 +133,7 @@ export class LimitsView {
       start: (start) => ["from a start at ", momentText(microsOf(scale, start))],
     };
     const [before, said] = words[name](value);
-    const after = ` it ends within the trace, and the limit is ${keptWords(answer)}`;
+    const after = ` it ends within the trace, and by its plan alone the limit is ${keptWords(answer)}`;
     const button = state ? [" ", this.takeButton(`ending-${name}`, name, said, state)] : [];
     return html("li", {}, before, html("b", {}, said), after, ...button);
   }

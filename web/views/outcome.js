@@ -8,10 +8,13 @@ import {
   bytesText, counted, countOf, errorTimeText, momentText, pagesText, signed, timeText, unbroken,
 } from "../model/numbers.js";
 import {
-  beginsLate, endingOf, isGood, isUncertain, isUnknown, keptWords, reasonWords, warningsOf,
+  beginsLate, endingOf, isGood, isOfStill, isUnknown, reasonWords, warningsOf,
 } from "../model/predictions.js";
 import { WorkerEnded } from "../engine/planner-client.js";
 import { Refusal } from "../engine/planner.js";
+import {
+  answerWords, isAwaited, isOfPlan, likelyBeyond, planMark, sureLine, sureWords, verdictsOf,
+} from "../model/sureness.js";
 import { microsOf } from "../model/units.js";
 import { refusalWords } from "../model/refusals.js";
 
@@ -40,7 +43,7 @@ function errorText({ errors }, name, text) {
  */
 const ROWS = [
   { name: "downtime", title: "Downtime", isPrice: true, number: ({ cost }) => cost.downtime, text: timeText,
-    more: (some) => joined(errorText(some, "downtime", errorTimeText), keptWords(some.cost),
+    more: (some) => joined(errorText(some, "downtime", errorTimeText), answerWords(some, "kept"),
       tickWords(some, `${countOf(some.plan.down, "tick")} for pages`)) },
   { name: "time", title: "Total time", isPrice: true, number: ({ cost }) => cost.time, text: timeText,
     more: (some) => joined(errorText(some, "time", errorTimeText),
@@ -48,7 +51,8 @@ const ROWS = [
     unknown: ({ cost }) => (cost.recorded > 0n ? `more than ${timeText(cost.recorded)}` : "unknown") },
   { name: "sent", title: "Sent", isPrice: true, number: ({ cost }) => cost.bytes, text: bytesText,
     more: (some) => joined(errorText(some, "bytes", bytesText), sentText(some)) },
-  { name: "rounds", title: "Rounds", number: ({ plan }) => plan.rounds.length, text: counted, more: reasonWords },
+  { name: "rounds", title: "Rounds", number: ({ plan }) => plan.rounds.length, text: counted,
+    more: (some) => joined(answerWords(some, "converges"), reasonWords(some)) },
   { name: "left", title: "Left at the stop", isPrice: true, isPages: true, number: ({ plan }) => plan.left,
     text: (pages, { scale }) => pagesText(scale, pages),
     more: ({ settings: { threshold } }) => (threshold === 1 ? "none left ends pre-copy"
@@ -67,6 +71,24 @@ function unknownVerdict(prediction) {
   return `The trace ends before the migration does${least}: record longer.`;
 }
 
+/** Whether the limit is kept, and how sure that is, in a sentence. */
+function pauseSentence(prediction, down, limit) {
+  const { kept } = verdictsOf(prediction);
+  const isKept = `the limit of ${limit} is ${kept === "yes" ? "kept" : "not kept"}`;
+  if (isOfPlan(prediction)) {
+    return `The guest stands still for ${down}; ${isKept}, by the plan alone.`;
+  }
+  const counts = sureWords(prediction, "kept");
+  if (kept !== "uncertain") {
+    return `The guest stands still for ${down}; ${isKept}${kept === "yes" ? `, ${counts}` : ` (it is ${counts})`}.`;
+  }
+  const likely = likelyBeyond(prediction);
+  const errors = likely === null ? ""
+    : ` With two standard errors the downtime is ${unbroken(timeText(likely))}, and the limit is missed.`;
+  return `By the plan the guest stands still for ${down}; it is uncertain whether the limit of ${limit} is kept `
+    + `(it is ${counts}).${errors}`;
+}
+
 /** The verdict on a prediction, in a line. */
 export function verdictOf(prediction) {
   const { cost, limits } = prediction;
@@ -74,30 +96,37 @@ export function verdictOf(prediction) {
     return unknownVerdict(prediction);
   }
   const [down, limit] = [cost.downtime, limits.downtime].map((micros) => unbroken(timeText(micros)));
-  if (isUncertain(prediction)) {
+  if (isOfStill(prediction)) {
     return "It is uncertain whether it converges and keeps the limit: while it was recorded, the guest stood still, "
       + `and wrote nothing then. By the plan alone the downtime is ${down}; the limit is ${limit}.`;
   }
-  return `${endingOf(prediction)} The guest stands still for ${down}; the limit of ${limit} `
-    + `${cost.kept === "yes" ? "is kept" : "is not kept"}.`;
+  return `${endingOf(prediction)} ${pauseSentence(prediction, down, limit)}`;
 }
 
-/** The word for a prediction, and whether it is good, bad or neither. */
-function verdictMark(prediction) {
-  const { cost, plan } = prediction;
+/** The word for verdicts, and whether they are good, bad or neither. */
+function wordFor(verdicts, { total }) {
+  if (verdicts.kept === "uncertain") {
+    return ["mark", "Uncertain"];
+  }
+  if (total === 0) {
+    return ["mark", "Nothing to send"];
+  }
+  if (isGood(verdicts)) {
+    return ["mark good", "Keeps the limit"];
+  }
+  if (verdicts.kept === "yes" && verdicts.converges === "uncertain") {
+    return ["mark", "Kept, perhaps not bounded"];
+  }
+  return ["mark bad", verdicts.kept === "no" ? "Misses the limit" : "Kept, but not bounded"];
+}
+
+/** The same for a prediction. What is of its plan alone is neither good nor bad. */
+export function verdictMark(prediction) {
   if (isUnknown(prediction)) {
     return ["mark", "Unknown"];
   }
-  if (isUncertain(prediction)) {
-    return ["mark", "Uncertain"];
-  }
-  if (plan.total === 0) {
-    return ["mark", "Nothing to send"];
-  }
-  if (isGood(cost)) {
-    return ["mark good", "Keeps the limit"];
-  }
-  return ["mark bad", cost.kept === "no" ? "Misses the limit" : "Kept, but not bounded"];
+  const [className, word] = wordFor(verdictsOf(prediction), prediction.plan);
+  return [isOfPlan(prediction) ? "mark" : className, `${word}${planMark(prediction)}`];
 }
 
 /** A pause beside its limit, with so many digits that two which differ look so, and one unit if both have the same. */
@@ -118,10 +147,14 @@ function headlineWords(prediction) {
   return `${pauseWords(prediction)}, ${briefTime(cost.time)}, ${briefBytes(cost.bytes)}:`;
 }
 
-/** What a migration comes to, in one line. */
+/** What a migration comes to, in one line, and how sure the verdict is, in another. */
 export function headlineParts(prediction) {
   const [className, words] = verdictMark(prediction);
-  return [html("p", { class: "headline" }, `${headlineWords(prediction)} `, html("span", { class: className }, words))];
+  const sure = sureLine(prediction);
+  return [
+    html("p", { class: "headline" }, `${headlineWords(prediction)} `, html("span", { class: className }, words)),
+    ...(sure === "" ? [] : [html("p", { class: "sure" }, sure)]),
+  ];
 }
 
 /** How the plan ends, and what speaks against it. */
@@ -205,6 +238,10 @@ export function comparisonOf(prediction, kept) {
     html("thead", { role: "rowgroup" }, head), html("tbody", { role: "rowgroup" }, ...rows));
 }
 
+/** The counts of an agreement that a file has, by the names of their columns. */
+const COUNT_CELLS = [["redraws", "draws"], ["redraws_kept", "drawsKept"], ["redraws_converging", "drawsConverging"],
+  ["starts", "starts"], ["starts_kept", "startsKept"], ["starts_converging", "startsConverging"]];
+
 /** What a migration comes to as numbers; nothing if it ends after the trace. */
 function priceCells(prediction) {
   const { cost, plan, scale } = prediction;
@@ -212,14 +249,20 @@ function priceCells(prediction) {
     : [cost.downtime, cost.time, cost.bytes, plan.rounds.length, plan.left, microsOf(scale, plan.stop)];
 }
 
+/** The verdicts on a migration and the counts that say how sure they are, for a file; nothing that is still to come. */
+function verdictCells(prediction) {
+  const { agreement } = prediction;
+  const { kept, converges } = isAwaited(prediction) ? { kept: "", converges: "" } : verdictsOf(prediction);
+  return [kept, converges, ...COUNT_CELLS.map(([, name]) => agreement?.[name] ?? "")];
+}
+
 /** A plan, and those of the kept ones that are not refused, as columns and rows for a file. */
 export function comparisonRows(prediction, kept) {
   const plans = [[THIS_PLAN, prediction], ...kept.map(({ found }, place) => [keptName(place), found.value])];
   const rows = plans.filter(([, some]) => some).map(([name, some]) => [name, ...priceCells(some),
-    microsOf(some.scale, some.settings.start), isUnknown(some) ? "" : some.plan.reason, some.cost.kept,
-    some.cost.converges]);
+    microsOf(some.scale, some.settings.start), isUnknown(some) ? "" : some.plan.reason, ...verdictCells(some)]);
   return [["plan", "downtime_us", "time_us", "sent_bytes", "rounds", "left_pages", "stop_us", "start_us", "reason",
-    "kept", "converges"], rows];
+    "kept", "converges", ...COUNT_CELLS.map(([column]) => column)], rows];
 }
 
 /** What was refused, in words: a name, and a sentence. */

@@ -15,6 +15,7 @@ import { watchWidths, widthOf } from "./plot.js";
 import { beginsLate, forecastWords, isUnknown, keptWords } from "../model/predictions.js";
 import { quantityWords } from "../model/quantities.js";
 import { reachOf, roundsLook, roundsPicture } from "./rounds-chart.js";
+import { isAwaited, planMark, verdictsOf } from "../model/sureness.js";
 import { roundsFile, roundsTable } from "./tables.js";
 import { amountOf, microsOf, RATE_UNITS, TIME_UNITS } from "../model/units.js";
 
@@ -117,18 +118,23 @@ export class PlanView {
     byId("reasons").hidden = this.last === null;
     byId("rounds").hidden = this.last === null;
     byId("stale-note").hidden = found.value !== undefined || this.last === null;
-    const parts = found.value ? headlineParts(found.value) : this.refusedParts(found.refusal);
-    this.refusal = found.refusal ?? null;
-    keepFocus(() => renew(byId("headline"), ...parts), () => byId("outcome"));
-    if (found.value) {
-      renew(byId("reason-words"), ...reasonParts(found.value));
-    }
-    byId("summary").textContent = found.value ? this.summaryOf(found.value) : "No plan with these settings";
+    this.drawVerdict(found);
     this.noteUnknown(kept);
     this.drawPlans(settings, kept);
     for (const button of document.querySelectorAll("#outcome .saves button, #rounds .saves button")) {
       button.disabled = !found.value;
     }
+  }
+
+  /** Says what was found, in a line and in reasons; the reasons of the last plan stay. */
+  drawVerdict(found) {
+    const parts = found.value ? headlineParts(found.value) : this.refusedParts(found.refusal);
+    this.refusal = found.refusal ?? null;
+    keepFocus(() => renew(byId("headline"), ...parts), () => byId("outcome"));
+    if (this.last) {
+      renew(byId("reason-words"), ...reasonParts(this.last));
+    }
+    tellIn(byId("summary"), found.value ? this.summaryOf(found.value) : "No plan with these settings");
   }
 
   /** Says of rounds that go on after the trace what they are of. */
@@ -152,6 +158,14 @@ export class PlanView {
     }
   }
 
+  /** Draws what has become known of plans that are drawn. */
+  drawLate(settings, found, kept) {
+    this.drawVerdict(found);
+    if (this.last) {
+      this.drawComparison(settings, kept);
+    }
+  }
+
   /** Draws the downtime of the last plan beside its limit; nothing if it is unknown. */
   drawBar() {
     const isKnown = this.last !== null && !isUnknown(this.last);
@@ -167,7 +181,7 @@ export class PlanView {
     tellIn(line, forecast ? forecastWords(forecast) : "");
   }
 
-  /** Draws the numbers of the plans. Standard errors that are still to come make it busy. */
+  /** Draws the numbers of the plans. Standard errors and verdicts that are still to come make it busy. */
   drawComparison(settings, kept) {
     this.drawBar();
     this.drawForecast();
@@ -176,8 +190,8 @@ export class PlanView {
     const meaning = predictions.some(({ errors }) => errors) ? [html("p", { class: "derived" }, STANDARD_ERROR)] : [];
     keepFocus(() => renew(byId("comparison"), comparisonOf(this.last, kept), ...words, ...meaning),
       () => byId("comparison").querySelector("[data-drops]") ?? byId("keep"));
-    const isAwaited = predictions.some(({ errors }) => errors === undefined);
-    byId("comparison").setAttribute("aria-busy", String(isAwaited));
+    const isBusy = predictions.some((some) => some.errors === undefined || isAwaited(some));
+    byId("comparison").setAttribute("aria-busy", String(isBusy));
   }
 
   /** A button beside a refusal leads out of it. */
@@ -218,15 +232,19 @@ export class PlanView {
     if (isUnknown(prediction)) {
       return "Unknown: the trace ends before the migration does";
     }
-    const downtime = `Downtime ${timeText(cost.downtime)}, ${keptWords(cost)}`;
+    const verdict = `${keptWords(verdictsOf(prediction))}${planMark(prediction)}`;
+    const downtime = `Downtime ${timeText(cost.downtime)}, ${verdict}`;
     const parts = [downtime, `time ${timeText(cost.time)}`, `sent ${bytesText(cost.bytes)}`];
     return parts.map((part) => part.replaceAll(" ", "\u00a0")).join(" \u00b7 ");
   }
 
-  /** What was found, as it is announced. */
-  wordsOf(found) {
-    const refused = found.refusal && refusedWords(found.refusal);
-    return found.value ? verdictOf(found.value) : `No plan. ${refused.name}: ${refused.sentence}`;
+  /** What was found, as it is announced; null while it is still to come how sure that is. */
+  wordsOf({ value, refusal }) {
+    if (value) {
+      return isAwaited(value) ? null : verdictOf(value);
+    }
+    const { name, sentence } = refusedWords(refusal);
+    return `No plan. ${name}: ${sentence}`;
   }
 
   drawRounds(prediction, kept) {

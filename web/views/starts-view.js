@@ -9,14 +9,13 @@ import { Inspector } from "./inspector.js";
 import { refusalPart } from "./outcome.js";
 import { WorkerEnded } from "../engine/planner-client.js";
 import { Refusal } from "../engine/planner.js";
+import { ERRORS_BELOW } from "../model/sureness.js";
 
 /** Which of two starts is the better one. */
 const BETTER = "A start that is likely to keep the limit, with two standard errors of its downtime, is better than any "
   + "other. Of two such starts that which sends less is better; of two others that whose downtime is likely to be "
-  + "shorter. The worst start is told without errors.";
+  + "shorter. The worst start is told without errors. Whether a start keeps the limit is of its plan alone.";
 
-/** So many standard errors below its limit a downtime is likely to keep it. */
-const ERRORS_BELOW = 2n;
 const DOUBTFUL = "The best start has its downtime less than two standard errors below the limit: it may well miss it, "
   + "and so may every other start.";
 

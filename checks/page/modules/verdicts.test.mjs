@@ -38,7 +38,7 @@ test("over a guest that stood still nothing is offered as enough, nor asked for"
   late.askAll = () => {};
   const prediction = { question: { link: 1n }, scale: { isSample: false }, cost: { kept: "yes" } };
   for (const trace of [ran, still]) {
-    late.follow(trace, prediction, [], () => []);
+    late.follow(trace, prediction, { plans: [], starts: [] }, () => []);
     const isSure = trace === ran;
     assert.equal(late.wanted.some(({ kind }) => kind === "remedies"), isSure);
     assert.equal(late.remediesOf(trace, prediction) === undefined, isSure);
