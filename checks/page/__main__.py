@@ -5,7 +5,8 @@
 MODULE is the WebAssembly module, by default out/browser_planner.wasm, which `make page` builds; if it is missing,
 dev/page-module builds it. The page is joined from web/. Numbers that it shows for 400 random settings over 20 traces
 must be those of `precopy report`, which are a model's, and of `precopy sweep`; the words that it gives for
-`precopy-view predict` and `when` ask for the same; what a click takes as enough for the limit keeps it. Each damage of
+`precopy-view predict` and `when` ask for the same; each verdict is as sure as that tells it; what a click takes as
+enough for the limit keeps it. Each damage of
 the table in docs/FORMATS.md is refused by its name; a trace of `2^28` bytes is planned, or refused in a sentence. Fifty
 traces of all shapes plan at once. No task of the page's own thread works for more than 50 ms, however large the trace.
 The page opens no connection, fits widths from 360 to 1,920 pixels in each state, has contrasts of 4.5 for text and 3
@@ -37,7 +38,7 @@ from checks.lib.view_texts import TOP, Failure, ran, sweep_facts, told
 from checks.lib.worked import damaged
 from checks.page import addresses, cases, enough, forecasts, loads
 from checks.page import looks as page_looks
-from checks.page import pictures, records, states, uses, worker
+from checks.page import pictures, records, states, sure, uses, worker
 from checks.page.acts import plan_starts
 from checks.page.browser import Browser
 from checks.page.firefox import Firefox
@@ -162,13 +163,16 @@ def check_node(tally, folder, module, precopy):
 
 
 def compare_in_node(case, precopy, asked, found):
-    """What the module answers beside the lines of a report; of a small sample also its errors, and what is enough."""
+    """What the module answers beside the lines of a report; of a small sample also its errors, how sure that is, and
+    what is enough."""
     report = cases.reported(precopy, asked)
-    errors, remedies, forecast = (found.pop(name) for name in ("errors", "remedies", "forecast"))
+    errors, remedies, forecast, verdicts = (found.pop(name) for name in ("errors", "remedies", "forecast", "sure"))
     case.add(found == node_facts(asked, report), f"{found['stop']}")
     if asked.known.pages <= cases.SMALL:
         wanted = cases.drawn_errors(asked)
         case.add(errors == (wanted and list(wanted)), f"{errors}, {wanted}")
+        wanted = sure.modelled(asked.known.guest, asked.question().trial())
+        case.add(verdicts == json.loads(json.dumps(wanted)), f"{verdicts}, {wanted}")
         wanted = forecasts.line_of(asked.question(), Trace.at(asked.known.path))
         case.add((forecast or "") == wanted, f"{forecast!r}, {wanted!r}")
         wanted = enough.remedies_of(asked, asked.limits()[1], asked.settings().increment)
@@ -190,6 +194,7 @@ def check_numbers(tally, page, precopy, folder):
                 tried(tally, f"{known}, {asked.fragment()}", check_one, page, precopy, asked)
     told = f"what is enough was compared for {len(enough.COMPARED)} settings, of {LEAST_COMPARED} at least"
     tally.add(len(enough.COMPARED) >= LEAST_COMPARED, told)
+    sure.check_compared(tally)
 
 
 @functools.cache
@@ -203,9 +208,10 @@ def has_view():
 def check_one(page, precopy, asked):
     found = page.ask(asked.fragment())
     document = cases.predicted(VIEW, asked, found) if not asked.refusal() and has_view() else None
-    cases.check_facts(precopy, asked, found, document)
+    verdicts = None if asked.refusal() else sure.sure_of(asked, document)
+    cases.check_facts(precopy, asked, found, document, verdicts)
     if not asked.refusal():
-        enough.check_enough(asked, page, found, document)
+        enough.check_enough(asked, page, found, document, verdicts)
         cases.check_forecast(forecasts.told(page), document)
         enough.check_taken(asked, page, precopy)
 

@@ -10,7 +10,7 @@ from checks.lib.harness import drawn
 from checks.lib.host_words import host_lines, is_command, sentence_of
 from checks.lib.migration_model import Question, case_word, live_line, options_of, report_of
 from checks.lib.view_texts import TOP, Failure, parsed, ran, report_facts, sweep_facts, told
-from checks.page import shapes
+from checks.page import shapes, sure
 from checks.page.tables import round_texts, window_texts
 from checks.view.limit_cases import RATES, Known
 from precopy_dev.models import redrawn
@@ -257,7 +257,7 @@ def reason(asked, report):
     }[report["stop"]["why"]]
 
 
-def comparison(asked, report, document):
+def comparison(asked, report, document, verdicts):
     """The rows of the comparison, as the page writes them."""
     stop, found = report["stop"], figures(asked, report)
     if found["kept"] == "unknown":
@@ -285,7 +285,7 @@ def comparison(asked, report, document):
             time_text(found["down"]),
             more(
                 error_text(down),
-                "kept" if found["kept"] == "yes" else "not kept",
+                verdicts.answer("kept"),
                 *ticks(f"{plural(stop['down'], 'tick')} for pages"),
             ),
         ],
@@ -294,7 +294,7 @@ def comparison(asked, report, document):
             more(error_text(time), *ticks(f"{plural(stop['at'] - asked.start, 'tick')} of pre-copy")),
         ],
         "sent": [size_text(found["sent"]), more(size_text(sent), *guest, pages)],
-        "rounds": [f"{len(report['rounds']):,}", reason(asked, report)],
+        "rounds": [f"{len(report['rounds']):,}", f"{verdicts.answer('converging')}; {reason(asked, report)}"],
         "left": [plural(stop["pages"], "page") + of_sample, few],
         "stop": [moment_text(stop["at"] * asked.tick), "".join(ticks(f"tick {stop['at']:,}"))],
     }
@@ -305,20 +305,29 @@ def warnings(asked, report):
     return 0 if stop["at"] > asked.known.last else (stop["pages"] < 100) + (stop["why"] != "few")
 
 
-def verdict(asked, report):
-    """Words of the verdict."""
-    found = figures(asked, report)
+def unknown(asked, found):
+    """Words of the verdict on a migration that ends after its trace; of another nothing."""
+    if found["kept"] != "unknown":
+        return ""
     if asked.start > asked.known.last:
         return f"The trace has {time_text(asked.known.last * asked.tick)}; it ends before the start."
-    if found["kept"] == "unknown":
-        least = f", which takes more than {time_text(found['recorded'])}" * (found["recorded"] > 0)
-        return f"The trace ends before the migration does{least}: record longer."
-    return f"It {'converges' if found['converges'] == 'yes' else 'does not converge'}: {reason(asked, report)}."
+    least = f", which takes more than {time_text(found['recorded'])}" * (found["recorded"] > 0)
+    return f"The trace ends before the migration does{least}: record longer."
 
 
-def check_facts(precopy, asked, found, document):
+def check_verdict(asked, shown, report, document, verdicts):
+    """Tests what the page says of the verdicts, and how sure they are."""
+    found = figures(asked, report)
+    words = unknown(asked, found)
+    if words not in shown["verdict"] or shown["stale"]:
+        raise Failure(f"{shown['verdict']!r} in place of {words!r}")
+    drawn = None if words else errors(asked, document)
+    sure.check_shown(asked, shown, found, report, verdicts, drawn, reason(asked, report))
+
+
+def check_facts(precopy, asked, found, document, verdicts):
     """Tests what the page shows for settings against what precopy writes, and against the document of `json predict`,
-    if there is one."""
+    if there is one; and against the verdicts."""
     name = asked.refusal()
     if name:
         if found["refused"] != name or not found["fault"] or not found["stale"]:
@@ -341,16 +350,14 @@ def check_facts(precopy, asked, found, document):
     wanted = {
         "rounds": round_texts(asked, report["rounds"]),
         "windows": window_texts(asked, report["windows"]),
-        "comparison": comparison(asked, report, document),
+        "comparison": comparison(asked, report, document, verdicts),
         "warnings": warnings(asked, report),
         "commands": commands(asked),
     }
     for key, value in wanted.items():
         if found[key] != value:
             raise Failure(f"{key}: {found[key]} in place of {value}")
-    words = verdict(asked, report)
-    if words not in found["verdict"].replace("\u00a0", " ") or found["stale"]:
-        raise Failure(f"{found['verdict']!r} in place of {words!r}")
+    check_verdict(asked, found, report, document, verdicts)
     if document is not None:
         check_document(document, figures(asked, report))
 

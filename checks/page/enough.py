@@ -10,6 +10,7 @@ from typing import NamedTuple
 from checks.lib.amount_texts import moment_text
 from checks.lib.view_texts import Failure, sweep_facts, told
 from checks.page.cases import SMALL, micros
+from checks.page.sure import UNSURE
 from checks.view.limit_cases import RATES, TIMES
 from precopy_dev.models.remedies import Ending, Remedies, remedies
 
@@ -61,9 +62,9 @@ def enough_in(lines):
 
 
 def enough_of(document):
-    """The same by a document of `json predict`, if it has that. It tells no amount of what is uncertain."""
+    """The same by a document of `json predict`, if it has that."""
     told = document and document.get("enough")
-    if not told or told["answer"] == "uncertain":
+    if not told:
         return None
     down = told.get("down_seconds")
     return Remedies(
@@ -100,9 +101,16 @@ def check_shown(asked, lines, found):
 COMPARED = []
 
 
-def check_enough(asked, page, found, document):
-    """Tests what is enough for the limit: beside the model if the trace is small, and beside the program."""
+def check_enough(asked, page, found, document, verdicts):
+    """Tests what is enough for the limit: beside the model if the trace is small, and beside the program. Where the
+    plan keeps the limit, and that is not sure, nothing is."""
     lines, exact = page.enough(), page.exact_enough()
+    if lines == [UNSURE]:
+        if verdicts.is_good() or (document and document["enough"] != {"answer": "uncertain"}):
+            raise Failure(f"enough: {lines} of {verdicts}")
+        return
+    if document and document["enough"]["answer"] == "uncertain":
+        raise Failure(f"enough: {lines} of {verdicts}")
     # What the page shows of the migration was compared with the program's report.
     is_late = found["comparison"]["downtime"][0] == "unknown"
     if lines[0].startswith(UNKNOWN) != is_late:
@@ -123,7 +131,10 @@ def check_enough(asked, page, found, document):
 
 
 # The least link that ends a migration within the trace is shown with few digits, as one that keeps the limit is.
-WAY = re.compile(r"(with a link of|from a start at) (.*) it ends within the trace, and the limit is (not kept|kept)")
+WAY = re.compile(
+    r"(with a link of|from a start at) (.*) it ends within the trace, "
+    r"and by its plan alone the limit is (not kept|kept)"
+)
 
 
 def ways_in(lines):
@@ -157,14 +168,15 @@ CONTROL = """(() => {
 
 
 def check_taken(asked, page, precopy):
-    """What a click takes is what is shown, and keeps the limit: the page says so, and so does a plan of the program."""
+    """What a click takes is what is shown, and keeps the limit: so does a plan of the program, and the page says no
+    more than that it is uncertain."""
     offers = [some for some in page.browser.value(OFFERED) if some[0] in ("link", "downtime")]
     if not offers:
         return
     name, said = offers[asked.start % len(offers)]
     found = page.after(f"document.querySelector('[data-takes={name}]').click()")
-    taken, verdict = page.browser.value(CONTROL.replace("NAME", name)), found["verdict"].replace("\u00a0", " ")
-    if taken != said or "It converges: " not in verdict or " is kept." not in verdict:
+    taken, verdict = page.browser.value(CONTROL.replace("NAME", name)), found["verdict"]
+    if taken != said or "It does not converge" in verdict or " is not kept" in verdict:
         raise Failure(f"{taken} is taken for the {name} that is shown as {said}: {verdict}")
     words = found["commands"]["live"].split()
     case = [words[words.index(f"--{option}") + 1] for option in ("min", "max", "inc", "threshold", "rounds")]

@@ -6,12 +6,13 @@ from fractions import Fraction
 
 from checks.lib.tally import expect
 from checks.page.acts import asked, typed
+from checks.page.sure import UNSURE
 from checks.view.limit_cases import TIMES
 
 # Settings whose limit is kept, missed, missed by a first round and an increment of their own, missed whatever the link
 # and the downtime, and of which nothing is known; with the head of what is enough, and what can be taken.
-OTHER = "Enough for the limit: one of these, changed alone:"
-ALSO = "Enough for the limit: these settings. So is each of these, changed alone:"
+OTHER = "Enough for the limit: by its plan alone, one of these, changed alone:"
+ALSO = "Enough for the limit: these settings. By its plan alone, so is each of these, changed alone:"
 LATE = "Enough for the limit: unknown, since the trace ends before the migration does."
 ENOUGH = [
     ("trace=sqlite&link=1Gbit&downtime=300ms", ALSO, ["link", "downtime"]),
@@ -24,7 +25,7 @@ ENOUGH = [
 
 
 def check_limits(page):
-    """What is enough for the limit keeps it, and a click takes it."""
+    """What is enough for the limit keeps it by its plan, and a click takes it."""
     for fragment, head, names in ENOUGH:
         page.ask(fragment)
         said = page.enough()
@@ -35,8 +36,9 @@ def check_limits(page):
             page.ask(fragment)
             said, before = page.enough(), page.shown()
             found = page.after(f"document.querySelector('[data-takes={name}]').click()")
-            expect("Keeps the limit" in found["verdict"] and found != before, f"{said}, {name}: {found['verdict']}")
-            expect(page.enough()[0] == ALSO, f"{said}, {name}: {page.enough()}")
+            is_sure = found["mark"][1] == "Keeps the limit"
+            expect((is_sure or found["mark"][1] == "Uncertain") and found != before, f"{said}, {name}: {found['mark']}")
+            expect(page.enough()[0] == (ALSO if is_sure else UNSURE), f"{said}, {name}: {page.enough()}")
 
 
 # Plans that end after their trace, and what leads to one that does not: what keeps the limit, and what ends it within
@@ -65,10 +67,9 @@ def check_ways(page):
             page.enough()
             line = page.browser.value(f"{button}.closest('li').textContent.replace(/ Take it$/, '')")
             found = page.after(f"{button}.click()")
-            is_kept = "is kept." in found["verdict"]
             expect("Unknown" not in found["verdict"] and found["refused"] is None, f"{line}: {found['verdict']}")
-            said_kept = not line.endswith("the limit is not kept")
-            expect(said_kept == is_kept, f"{line}: {is_kept}")
+            contrary = " is kept" if line.endswith("the limit is not kept") else " is not kept"
+            expect(contrary not in found["verdict"], f"{line}: {found['verdict']}")
             if name == "ending-start":
                 last = int(re.search(r"in ([\d.]+)", page.browser.value("textOf('trace-state')"))[1].replace(".", ""))
                 start = page.browser.value("ticksOf('start')") + -(-last // 200)

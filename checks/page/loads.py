@@ -47,8 +47,8 @@ CHANGES = """
 """
 SETTINGS = "link=10Gbit&first=50&downtime=50ms&window=500"
 
-# Changes the most rounds, and tells after how many milliseconds the plan is drawn, the standard errors, and what is
-# enough for the limit; and whether the errors were still to come when the plan was drawn.
+# Changes the most rounds, and tells after how many milliseconds the plan is drawn, the errors and how sure the
+# verdict is, and what is enough for the limit; and whether the errors were still to come when the plan was drawn.
 LATE = """
 (async () => {
   const since = performance.now();
@@ -224,7 +224,8 @@ def check_late(page, folder):
     planned, errors, enough, is_before = page.browser.value(LATE)
     print(
         f"  a change takes {middle:.1f} ms in the middle; after one the plan is drawn in {planned:.0f} ms, its "
-        f"errors in {errors:.0f} ms, and what is enough in {enough:.0f} ms; {more_memory() / 1e6:.0f} MB"
+        f"errors and how sure it is in {errors:.0f} ms, and what is enough in {enough:.0f} ms; "
+        f"{more_memory() / 1e6:.0f} MB"
     )
     if not is_before or "\u00b1 " not in page.shown()["comparison"]["time"][1]:
         raise Failure("the plan waits for its errors, or has none")

@@ -30,6 +30,7 @@ const answers = JSON.parse(readFileSync(0, "utf8")).map(({ settings, question })
   const { min, max, increment, threshold } = planner.settings(question);
   const answer = planner.predict(question);
   const errors = planner.errors(question);
+  const { draws, starts, converges, kept, ...counts } = planner.agreement(question);
   const { isKept, ends, ...amounts } = planner.remedies(question);
   const forecast = planner.forecast(question);
   const { link, downtime, speed, endingLink, endingStart } = amounts;
@@ -42,6 +43,8 @@ const answers = JSON.parse(readFileSync(0, "utf8")).map(({ settings, question })
     map: pagesOnMap(settings, plan),
     isSame: JSON.stringify(answer.rows) === JSON.stringify(plan.rounds) && answer.left === plan.left,
     forecast: forecast && forecastWords(forecast).replaceAll("\u00a0", " "),
+    sure: [converges, kept, draws === 0 ? null : [draws, counts.drawsConverging, counts.drawsKept],
+      [starts, counts.startsConverging, counts.startsKept]],
     errors: errors && [errors.bytes, errors.time, errors.downtime].map(Number),
     remedies: [isKept, ends, ...[link, downtime, speed, endingLink, endingStart]
       .map((amount) => (amount === null ? null : String(amount)))],

@@ -11,7 +11,8 @@ function answerTo(question) {
   try {
     const { rows, ...told } = planner.predict(question);
     const errors = told.kept === "unknown" ? null : planner.errors(question);
-    return { ...told, errors, remedies: planner.remedies(question), forecast: planner.forecast(question) };
+    const agreement = planner.agreement(question);
+    return { ...told, errors, agreement, remedies: planner.remedies(question), forecast: planner.forecast(question) };
   } catch (error) {
     if (!(error instanceof Refusal)) {
       throw error;

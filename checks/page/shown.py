@@ -63,7 +63,10 @@ window.shown = () => {
   return {
     refused,
     fault: refused && textOf(`control-${refused}-fault`),
-    verdict: verdictText(),
+    verdict: verdictText().replaceAll("\u00a0", " "),
+    mark: (({ className, textContent } = {}) => [className ?? "", textContent ?? ""])(
+      document.querySelector("#headline .mark") ?? undefined),
+    sure: document.querySelector("#headline .sure")?.textContent ?? "",
     warnings: document.querySelectorAll("#reasons .warnings li").length,
     stale: document.getElementById("rounds").classList.contains("stale") || document.getElementById("rounds").hidden,
     rounds: rowsOf("rounds-table-this"),

@@ -11,7 +11,7 @@ from fractions import Fraction
 
 from checks.lib.harness import drawn
 from checks.lib.tally import expect
-from checks.page import forecasts, kept, late, limits, links, looking, map, records, saves, shapes, told, worker
+from checks.page import forecasts, kept, late, limits, links, looking, map, records, saves, shapes, sure, told, worker
 from checks.page.acts import asked, read, spelled, typed
 from checks.page.cases import example
 from checks.page.shown import tried
@@ -402,6 +402,7 @@ USES = {
     "the rounds on the map": map.check_map_rounds,
     "pages of the map": map.check_map_pages,
     "what is announced": told.check_told,
+    **sure.SURE,
     **late.LATE,
     "the worker": worker.check_worker,
     "an ended worker": worker.check_ended,

@@ -16,6 +16,7 @@ from checks.lib.share_model import share_lines
 from checks.lib.tally import Failure, LeftOut, module, why_not
 from checks.lib.view_texts import parsed, ran
 from checks.predictions.questions import Asked
+from precopy_dev.interface import lower_camel
 from precopy_dev.tree import TOP
 from precopy_tools.predict import command
 
@@ -199,7 +200,12 @@ class Page(Door):
         errors = answer.errors and dict(zip(("bytes", "time", "downtime"), map(str, answer.errors)))
         large = {name: str(number) for name, number in large.items()}
         told = {"errors": errors, "remedies": self.remedies(answer), "forecast": self.forecast(answer.forecast)}
-        return {**plain, **large, **told}
+        return {**plain, **large, **told, "agreement": self.agreement(answer)}
+
+    @staticmethod
+    def agreement(answer: Answer) -> dict:
+        """How sure the answer is, by the names of JavaScript."""
+        return {lower_camel(name): told for name, told in Library.agreement(answer).items()}
 
     @staticmethod
     def forecast(told: Optional[Forecast]) -> Optional[dict]:
