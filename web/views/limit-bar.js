@@ -13,7 +13,7 @@ const SIDE = 6;
 /** The class of the bar, by whether the limit is kept; and if that is of the plan alone. */
 const BARS = { yes: "kept", no: "missed", uncertain: "unsure" };
 
-function barOf(prediction) {
+function barClass(prediction) {
   return isOfPlan(prediction) ? BARS.uncertain : BARS[verdictsOf(prediction).kept];
 }
 
@@ -41,7 +41,7 @@ export function limitBar(width, prediction) {
   const words = briefTime(cost.downtime) + (error === 0 ? "" : ` \u00b1 ${briefTime(errors.downtime)}`);
   return pictureOf(width, HEIGHT, [
     area("track", SIDE, BAR_TOP, width - 2 * SIDE, BAR_HEIGHT),
-    area(barOf(prediction), SIDE, BAR_TOP, Math.max(2, place(down) - SIDE), BAR_HEIGHT),
+    area(barClass(prediction), SIDE, BAR_TOP, Math.max(2, place(down) - SIDE), BAR_HEIGHT),
     ...whisker,
     area("halo", place(limit) - 2, BAR_TOP - 5, 4, BAR_HEIGHT + 10),
     area("limit", place(limit) - 1, BAR_TOP - 5, 2, BAR_HEIGHT + 10),
