@@ -5,7 +5,7 @@
 export const ERRORS_BELOW = 2n;
 
 /** In which counts of an agreement a question is answered with yes. */
-const COUNTS = { converges: ["drawsConverging", "startsConverging"], kept: ["drawsKept", "startsKept"] };
+const ANSWER_COUNTS = { converges: ["drawsConverging", "startsConverging"], kept: ["drawsKept", "startsKept"] };
 
 /** Whether it can be asked how sure the verdicts of a prediction are: its plan has some. */
 export function mayBeSure({ cost }) {
@@ -35,7 +35,7 @@ export function planMark(prediction) {
 
 /** In how many redraws and from how many starts a migration converges, or keeps its limit. */
 export function sureWords({ agreement }, name) {
-  const [ofDraws, ofStarts] = COUNTS[name].map((counts) => agreement[counts]);
+  const [ofDraws, ofStarts] = ANSWER_COUNTS[name].map((counts) => agreement[counts]);
   const redraws = agreement.draws === 0 ? "" : `in ${ofDraws} of ${agreement.draws} redraws and `;
   return `${redraws}from ${ofStarts} of ${agreement.starts} starts`;
 }
