@@ -33,6 +33,10 @@ class Sure(NamedTuple):
         redraws = f"in {getattr(self.redraws, name)} of {self.redraws.whole} redraws and " if self.redraws else ""
         return f"{redraws}from {getattr(self.starts, name)} of {self.starts.whole} starts"
 
+    def brief(self, name):
+        redraws = f"{getattr(self.redraws, name)}/{self.redraws.whole} redraws, " if self.redraws else ""
+        return f"{redraws}{getattr(self.starts, name)}/{self.starts.whole} starts"
+
     def answer(self, name):
         verdict = self.kept if name == "kept" else self.converges
         return f"{'kept' if name == 'kept' else 'converges'}: {verdict}, {self.words(name)}"
@@ -78,9 +82,9 @@ def line_of(sure, is_beyond):
     """The line below it. The limit is missed with two standard errors of the downtime if that is beyond it then."""
     if sure.kept == "unknown":
         return ""
-    errors = ", but not with two standard errors" * is_beyond
+    errors = ", but not with 2 standard errors" * is_beyond
     is_half = sure.converges == "uncertain" != sure.kept
-    return f"Kept {sure.words('kept')}{errors}{'; converges ' + sure.words('converging') if is_half else ''}"
+    return f"Kept: {sure.brief('kept')}{errors}{'; converges: ' + sure.brief('converging') if is_half else ''}"
 
 
 def ending_of(sure, reason):
@@ -143,25 +147,25 @@ VERDICTS = [
     (
         f"{OVER_SQLITE}&downtime=300ms",
         ["mark good", "Keeps the limit"],
-        "Kept in 20 of 20 redraws and from 10 of 10 starts",
+        "Kept: 20/20 redraws, 10/10 starts",
         "these settings.",
     ),
     (
         f"{OVER_SQLITE}&downtime=150ms",
         ["mark", "Uncertain"],
-        "Kept in 20 of 20 redraws and from 10 of 10 starts, but not with two standard errors",
+        "Kept: 20/20 redraws, 10/10 starts, but not with 2 standard errors",
         "uncertain; ",
     ),
     (
         f"{OVER_SQLITE}&downtime=10ms",
         ["mark", "Uncertain"],
-        "Kept in 12 of 20 redraws and from 3 of 9 starts",
+        "Kept: 12/20 redraws, 3/9 starts",
         "by its plan alone, ",
     ),
     (
         "trace=gzip&link=2MB&downtime=4ms&first=40&start=400",
         ["mark bad", "Misses the limit"],
-        "Kept from 0 of 13 starts",
+        "Kept: 0/13 starts",
         "by its plan alone, ",
     ),
 ]
@@ -212,7 +216,7 @@ def check_until_sure(page):
     said = page.browser.value(UNTIL_SURE)
     wanted = [
         "mark|Keeps the limit\u00a0\u2026|sure|By the plan alone\u00a0\u2026",
-        "mark good|Keeps the limit|sure|Kept in 20 of 20 redraws and from 10 of 10 starts",
+        "mark good|Keeps the limit|sure|Kept: 20/20 redraws, 10/10 starts",
     ]
     expect(said == wanted, f"until a verdict is sure the page says {said}")
 

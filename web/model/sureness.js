@@ -40,6 +40,13 @@ export function sureWords({ agreement }, name) {
   return `${redraws}from ${ofStarts} of ${agreement.starts} starts`;
 }
 
+/** The same at one glance. */
+function briefCounts({ agreement }, name) {
+  const [ofDraws, ofStarts] = ANSWER_COUNTS[name].map((counts) => agreement[counts]);
+  const redraws = agreement.draws === 0 ? "" : `${ofDraws}/${agreement.draws} redraws, `;
+  return `${redraws}${ofStarts}/${agreement.starts} starts`;
+}
+
 /** Whether a migration converges or its limit is kept, in the words of `precopy-view predict`. */
 export function answerWords(prediction, name) {
   const counts = prediction.agreement ? `, ${sureWords(prediction, name)}` : planMark(prediction);
@@ -61,8 +68,8 @@ export function sureLine(prediction) {
     return `By the plan alone${isAwaited(prediction) ? "\u00a0\u2026" : ""}`;
   }
   const { converges, kept } = prediction.agreement;
-  const errors = likelyBeyond(prediction) === null ? "" : ", but not with two standard errors";
+  const errors = likelyBeyond(prediction) === null ? "" : ", but not with 2 standard errors";
   const ending = converges === "uncertain" && kept !== "uncertain"
-    ? `; converges ${sureWords(prediction, "converges")}` : "";
-  return `Kept ${sureWords(prediction, "kept")}${errors}${ending}`;
+    ? `; converges: ${briefCounts(prediction, "converges")}` : "";
+  return `Kept: ${briefCounts(prediction, "kept")}${errors}${ending}`;
 }

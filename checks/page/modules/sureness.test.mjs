@@ -57,7 +57,7 @@ test("a verdict that is not sure is uncertain, with the counts of `precopy-view 
   assert.deepEqual(verdictsOf(found), { converges: "uncertain", kept: "uncertain" });
   assert.deepEqual(verdictMark(found), ["mark", "Uncertain"]);
   assert.equal(answerWords(found, "kept"), "kept: uncertain, in 12 of 20 redraws and from 3 of 9 starts");
-  assert.equal(sureLine(found), "Kept in 12 of 20 redraws and from 3 of 9 starts");
+  assert.equal(sureLine(found), "Kept: 12/20 redraws, 3/9 starts");
   assert.equal(words(found), "It is uncertain whether it converges (it does in 12 of 20 redraws and from 3 of 9 "
     + "starts): by the plan the guest writes faster than the link sends. By the plan the guest stands still for 20 ms; "
     + "it is uncertain whether the limit of 10 ms is kept (it is in 12 of 20 redraws and from 3 of 9 starts).");
@@ -77,7 +77,7 @@ test("a sure verdict is told with its counts", () => {
   assert.match(words(missed), /^It does not converge \(it does in 0 of 20 .* is not kept \(it is in 0 of 20 /);
   const half = predicted("yes", "yes", { ...all, drawsConverging: 12, converges: "uncertain", kept: "yes" });
   assert.deepEqual(verdictMark(half), ["mark", "Kept, perhaps not bounded"]);
-  assert.match(sureLine(half), /^Kept in 20 of 20 .*; converges in 12 of 20 redraws and from 9 of 9 starts$/);
+  assert.equal(sureLine(half), "Kept: 20/20 redraws, 9/9 starts; converges: 12/20 redraws, 9/9 starts");
 });
 
 test("where two standard errors of the downtime pass the limit, that is told", () => {
@@ -85,7 +85,7 @@ test("where two standard errors of the downtime pass the limit, that is told", (
   const agreement = { ...all, converges: "yes", kept: "uncertain" };
   const found = predicted("yes", "yes", agreement, { errors: { bytes: 0n, time: 0n, downtime: 5_001n } });
   assert.match(words(found), / With two standard errors the downtime is 30\.002 ms, and the limit is missed\.$/);
-  assert.match(sureLine(found), /^Kept in 20 of 20 .* starts, but not with two standard errors$/);
+  assert.equal(sureLine(found), "Kept: 20/20 redraws, 9/9 starts, but not with 2 standard errors");
   const within = predicted("yes", "yes", agreement, { errors: { bytes: 0n, time: 0n, downtime: 5_000n } });
   assert.doesNotMatch(words(within) + sureLine(within), /standard errors/);
 });
