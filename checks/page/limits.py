@@ -68,7 +68,7 @@ def check_ways(page):
             line = page.browser.value(f"{button}.closest('li').textContent.replace(/ Take it$/, '')")
             found = page.after(f"{button}.click()")
             expect("Unknown" not in found["verdict"] and found["refused"] is None, f"{line}: {found['verdict']}")
-            contrary = " is kept" if line.endswith("the limit is not kept") else " is not kept"
+            contrary = " is kept, " if line.endswith("the limit is not kept") else " is not kept"
             expect(contrary not in found["verdict"], f"{line}: {found['verdict']}")
             if name == "ending-start":
                 last = int(re.search(r"in ([\d.]+)", page.browser.value("textOf('trace-state')"))[1].replace(".", ""))
