@@ -22,6 +22,7 @@ export class WindowsView {
     this.inspector = new Inspector(this.plot, byId("windows-readout"), "Windows", byId("windows-take"));
     this.choose = choose;
     this.counted = {};
+    this.bars = {};
     this.held = {};
     this.filled = {};
     this.axis = null;
@@ -35,31 +36,44 @@ export class WindowsView {
     times.add(this.plot, this.inspector, () => this.axis && { axis: this.axis, from: 0, ticks: 1 });
   }
 
-  /** Counts the windows of a trace, if the trace or their length is another one. */
-  async count(trace, { window: length, sample }) {
-    const { counted } = this;
-    if (counted.trace !== trace || counted.length !== length) {
-      const windows = await trace.windows({ ...PLAIN, window: length });
-      this.counted = { trace, length, windows };
+  /**
+   * Counts the windows of a trace, if the trace or their length is another one. Their bars are made in a task of their
+   * own, so that none takes long.
+   */
+  async count(trace, settings) {
+    const { window: length, sample } = settings;
+    const isSample = sample !== null && sample.whole > sample.part;
+    if (this.counted.trace !== trace || this.counted.length !== length) {
+      const counted = { trace, length, windows: await trace.windows({ ...PLAIN, window: length }) };
+      await nextTask();
+      this.barsOf(counted, settings, isSample);
+      await nextTask();
+      this.counted = counted;
     }
-    this.isSample = sample !== null && sample.whole > sample.part;
+    this.isSample = isSample;
   }
 
-  /** The picture, drawn again only if something of the bars has changed; the marks in it are of a prediction. */
-  partsOf(settings) {
-    const { trace, windows, length } = this.counted;
+  /** The bars of windows, made again only if something of them has changed. */
+  barsOf({ trace, windows, length }, settings, isSample) {
     const width = widthOf(this.plot);
     const tick = settings.tick.amount || 1;
-    const key = JSON.stringify([width, tick, this.times.range, this.isSample]);
-    if (this.held.windows !== windows || this.held.key !== key) {
+    const key = JSON.stringify([width, tick, this.times.range, isSample]);
+    if (this.bars.windows !== windows || this.bars.key !== key) {
       const axis = traceAxis(width, trace.sizes, length, this.times.range);
-      const { panel, drawn, parts, above } = windowParts(axis, windows, length, { tick, isSample: this.isSample });
-      const marks = svg("g");
-      this.held = { windows, key, axis, panel, marks, tick };
-      this.plot.replaceChildren(windowsPicture(width, [...parts, marks, ...above]));
-      this.inspector.hold(this.lookAt({ axis, panel, drawn }, windows, settings));
+      this.bars = { windows, key, width, tick, axis, ...windowParts(axis, windows, length, { tick, isSample }) };
     }
-    return this.held;
+    return this.bars;
+  }
+
+  /** The picture, drawn again only if its bars are others; the marks in it are of a prediction. */
+  partsOf(settings) {
+    const bars = this.barsOf(this.counted, settings, this.isSample);
+    if (this.held.bars !== bars) {
+      this.held = { bars, marks: svg("g") };
+      this.plot.replaceChildren(windowsPicture(bars.width, [...bars.parts, this.held.marks, ...bars.above]));
+      this.inspector.hold(this.lookAt(bars, settings));
+    }
+    return { ...bars, marks: this.held.marks };
   }
 
   /** Draws the windows that were counted, and on them a prediction if there is one. The table is filled apart. */
@@ -76,7 +90,7 @@ export class WindowsView {
     this.axis = axis;
   }
 
-  lookAt({ axis, panel, drawn }, windows, settings) {
+  lookAt({ axis, panel, drawn, windows }, settings) {
     const { length } = this.counted;
     const scale = { tick: amountOf(settings.tick), isSample: this.isSample };
     const tickOf = (at) => Math.max(axis.first, windows.number[drawn[at].row] * length);
@@ -102,12 +116,13 @@ export class WindowsView {
   /** The windows as a file, with times by the tick that is drawn. */
   file() {
     const { windows, length } = this.counted;
-    return windowsFile(windows, length, { tick: BigInt(this.held.tick) });
+    return windowsFile(windows, length, { tick: BigInt(this.held.bars.tick) });
   }
 
   /** Whether the table is open, and has to say something else. */
   isToFill() {
-    const { counted: { windows }, held: { tick }, filled, isSample } = this;
+    const { counted: { windows }, held: { bars }, filled, isSample } = this;
+    const tick = bars?.tick;
     const isOther = filled.windows !== windows || filled.tick !== tick || filled.isSample !== isSample;
     return this.details.open && Boolean(windows) && isOther;
   }
@@ -123,7 +138,7 @@ export class WindowsView {
   /** Fills the table, if it has to say something else. */
   fill() {
     if (this.isToFill()) {
-      const { counted: { windows, length }, held: { tick }, isSample } = this;
+      const { counted: { windows, length }, held: { bars: { tick } }, isSample } = this;
       this.filled = { windows, tick, isSample };
       byId("windows-table").replaceChildren(windowsTable(windows, length, { tick: BigInt(tick), isSample }));
     }
