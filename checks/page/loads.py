@@ -139,13 +139,12 @@ def cancel_starts(page):
       button.click();
       const progress = document.getElementById("starts-progress");
       while (!progress.value) { await new Promise((resume) => setTimeout(resume, 5)); }
-      const begun = performance.now();
+      const since = performance.now();
       button.click();
-      await after(() => {
-        document.getElementById("control-rounds").value = "7";
-        document.getElementById("control-rounds").dispatchEvent(new Event("input"));
-      });
-      return (performance.now() - begun) / 1000;
+      document.getElementById("control-rounds").value = "7";
+      document.getElementById("control-rounds").dispatchEvent(new Event("input"));
+      while (begun < since) { await new Promise((resume) => setTimeout(resume, 5)); }
+      return (performance.now() - since) / 1000;
     })()"""
     )
 
