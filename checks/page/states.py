@@ -136,6 +136,13 @@ def what_is_enough(page):
     expect(len(page.enough()) == 4, f"enough: {page.enough()}")
 
 
+def uncertain(page):
+    """A limit that is kept in each redraw and from each start, but not with two standard errors."""
+    open_with(page, "#trace=sqlite&link=64MiB&first=50&downtime=150ms&start=1000")
+    keep(page)
+    expect(typed(page, "downtime", "10")["mark"] == ["mark", "Uncertain"], "a verdict near its limit is sure")
+
+
 def warm_start(page):
     """A warm start, nearer, with ticks, after a click that has moved the start."""
     open_with(page, "#trace=sqlite&start=20000&base=15000&ticks=1&skip=1")
@@ -193,6 +200,7 @@ STATES = {
     "refused-first": refused_first,
     "missed": missed_limit,
     "enough": what_is_enough,
+    "uncertain": uncertain,
     "warm": warm_start,
     "short": nothing_fits,
     "ended": ended_worker,
