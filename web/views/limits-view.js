@@ -70,7 +70,7 @@ export class LimitsView {
     this.isAwaited = prediction !== null && remedies === undefined;
     const isMissed = Boolean(prediction && remedies && !remedies.isKept);
     const amounts = isMissed ? this.amountWords(trace, prediction, remedies) : [];
-    tellIn(byId("enough-words"), amounts.length > 0 ? `Enough: ${amounts.join(" or ")}` : "What is enough");
+    tellIn(byId("enough-words"), amounts.length > 0 ? `Enough by the plan: ${amounts.join(" or ")}` : "What is enough");
     this.renew(() => (prediction ? this.answerParts(trace, prediction, remedies) : []));
   }
 
