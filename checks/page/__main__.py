@@ -3,7 +3,7 @@
     checks/run page [--seed N] [--only PART] [--pictures FOLDER] [--module MODULE] [PRECOPY]
 
 MODULE is the WebAssembly module, by default out/browser_planner.wasm, which `make page` builds; if it is missing,
-dev/page-module builds it. The page is joined from web/. Numbers that it shows for 400 random settings over 20 traces
+dev/page-module builds it. The page is joined from web/. Numbers that it shows for 440 random settings over 20 traces
 must be those of `precopy report`, which are a model's, and of `precopy sweep`; the words that it gives for
 `precopy-view predict` and `when` ask for the same; each verdict is as sure as that tells it; what a click takes as
 enough for the limit keeps it. Each damage of

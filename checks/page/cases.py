@@ -16,7 +16,7 @@ from checks.view.limit_cases import RATES, Known
 from precopy_dev.models import redrawn
 
 TRACES = ["a.pcwt", "gzip.pcwt", "released.pcwt", "guests/mid.light.pcwt", "guests/sqlite.light.pcwt"]
-SHAPES, SETTINGS = 15, 20
+SHAPES, SETTINGS, NEAR = 15, 20, 8
 # The controls of limits, by the library's numbers of their refusals.
 CONTROLS = {84: "link", 85: "first", 86: "reserve", 87: "downtime"}
 # Of how many pages the standard errors, and what is enough for the limit, are worked out here too.
@@ -124,6 +124,21 @@ class Asked:
 
     def case(self):
         return case_word(self.settings())
+
+
+class Near(Asked):
+    """Settings at which chance or the start may decide: a link over which all pages go ten to a thousand times while
+    the trace lasts, and a limit for few of them."""
+
+    def _link(self, draw):
+        rate = 1_000 * self.known.pages / (self.known.last + 1) * 10 ** draw.uniform(1, 3)
+        size = rate * 1_000 * self.page * self.guest / self.sampled / self.tick
+        count = max(1, round(size / RATES["Kbit"]))
+        return count * RATES["Kbit"], f"{count}Kbit"
+
+    def _times(self, draw):
+        ticks = int(self.known.pages * 10 ** draw.uniform(-2.5, 0) * 1_000 / max(1, self.rate(self.link[0])))
+        return ticks * self.tick, 0
 
 
 # ---- What the page says of a plan.
@@ -394,7 +409,8 @@ def tries(folder):
     """Random settings over the examples and over traces of other shapes, trace by trace."""
     for name in TRACES:
         known = Known(example(name))
-        yield known, [Asked(draw, known) for draw in drawn(f"settings over {name}", range(SETTINGS))]
+        some = [Asked(draw, known) for draw in drawn(f"settings over {name}", range(SETTINGS))]
+        yield known, some + [Near(draw, known) for draw in drawn(f"settings near a turn over {name}", range(NEAR))]
     corners = list(filter(shapes.has_write, shapes.corners()))
     for draw in drawn("settings over a shape", range(SHAPES)):
         is_corner = draw.number < len(corners)

@@ -62,7 +62,7 @@ def sure_of(asked, document):
 # The verdicts on those settings of which the page's were compared.
 COMPARED = []
 # How many of them there must be of each.
-LEAST = {"yes": 60, "no": 20, "uncertain": 10, "unknown": 20}
+LEAST = {"yes": 60, "no": 3, "uncertain": 6, "unknown": 20}
 
 
 def mark_of(sure, sends_some):
