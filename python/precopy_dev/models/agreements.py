@@ -5,8 +5,8 @@ It shares no code with the crate. The numbers in the crate's tests come from her
 
 from typing import NamedTuple
 
-from precopy_dev.models.redrawn import Outcome, draws, errors, planned
-from precopy_dev.models.remedies import Trial, last_tick, settings
+from precopy_dev.models.courses import Course, Record, errors
+from precopy_dev.models.remedies import Trial, course, downtime, settings
 
 
 class Counts(NamedTuple):
@@ -25,13 +25,9 @@ class Agreement(NamedTuple):
     starts: Counts
 
 
-def downtime(trial: Trial, plan: Outcome) -> int:
-    return plan.down * trial.scale.tick + trial.limits.reserve
-
-
-def counts(trial: Trial, plans: list[Outcome], last: int) -> Counts:
-    known = [plan for plan in plans if plan.stop <= last]
-    converging = [plan for plan in known if plan.reason == "few"]
+def counts(record: Record, trial: Trial, plans: list[Course]) -> Counts:
+    known = [plan for plan in plans if plan.stop <= record.last]
+    converging = [plan for plan in known if plan.ending == "few"]
     kept = [plan for plan in known if downtime(trial, plan) <= trial.limits.downtime]
     return Counts(len(plans), len(known), len(converging), len(kept))
 
@@ -40,26 +36,25 @@ def is_sampled(trial: Trial) -> bool:
     return 2 <= trial.scale.sampled < trial.scale.guest and trial.scale.sampled <= 65_536
 
 
-def draw_counts(guest: list[list[int]], trial: Trial) -> Counts | None:
+def draw_counts(record: Record, trial: Trial) -> Counts | None:
     if not is_sampled(trial):
         return None
-    made = settings(trial)
-    redrawn = [[guest[page] for page in drawn] for drawn in draws(trial.scale.sampled, len(guest))]
-    return counts(trial, [planned(pages, made) for pages in redrawn], last_tick(guest))
+    return counts(record, trial, record.redrawn(settings(trial), trial.scale, trial.manner))
 
 
-def start_counts(guest: list[list[int]], trial: Trial) -> Counts:
+def start_counts(record: Record, trial: Trial) -> Counts:
     """From the copy at the destination, or else tick 0, on: each twentieth of what is left of the trace, rounded up."""
-    made, last = settings(trial), last_tick(guest)
-    first = trial.others.base or 0
-    every = max(1, -(-(last - first) // 20))
-    starts = range(first, max(first, last) + 1, every)
-    found = counts(trial, [planned(guest, made._replace(start=start)) for start in starts], last)
+    made, first = settings(trial), trial.others.base or 0
+    every = max(1, -(-(record.last - first) // 20))
+    starts = range(first, max(first, record.last) + 1, every)
+    plans = [record.course(made._replace(start=start), trial.scale, trial.manner) for start in starts]
+    found = counts(record, trial, plans)
     return found._replace(whole=found.known)
 
 
 def agreement(guest: list[list[int]], trial: Trial) -> Agreement:
-    return Agreement(draw_counts(guest, trial), start_counts(guest, trial))
+    record = Record(guest)
+    return Agreement(draw_counts(record, trial), start_counts(record, trial))
 
 
 def agrees(found: Agreement, name: str, answer: str) -> bool:
@@ -77,20 +72,18 @@ def sure(found: Agreement, name: str, answer: str) -> str:
 
 
 def converges(guest: list[list[int]], trial: Trial, found: Agreement) -> str:
-    plan = planned(guest, settings(trial))
-    if plan.stop > last_tick(guest):
-        return "unknown"
-    return sure(found, "converging", "yes" if plan.reason == "few" else "no")
+    record = Record(guest)
+    return sure(found, "converging", record.verdict(course(record, trial)))
 
 
 def kept(guest: list[list[int]], trial: Trial, found: Agreement) -> str:
     """A limit is kept for sure with two standard errors of the downtime."""
-    made = settings(trial)
-    plan, limit = planned(guest, made), trial.limits.downtime
-    if plan.stop > last_tick(guest):
+    record = Record(guest)
+    plan, limit = course(record, trial), trial.limits.downtime
+    if plan.stop > record.last:
         return "unknown"
     down = downtime(trial, plan)
-    error = errors(guest, made, trial.scale)[2] if is_sampled(trial) else 0
+    error = errors(guest, settings(trial), trial.scale, trial.manner)[2] if is_sampled(trial) else 0
     if down <= limit < down + 2 * error:
         return "uncertain"
     return sure(found, "kept", "yes" if down <= limit else "no")

@@ -1,10 +1,12 @@
-"""Plans of a hypervisor, as `crates/migration_model/specs/Looks.antt` defines them: page by page, question by question.
+"""Plans of a hypervisor, as `crates/migration_model/specs/Looks.antt` defines them: page by page.
 
 It shares no code with the crate `look_planner`. The numbers in that crate's rows come from here.
 """
 
-from typing import Iterator, NamedTuple, Optional
+from bisect import bisect_left
+from typing import NamedTuple, Optional
 
+# The ticks and the pages of what is written, in order.
 Touches = list[tuple[int, int]]
 
 
@@ -53,22 +55,20 @@ def sent_in(pages: int, ticks: int, rate: int) -> int:
     return min(pages, rate * ticks // 1_000)
 
 
-def questions(pages: int, settings: Settings) -> Iterator[int]:
-    """The ticks after a list began at which the hypervisor asks, in order, until all pages are sent."""
-    whole = duration(pages, settings.rate)
-    if settings.window:
-        yield from range(settings.window, whole, settings.window)
-    yield whole
-
-
 def look_after(pages: int, settings: Settings) -> int:
-    """How many ticks after a list began the hypervisor looks: the first time that it asks and few are left."""
-    asked = questions(pages, settings)
-    return next(ticks for ticks in asked if pages - sent_in(pages, ticks, settings.rate) < settings.threshold)
+    """How many ticks after a list began the hypervisor looks: the first time that it asks and few are left. It asks at
+    the end of each window, and when all pages are sent."""
+    whole = duration(pages, settings.rate)
+    if not settings.window:
+        return whole
+    few = duration(max(0, pages - settings.threshold + 1), settings.rate)
+    windows = max(1, -(-few // settings.window))
+    return min(windows * settings.window, whole)
 
 
 def written(touches: Touches, start: int, stop: int) -> set[int]:
-    return {page for tick, page in touches if start <= tick < stop}
+    first, end = bisect_left(touches, (start,)), bisect_left(touches, (stop,))
+    return {page for _, page in touches[first:end]}
 
 
 def first_pages(pages: int, touches: Touches, settings: Settings) -> list[int]:

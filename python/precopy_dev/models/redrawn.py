@@ -5,7 +5,7 @@ It shares no code with the crate. The numbers in the crate's tests come from her
 
 import bisect
 import math
-from typing import NamedTuple
+from typing import NamedTuple, Protocol, Sequence
 
 PLANS = 20
 MULTIPLIER, INCREMENT = 6364136223846793005, 1442695040888963407
@@ -119,14 +119,27 @@ def spread(numbers: list[int]) -> int:
     return len(numbers) * sum(n * n for n in numbers) - sum(numbers) ** 2
 
 
-def errors(guest: list[list[int]], asked: Settings, scale: Scale) -> tuple[int, int, int]:
-    """The standard errors of bytes, time and downtime, in bytes and microseconds."""
-    outcomes = [planned([guest[page] for page in drawn], asked) for drawn in draws(scale.sampled, len(guest))]
+class HasSums(Protocol):
+    """What a plan comes to, by rounds or by looks."""
+
+    stop: int
+    down: int
+    total: int
+
+
+def errors_of(plans: Sequence[HasSums], start: int, scale: Scale) -> tuple[int, int, int]:
+    """The standard errors of bytes, time and downtime of the plans of the draws, in bytes and microseconds."""
     weight, left = PLANS * (PLANS - 1), scale.guest - scale.sampled
 
     def micros(ticks: list[int]) -> int:
         return root_above(spread([scale.tick * n for n in ticks]) * left, weight * scale.guest)
 
-    sent = root_above(spread([o.total for o in outcomes]) * left * scale.guest, weight * scale.sampled**2)
-    time = micros([o.stop - asked.start + o.down for o in outcomes])
-    return sent * scale.page, time, micros([o.down for o in outcomes])
+    sent = root_above(spread([plan.total for plan in plans]) * left * scale.guest, weight * scale.sampled**2)
+    time = micros([plan.stop - start + plan.down for plan in plans])
+    return sent * scale.page, time, micros([plan.down for plan in plans])
+
+
+def errors(guest: list[list[int]], asked: Settings, scale: Scale) -> tuple[int, int, int]:
+    """The standard errors of a plan of rounds."""
+    plans = [planned([guest[page] for page in drawn], asked) for drawn in draws(scale.sampled, len(guest))]
+    return errors_of(plans, asked.start, scale)

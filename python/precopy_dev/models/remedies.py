@@ -6,7 +6,8 @@ It shares no code with the crate. The numbers in the crate's tests come from her
 
 from typing import NamedTuple
 
-from precopy_dev.models.redrawn import Outcome, Scale, Settings, planned
+from precopy_dev.models.courses import Course, Manner, Record
+from precopy_dev.models.redrawn import Scale, Settings
 
 MOST = 2**64 - 1
 
@@ -31,11 +32,12 @@ class Others(NamedTuple):
 
 
 class Trial(NamedTuple):
-    """A migration that is tried."""
+    """A migration that is tried, and by whose plan it goes."""
 
     scale: Scale
     limits: Limits
     others: Others
+    manner: Manner = Manner.ROUNDS
 
 
 class Ending(NamedTuple):
@@ -63,7 +65,7 @@ def rate(scale: Scale, link: int) -> int:
 
 def settings(trial: Trial) -> Settings | None:
     """The settings that limits make, if they are in range."""
-    scale, limits, others = trial
+    scale, limits, others, _ = trial
     if not (1 <= scale.tick <= 1_000_000 and limits.link <= MOST and limits.downtime <= MOST):
         return None
     most = rate(scale, limits.link)
@@ -78,25 +80,28 @@ def settings(trial: Trial) -> Settings | None:
     return Settings(least, most, increment, threshold, others.rounds, others.start, others.skip, others.base)
 
 
-def ends_well(trial: Trial, plan: Outcome, last: int) -> bool:
-    downtime = plan.down * trial.scale.tick + trial.limits.reserve
-    return plan.reason == "few" and plan.stop <= last and downtime <= trial.limits.downtime
-
-
-def last_tick(guest: list[list[int]]) -> int:
-    return max((ticks[-1] for ticks in guest if ticks), default=0)
-
-
-def keeps(guest: list[list[int]], trial: Trial) -> bool:
-    """Whether a trial keeps its limit, over a guest of which it is known when each page is written."""
+def course(record: Record, trial: Trial) -> Course | None:
+    """What the plan of a trial comes to, if its limits make settings."""
     made = settings(trial)
-    return made is not None and ends_well(trial, planned(guest, made), last_tick(guest))
+    return made and record.course(made, trial.scale, trial.manner)
 
 
-def ends(guest: list[list[int]], trial: Trial) -> bool:
+def downtime(trial: Trial, plan: Course) -> int:
+    return plan.down * trial.scale.tick + trial.limits.reserve
+
+
+def keeps(record: Record, trial: Trial) -> bool:
+    """Whether a trial keeps its limit."""
+    plan = course(record, trial)
+    if plan is None or plan.stop > record.last:
+        return False
+    return plan.ending == "few" and downtime(trial, plan) <= trial.limits.downtime
+
+
+def ends(record: Record, trial: Trial) -> bool:
     """Whether a trial ends within the trace."""
-    made = settings(trial)
-    return made is not None and planned(guest, made).stop <= last_tick(guest)
+    plan = course(record, trial)
+    return plan is not None and plan.stop <= record.last
 
 
 def with_link(trial: Trial, kbit: int) -> Trial:
@@ -149,23 +154,25 @@ def kbit_of(trial: Trial) -> int:
     return -(-trial.limits.link // 125)
 
 
-def ending(guest: list[list[int]], trial: Trial) -> Ending:
+def ending_of(record: Record, trial: Trial) -> Ending:
     """What ends a migration within the trace, if it does not."""
-    if ends(guest, trial):
+    if ends(record, trial):
         return Ending(True)
-    link = least(lambda n: ends(guest, with_link(trial, n)), kbit_of(trial))
-    back = between(min(trial.others.start, last_tick(guest)), trial.others.base or 0)
-    found = near_turn(lambda n: ends(guest, with_start(trial, n)), False, back)
+    link = least(lambda n: ends(record, with_link(trial, n)), kbit_of(trial))
+    back = between(min(trial.others.start, record.last), trial.others.base or 0)
+    found = near_turn(lambda n: ends(record, with_start(trial, n)), False, back)
     return Ending(False, link, found and found[1])
 
 
 def remedies(guest: list[list[int]], trial: Trial) -> Remedies:
-    is_kept = keeps(guest, trial)
-    slower = None if is_kept else turn(lambda n: keeps(guest, slowed(trial, n)), False, list(range(100, 0, -5)))
+    """What would keep the limit, over a guest of which it is known when each page is written."""
+    record = Record(guest)
+    is_kept = keeps(record, trial)
+    slower = None if is_kept else turn(lambda n: keeps(record, slowed(trial, n)), False, list(range(100, 0, -5)))
     return Remedies(
         is_kept,
-        least(lambda n: keeps(guest, with_link(trial, n)), kbit_of(trial)),
-        least(lambda n: keeps(guest, with_downtime(trial, n)), trial.limits.downtime),
+        least(lambda n: keeps(record, with_link(trial, n)), kbit_of(trial)),
+        least(lambda n: keeps(record, with_downtime(trial, n)), trial.limits.downtime),
         slower[1] if slower else None,
-        ending(guest, trial),
+        ending_of(record, trial),
     )

@@ -6,8 +6,8 @@ It shares no code with the crate. The numbers in the crate's tests come from her
 
 from typing import NamedTuple
 
-from precopy_dev.models.redrawn import planned
-from precopy_dev.models.remedies import Trial, last_tick, settings
+from precopy_dev.models.courses import Record
+from precopy_dev.models.remedies import Trial, course
 
 
 class LinkShare(NamedTuple):
@@ -26,19 +26,16 @@ def over_share(trial: Trial, percent: int) -> Trial:
     return trial._replace(limits=limits._replace(link=link, first=first))
 
 
-def verdict(guest: list[list[int]], trial: Trial) -> str:
-    """Whether a trial converges, over a guest of which it is known when each page is written."""
-    made = settings(trial)
-    if made is None:
-        return "no"
-    plan = planned(guest, made)
-    if plan.stop > last_tick(guest):
-        return "unknown"
-    return "yes" if plan.reason == "few" else "no"
+def verdict(record: Record, trial: Trial) -> str:
+    """Whether a trial converges."""
+    plan = course(record, trial)
+    return "no" if plan is None else record.verdict(plan)
 
 
 def link_share(guest: list[list[int]], trial: Trial) -> LinkShare:
-    whole = verdict(guest, over_share(trial, 100))
-    tried = ((percent, verdict(guest, over_share(trial, percent))) for percent in range(99, 49, -1))
+    """The shares, over a guest of which it is known when each page is written."""
+    record = Record(guest)
+    whole = verdict(record, over_share(trial, 100))
+    tried = ((percent, verdict(record, over_share(trial, percent))) for percent in range(99, 49, -1))
     turned = next(((percent, told) for percent, told in tried if told != whole), None)
     return LinkShare(whole, turned[0] + 1, turned[1]) if turned else LinkShare(whole, 50, None)
