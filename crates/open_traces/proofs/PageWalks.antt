@@ -1,15 +1,16 @@
 -- A page on the way along its own writes.
-use Rattle.std.proofs.Common.{◌≡◌, ◌≢◌, ◌⊎◌, ℕ, suc, ◌+◌, ◌-◌, ◌^◌, ◌<◌, ◌≤◌, Bool, true, false, cond, leb, ltb, eqb}
+use Rattle.std.proofs.Common.{◌≡◌, ◌≢◌, ◌⊎◌, ◌↔◌, IsTrue, ℕ, suc, ◌+◌, ◌-◌, ◌^◌, ◌<◌, ◌≤◌, Bool, true, false, cond, leb, ltb, eqb}
 use Rattle.std.proofs.Common.{List}
 use Rattle.std.proofs.Common.{[], ◌∷◌, ◌++◌, length, map, take, drop, get_or, max, replicate, set, inl, inr, refl, sym}
 use Rattle.std.proofs.Common.{ap, subst, ◌∙◌, arith}
 use Rattle.std.specs.List.{All, filter, fold, range_with_len}
-use Rattle.std.proofs.lemmas.Bool.{cases_eq, cond-true, cond-false, cond_both, eq-eqb, eqb-true, le-leb, lt-leb, ne_eqb}
+use Rattle.std.proofs.lemmas.Bool.{cases_eq, cases_lt, cond-true, cond-false, cond_both, eq-eqb, eqb-true}
+use Rattle.std.proofs.lemmas.Bool.{le-leb, le-ltb, lt-leb, lt-ltb, ltb-true, ne_eqb}
 use Rattle.std.proofs.lemmas.List.{drop-drop, get_or-drop, get_or-map, get_or-set_other, get_or-set_same}
 use Rattle.std.proofs.lemmas.List.{get_or_default}
 use Rattle.std.proofs.lemmas.List.{append-nil, get_or-replicate, length-drop, length-map, length-replicate, length-set}
 use Rattle.std.proofs.lemmas.List.{same_lists}
-use Rattle.std.proofs.lemmas.List.{length-take-le, take_all, take_more}
+use Rattle.std.proofs.lemmas.List.{length-take, length-take-le, take_all, take_more}
 use Rattle.std.proofs.lemmas.List.Sums.{fold-append}
 use Rattle.std.proofs.lemmas.List.Elements.{All-head, All-nil, All-tail, All-weaker}
 use Rattle.std.proofs.lemmas.List.FromFn.{get_or-range_with_len, length-range_with_len}
@@ -196,17 +197,13 @@ pub record Turned (trace : GuestTrace) (page count version next : ℕ) (bytes : 
   pub is : next ≡ next_after trace page version
   pub bytes_are : bytes ≡ page_at trace page version
 
-pub Turned-none : (trace : GuestTrace) (page count next : ℕ) (room bytes : List ℕ) → page < trace.pages
-    → next ≡ next_after trace page 0 → length room ≡ 2 ^ trace.shift → bytes ≡ replicate (length room) 0
-    → Turned trace page count 0 next bytes
-Turned-none trace page count next room bytes low is size zeros = record {
-  within = omega arith;
-  early = omega arith;
-  is = is;
-  bytes_are = zeros ∙ ap (λ (n : ℕ). replicate n 0) size
-      ∙ sym (page_replayed trace.version trace.shift trace.pages [] page low
-      (All-nil (IsGuestWrite trace.version trace.shift trace.pages)));
-}
+-- before its first write a page is zeros
+pub zeros_first : (trace : GuestTrace) (page : ℕ) (room bytes : List ℕ) → page < trace.pages
+    → length room ≡ 2 ^ trace.shift → bytes ≡ replicate (length room) 0 → bytes ≡ page_at trace page 0
+zeros_first trace page room bytes low size zeros =
+    zeros ∙ ap (λ (n : ℕ). replicate n 0) size
+    ∙ sym (page_replayed trace.version trace.shift trace.pages [] page low
+    (All-nil (IsGuestWrite trace.version trace.shift trace.pages)))
 
 pub Turned-len : (trace : GuestTrace) (page count version next : ℕ) (bytes : List ℕ) → IsTrace trace
     → page < trace.pages
@@ -325,6 +322,172 @@ version_all trace page count place all low =
     ∙ ap (λ (l : List GuestWrite). fold max 0 (from q 1 l))
     (take_all place trace.writes (omega (arith, all)) ∙ sym (take_all count trace.writes (omega (arith, all, low))))
     ∙ sym (version_is trace page count)
+
+-- one version later: the stamp itself, if that write is to the page
+version_step : (trace : GuestTrace) (page stamp : ℕ) → 1 ≤ stamp → stamp ≤ length trace.writes
+    → version_after trace page stamp
+    ≡ cond (eqb (get_or trace.writes (stamp - 1) no_write).page page) stamp (version_after trace page (stamp - 1))
+version_step trace page stamp some low =
+    let write : GuestWrite = get_or trace.writes (stamp - 1) no_write in
+    let inside : stamp - 1 < length trace.writes = omega (arith, some, low) in
+    let next : stamp - 1 + 1 ≡ stamp = omega (arith, some) in
+    sym (ap (version_after trace page) next)
+    ∙ version_next trace page (stamp - 1) write inside (get_or_default trace.writes (stamp - 1) no_write write inside)
+    ∙ ap (λ (n : ℕ). cond (eqb write.page page) n (version_after trace page (stamp - 1))) next
+
+-- a version comes after no more writes than it is of
+version_bounds : (trace : GuestTrace) (page count : ℕ)
+    → (version_after trace page count ≤ count) × (version_after trace page count ≤ length trace.writes)
+version_bounds trace page count =
+    let q : GuestWrite → Bool = λ w. eqb w.page page in
+    let front : List GuestWrite = take count trace.writes in
+    let low : (most : ℕ) → length front ≤ most → version_after trace page count ≤ most = λ most long.
+    subst (λ (v : ℕ). v ≤ most) (sym (version_is trace page count))
+    (greatest_low 0 most (from q 1 front) (omega arith)
+    (All-weaker (λ (v : ℕ). (1 ≤ v) × (v < 1 + length front)) (λ (v : ℕ). v ≤ most)
+    (λ v b. omega (arith, b.1, long)) (from q 1 front) (bounds q 1 front))) in (
+      low count (omega (arith, length-take count trace.writes)),
+      low (length trace.writes) (omega (arith, length-take count trace.writes)),
+    )
+
+pub version_within : (trace : GuestTrace) (page version : ℕ) → version ≡ version_after trace page version
+    → version ≤ length trace.writes
+version_within trace page version is = omega (arith, is, (version_bounds trace page version).1)
+
+pub version_first : (trace : GuestTrace) (page stamp : ℕ) → stamp ≡ 0 → stamp ≡ version_after trace page stamp
+version_first trace page stamp none =
+    let low = (version_bounds trace page stamp).0 in
+    omega (arith, none, low)
+
+-- the place of a write to the page is a version of it
+pub version_own : (trace : GuestTrace) (page stamp : ℕ) → 1 ≤ stamp → stamp ≤ length trace.writes
+    → (get_or trace.writes (stamp - 1) no_write).page ≡ page → stamp ≡ version_after trace page stamp
+version_own trace page stamp some low own =
+    let write : GuestWrite = get_or trace.writes (stamp - 1) no_write in
+    sym (version_step trace page stamp some low
+    ∙ cond-true (eqb write.page page) stamp (version_after trace page (stamp - 1)) (eq-eqb write.page page own))
+
+-- and no other place is
+pub version_to : (trace : GuestTrace) (page stamp : ℕ) → 1 ≤ stamp → stamp ≤ length trace.writes
+    → stamp ≡ version_after trace page stamp → (get_or trace.writes (stamp - 1) no_write).page ≡ page
+version_to trace page stamp some low is =
+    let write : GuestWrite = get_or trace.writes (stamp - 1) no_write in
+    elim (cases_eq write.page page) [
+      | inl own ↦ own
+      | inr other ↦
+          let before = (version_bounds trace page (stamp - 1)).0 in
+          let same : stamp ≡ version_after trace page (stamp - 1) = is ∙ version_step trace page stamp some low
+          ∙ cond-false (eqb write.page page) stamp (version_after trace page (stamp - 1))
+          (ne_eqb write.page page other) in
+          absurd (omega (arith, some, same, before))
+    ]
+
+pub version_tells : (trace : GuestTrace) (page stamp own : ℕ) → 1 ≤ stamp → stamp ≤ length trace.writes
+    → own ≡ (get_or trace.writes (stamp - 1) no_write).page
+    → IsTrue (eqb own page) ↔ (stamp ≡ version_after trace page stamp)
+version_tells trace page stamp own some low own_is = (
+  λ same. version_own trace page stamp some low (sym own_is ∙ eqb-true own page same),
+  λ is. eq-eqb own page (own_is ∙ version_to trace page stamp some low is),
+)
+
+-- ---- from a version on
+
+fold_out : (l : List ℕ) (a v : ℕ) → fold max (max a v) l ≡ max (fold max a l) v
+fold_out [] a v = refl
+fold_out (w ∷ l) a v =
+    let turned : max (max a v) w ≡ max (max a w) v = omega arith in
+    ap (λ (n : ℕ). fold max n l) turned ∙ fold_out l (max a w) v
+
+fold_least : (l : List ℕ) (a : ℕ) → a ≤ fold max a l
+fold_least [] a = omega arith
+fold_least (w ∷ l) a =
+    let rest = fold_least l (max a w) in
+    omega (arith, rest)
+
+-- the greatest of the numbers up to one is that of those up to a lower one, and then of those in between
+fold_between : (low high : ℕ) (l : List ℕ) (a : ℕ) → low ≤ high
+    → fold max (fold max a (filter (λ (v : ℕ). leb v low) l))
+    (filter (λ (v : ℕ). leb v high) (filter (λ (v : ℕ). ltb low v) l))
+    ≡ fold max a (filter (λ (v : ℕ). leb v high) l)
+fold_between low high [] a rise = refl
+fold_between low high (w ∷ l) a rise =
+    let few : List ℕ = filter (λ (v : ℕ). leb v low) l in
+    let past : List ℕ = filter (λ (v : ℕ). ltb low v) l in
+    let many : List ℕ = filter (λ (v : ℕ). leb v high) l in
+    let mid : List ℕ = filter (λ (v : ℕ). leb v high) past in
+    elim (cases_lt low w) [
+      | inl above ↦
+          let out : cond (leb w low) (w ∷ few) few ≡ few = cond-false (leb w low) (w ∷ few) few (lt-leb w low above) in
+          let kept : cond (ltb low w) (w ∷ past) past ≡ w ∷ past =
+          cond-true (ltb low w) (w ∷ past) past (lt-ltb low w above) in
+          (λ i. fold max (fold max a (out i)) (filter (λ (v : ℕ). leb v high) (kept i)))
+          ∙ (elim (cases_lt high w) [
+            | inl over ↦
+                ap (fold max (fold max a few)) (cond-false (leb w high) (w ∷ mid) mid (lt-leb w high over))
+                ∙ fold_between low high l a rise
+                ∙ sym (ap (fold max a) (cond-false (leb w high) (w ∷ many) many (lt-leb w high over)))
+            | inr within ↦
+                ap (fold max (fold max a few)) (cond-true (leb w high) (w ∷ mid) mid (le-leb w high within))
+                ∙ ap (λ (n : ℕ). fold max n mid) (sym (fold_out few a w))
+                ∙ fold_between low high l (max a w) rise
+                ∙ sym (ap (fold max a) (cond-true (leb w high) (w ∷ many) many (le-leb w high within)))
+          ])
+      | inr below ↦
+          let kept : cond (leb w low) (w ∷ few) few ≡ w ∷ few =
+          cond-true (leb w low) (w ∷ few) few (le-leb w low below) in
+          let out : cond (ltb low w) (w ∷ past) past ≡ past =
+          cond-false (ltb low w) (w ∷ past) past (le-ltb low w below) in
+          (λ i. fold max (fold max a (kept i)) (filter (λ (v : ℕ). leb v high) (out i)))
+          ∙ fold_between low high l (max a w) rise
+          ∙ sym (ap (fold max a) (cond-true (leb w high) (w ∷ many) many (le-leb w high (omega (arith, below, rise)))))
+    ]
+
+Reached-from : (trace : GuestTrace) (page version count next : ℕ) → version ≡ version_after trace page version
+    → version ≤ count → next ≡ next_after trace page version → Reached trace page version count next
+Reached-from trace page version count next own low is = record {
+  within = version_within trace page version own;
+  is = is;
+  rest =
+      ap (λ (l : List ℕ). fold max version (filter (λ (v : ℕ). leb v count) l)) (sym (filter_behind trace page version))
+      ∙ ap (λ (n : ℕ). fold max n (filter (λ (v : ℕ). leb v count)
+      (filter (λ (v : ℕ). ltb version v) (places_of trace page)))) own
+      ∙ fold_between version count (places_of trace page) 0 low;
+}
+
+-- a version is the last up to a place if no write to the page comes in between
+pub version_still : (trace : GuestTrace) (page version count next : ℕ) → version ≡ version_after trace page version
+    → version ≤ count → next ≡ next_after trace page version → (next ≡ 0) ⊎ (count < next)
+    → version ≡ version_after trace page count
+version_still trace page version count next own low is end =
+    Reached-all trace page version count next (Reached-from trace page version count next own low is) end
+
+-- and it is not if one does, or if it comes later itself
+pub version_passed : (trace : GuestTrace) (page version count next : ℕ) → version ≡ version_after trace page version
+    → version ≤ count → next ≡ next_after trace page version → next ≢ 0 → next ≤ count
+    → version ≢ version_after trace page count
+version_passed trace page version count next own low is some early same =
+    let before = Reached-from trace page version count next own low is in
+    let later = (IsNext-from trace page version next is some before.within).later in
+    let more = Reached-next trace page version count next (next_after trace page next) before some early refl in
+    let least = fold_least (filter (λ (v : ℕ). leb v count) (behind trace page next)) next in
+    omega (arith, same, later, more.rest, least)
+
+pub version_late : (trace : GuestTrace) (page version count : ℕ) → count < version
+    → version ≢ version_after trace page count
+version_late trace page version count late same =
+    let low = (version_bounds trace page count).0 in
+    omega (arith, late, same, low)
+
+pub still_tells : (trace : GuestTrace) (page version count next : ℕ) → version ≡ version_after trace page version
+    → version ≤ count → next ≡ next_after trace page version → next ≢ 0
+    → IsTrue (ltb count next) ↔ (version ≡ version_after trace page count)
+still_tells trace page version count next own low is some = (
+  λ late. version_still trace page version count next own low is (inr (ltb-true count next late)),
+  λ same. elim (cases_lt count next) [
+    | inl late ↦ lt-ltb count next late
+    | inr early ↦ absurd (version_passed trace page version count next own low is some early same)
+  ],
+)
 
 -- those after the first `place` writes are put
 pub record ArePutTo (trace : GuestTrace) (place : ℕ) (versions : List ℕ) : Type 0 where

@@ -1,67 +1,11 @@
-use Rattle.std.proofs.Common.{inl, inr, ◌∙◌, ap, arith}
-use Rattle.guest_log.specs.Writes.{shown}
-use Rattle.open_traces.specs.Index.{next_after}
-use Rattle.open_traces.proofs.PageWalks.{Turned-all, Turned-is, Turned-len, Turned-next, Turned-none, write_fits}
+use Rattle.std.proofs.Common.{refl}
+use Rattle.open_traces.proofs.PageWalks.{version_first, zeros_first}
 use Rattle.open_traces.proofs.open_trace.OpenTrace.put_page.Goals as goal
 
-pub loop-next-init : goal.loop-next-init
-loop-next-init c = Turned-none c.args.self.now c.args.page c.args.count c.first-next.result c.args.content.now
-    c.fill.new.self c.requires.page c.first-next.ensures c.requires.room (c.fill.ensures.after (λ y is. is))
+pub bring_on-requires-clause-is : goal.bring_on-requires-clause-is
+bring_on-requires-clause-is c = version_first c.args.self.now c.args.page 0 refl
 
-pub write-write-requires : goal.write-write-requires
-write-write-requires c =
-    let at = c.loop-next in
-    let next = Turned-is c.args.self.now c.args.page c.args.count at.version at.next at.content at.invariant
-    c.loop-next-test.true in
-    omega (arith, next.later, next.within)
-
-pub put_at-requires : goal.put_at-requires
-put_at-requires c =
-    let at = c.loop-next in
-    let trace = c.args.self.now in
-    let shape = c.shape-shape in
-    let next = Turned-is trace c.args.page c.args.count at.version at.next at.content at.invariant
-    c.loop-next-test.true in
-    let len = Turned-len trace c.args.page c.args.count at.version at.next at.content shape.ensures.is_trace
-    c.requires.page at.invariant in
-    let fits = write_fits trace at.next (shown c.write-write.result) shape.ensures.is_trace (omega (arith, next.later))
-    next.within c.write-write.ensures in
-    rw shape.ensures.shift (omega (arith, fits, len))
-
-pub next-next-requires-clause-within : goal.next-next-requires-clause-within
-next-next-requires-clause-within c =
-    let at = c.loop-next in
-    (Turned-is c.args.self.now c.args.page c.args.count at.version at.next at.content at.invariant
-    c.loop-next-test.true).within
-
-pub loop-next-smaller : goal.loop-next-smaller
-loop-next-smaller c =
-    let at = c.loop-next in
-    let next = Turned-is c.args.self.now c.args.page c.args.count at.version at.next at.content at.invariant
-    c.loop-next-test.true in
-    omega (arith, next.later, next.within)
-
-pub loop-next-preserved : goal.loop-next-preserved
-loop-next-preserved c =
-    let at = c.loop-next in
-    let trace = c.args.self.now in
-    let shape = c.shape-shape in
-    let next = Turned-is trace c.args.page c.args.count at.version at.next at.content at.invariant
-    c.loop-next-test.true in
-    let puts = rw shape.ensures.shift at c.put_at.ensures in
-    Turned-next trace c.args.page c.args.count at.version at.next c.next-next.result at.content c.put_at.new.bytes
-    (shown c.write-write.result) shape.ensures.is_trace c.requires.page at.invariant c.loop-next-test.true
-    c.if-next-count.true c.write-write.ensures puts
-    (c.next-next.ensures ∙ ap (λ page. next_after trace page at.next) next.own)
-
-pub returns-else-next-count : goal.returns-else-next-count
-returns-else-next-count c =
-    let at = c.loop-next in
-    Turned-all c.args.self.now c.args.page c.args.count at.version at.next at.content c.shape-shape.ensures.is_trace
-    c.requires.page at.invariant (inr (omega (arith, c.if-next-count.false)))
-
-pub returns-after-loop-next : goal.returns-after-loop-next
-returns-after-loop-next c =
-    let at = c.loop-next in
-    Turned-all c.args.self.now c.args.page c.args.count at.version at.next at.content c.shape-shape.ensures.is_trace
-    c.requires.page at.invariant (inl (omega (arith, c.loop-next-test.false)))
+pub bring_on-requires-clause-bytes : goal.bring_on-requires-clause-bytes
+bring_on-requires-clause-bytes c =
+    zeros_first c.args.self.now c.args.page c.args.content.now c.fill.new.self c.requires.page c.requires.room
+    (c.fill.ensures.after (λ y is. is))
