@@ -18,7 +18,7 @@ const UNWRITTEN: PageProgress = PageProgress {
 };
 
 /// Returns whether these are the bytes of a frame's page.
-fn has_bytes(view: &FrameView<'_>, bytes: &[u8]) -> bool
+pub fn has_bytes(view: &FrameView<'_>, bytes: &[u8]) -> bool
     ensures { IsTrue result ↔ (unwrap_or view.now.body (replicate (length bytes.now) 0) ≡ bytes.now) }
 {
     match view.body {

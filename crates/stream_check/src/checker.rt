@@ -58,7 +58,7 @@ fn slots(alloc: Global, pages: usize) -> Result<Vec<Option<u32>>, AllocError>
 }
 
 /// Returns what ends a check of some bytes at this frame of them. If the bytes end within the frame, that is no error.
-fn end_at(fault: FrameFault, number: usize, offset: usize) -> Result<Taken, WrongFrame>
+pub fn end_at(fault: FrameFault, number: usize, offset: usize) -> Result<Taken, WrongFrame>
     ensures part { IfOk result (λ taken. (taken.frames ≡ number) × (taken.bytes ≡ offset)
         × (fault.cause ≡ Refused Short)) }
     ensures wrong { IfErr result (λ found. (fault.cause ≢ Refused Short) × (found.number ≡ number)

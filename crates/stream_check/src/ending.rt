@@ -44,7 +44,7 @@ fn missing_place<W: WriteLog>(
 }
 
 /// Returns the tick of the write at a place, or 0 if the place is 0.
-fn tick_of<W: WriteLog>(trace: &W, place: u32) -> u64
+pub fn tick_of<W: WriteLog>(trace: &W, place: u32) -> u64
     requires { place ≤ length (W.trace trace.now).writes }
     ensures { result ≡ tick_of_place (W.trace trace.now) place }
 {

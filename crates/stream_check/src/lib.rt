@@ -17,7 +17,9 @@ mod streams;
 mod taken;
 mod testing;
 
-pub use checker::StreamChecker;
+pub use bytes::has_bytes;
+pub use checker::{StreamChecker, end_at};
+pub use ending::tick_of;
 pub use error::StreamsError;
 pub use faults::{FrameCause, FrameFault, WrongFrame, WrongPage};
 pub use laws::{

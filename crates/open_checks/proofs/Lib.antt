@@ -1,0 +1,5 @@
+pub mod Pages
+pub mod Words
+pub mod Kept
+pub mod Missing
+pub mod Fronts
