@@ -1,21 +1,15 @@
 -- Flat memory, as frames come to it.
 use Rattle.std.proofs.Common.{◌⊎◌, ◌≡◌, ◌≢◌, ℕ, inl, inr, ◌+◌, ◌*◌, ◌^◌, ◌<◌, ◌≤◌, cond, eqb}
-use Rattle.std.proofs.Common.{List, [], ◌∷◌, ◌++◌, length, get_or, set, take, drop, replicate, Option, Some, None}
+use Rattle.std.proofs.Common.{List, length, get_or, set, take, drop, Option, Some, None}
 use Rattle.std.proofs.Common.{refl, sym, ap, subst, ◌∙◌, arith}
-use Rattle.std.proofs.Math.ListN.{drop_of_length-le}
-use Rattle.std.proofs.Math.Nat.{mul-le-mul_right, one-le-pow}
 use Rattle.std.proofs.lemmas.Bool.{cases_eq, cond-true, cond-false, eq-eqb, ne_eqb}
 use Rattle.std.proofs.lemmas.Grind.{get_or-set_at}
-use Rattle.std.proofs.lemmas.List.{append-nil, ext_get_or, drop-drop, get_or-set_other, length-set, set-get_or}
+use Rattle.std.proofs.lemmas.List.{ext_get_or, drop-drop, get_or-set_other, length-set, set-get_or}
 use Rattle.std.proofs.lemmas.List.{length-drop}
-use Rattle.std.proofs.lemmas.List.Edits.{length-between}
-use Rattle.std.proofs.lemmas.List.Elements.{All-cons, All-nil}
 use Rattle.std.proofs.lemmas.List.FromFn.{get_or-map-range_with_len, length-map-range_with_len}
 use Rattle.migration_model.specs.Frames.{GuestShape, IsFrame, PageFrame, SpellsFrame, content_of}
-use Rattle.migration_model.specs.Memory.{bytes_put, memory_with, page_of, put}
+use Rattle.migration_model.specs.Memory.{put}
 use Rattle.migration_model.specs.Parts.{GuestPart, PageCopy, copy_at, copy_in, later, part_with, with_frame}
-use Rattle.migration_model.specs.Trace.{GuestWrite, IsGuestWrite}
-use Rattle.migration_model.proofs.Pages.{pages_fold}
 use Rattle.migration_model.proofs.Parts.{later_first, later_second, same_copy}
 use Rattle.collector.proofs.Taken.{Takes-more, Takes-nothing, Takes-one}
 use Rattle.c_answers.specs.declared.flat_memory.PageState.{PageState}
@@ -23,71 +17,13 @@ use Rattle.c_answers.specs.declared.flat_memory.StreamTaken.{StreamTaken}
 use Rattle.c_answers.specs.FlatMemory.{AreLater, IsFlat, IsLater, KeepsOthers, TakesFlat, copy_in_state, flat_part}
 use Rattle.c_answers.specs.FlatMemory.{not_come}
 use Rattle.image_build.proofs.Joined.{size_of}
+use Rattle.open_checks.proofs.Pages.{bytes_at, page_put_other, page_put_own}
 
 -- ---- the bytes of pages
 
 pub length-content : (shape : GuestShape) (frame : PageFrame) → IsFrame shape frame
     → length (content_of shape frame) ≡ 2 ^ shape.shift
 length-content shape frame fits = size_of (2 ^ shape.shift) frame.body fits.body
-
-abbrev bytes_at : GuestShape → List ℕ → ℕ → List ℕ
-bytes_at shape bytes page = page_of (memory_with shape.shift shape.pages bytes) page
-
-length-bytes_at : (shape : GuestShape) (bytes : List ℕ) (page : ℕ) → page < shape.pages
-    → length bytes ≡ shape.pages * 2 ^ shape.shift
-    → length (bytes_at shape bytes page) ≡ 2 ^ shape.shift
-length-bytes_at shape bytes page low len =
-    let n = 2 ^ shape.shift in
-    let end : (page + 1) * n ≤ shape.pages * n = mul-le-mul_right n (omega (arith, low)) in
-    length-between bytes (page * n) (page * n + n) (omega (arith, end, len)) ∙ omega arith
-
--- a write of all bytes of a page
-abbrev page_write : ℕ → List ℕ → GuestWrite
-page_write page content = record { tick = 0; page = page; offset = 0; bytes = content }
-
--- a page after the bytes of one are written over memory
-page_put : (shape : GuestShape) (bytes content : List ℕ) (page other : ℕ) → page < shape.pages → other < shape.pages
-    → length bytes ≡ shape.pages * 2 ^ shape.shift → length content ≡ 2 ^ shape.shift
-    → bytes_at shape (put bytes (page * 2 ^ shape.shift) content) other
-    ≡ cond (eqb page other) (put (bytes_at shape bytes other) 0 content) (bytes_at shape bytes other)
-page_put shape bytes content page other low within len whole =
-    let n = 2 ^ shape.shift in
-    let write = page_write page content in
-    let some : 1 ≤ length content = omega (arith, whole, one-le-pow shape.shift 2 (omega arith)) in
-    let fits : IsGuestWrite 1 shape.shift shape.pages write =
-    record { tick = omega arith; page = low; some = inl some; within = omega (arith, whole) } in
-    let own : bytes_put shape.shift write ≡ content =
-    cond-false (eqb (length content) 0) (replicate n 0) content
-    (ne_eqb (length content) 0 (λ is. absurd (omega (arith, is, some)))) in
-    let step = pages_fold 1 shape.shift shape.pages (write ∷ []) bytes other within len
-    (All-cons (IsGuestWrite 1 shape.shift shape.pages) write [] fits
-    (All-nil (IsGuestWrite 1 shape.shift shape.pages))) in
-    let place : page * n ≡ page * n + 0 = omega arith in
-    ap (λ (k : ℕ). bytes_at shape (put bytes k content) other) place
-    ∙ ap (λ (c : List ℕ). bytes_at shape (put bytes (page * n + 0) c) other) (sym own)
-    ∙ step
-    ∙ ap (λ (c : List ℕ). cond (eqb page other) (put (bytes_at shape bytes other) 0 c) (bytes_at shape bytes other)) own
-
-pub page_put_own : (shape : GuestShape) (bytes content : List ℕ) (page : ℕ) → page < shape.pages
-    → length bytes ≡ shape.pages * 2 ^ shape.shift → length content ≡ 2 ^ shape.shift
-    → bytes_at shape (put bytes (page * 2 ^ shape.shift) content) page ≡ content
-page_put_own shape bytes content page low len whole =
-    let old = bytes_at shape bytes page in
-    let none : drop (0 + length content) old ≡ [] =
-    drop_of_length-le old (omega (arith, whole, length-bytes_at shape bytes page low len)) in
-    page_put shape bytes content page page low low len whole
-    ∙ cond-true (eqb page page) (put old 0 content) old (eq-eqb page page refl)
-    ∙ ap (λ (l : List ℕ). content ++ l) none
-    ∙ append-nil content
-
-pub page_put_other : (shape : GuestShape) (bytes content : List ℕ) (page other : ℕ) → page < shape.pages
-    → other < shape.pages → other ≢ page
-    → length bytes ≡ shape.pages * 2 ^ shape.shift → length content ≡ 2 ^ shape.shift
-    → bytes_at shape (put bytes (page * 2 ^ shape.shift) content) other ≡ bytes_at shape bytes other
-page_put_other shape bytes content page other low within apart len whole =
-    page_put shape bytes content page other low within len whole
-    ∙ cond-false (eqb page other) (put (bytes_at shape bytes other) 0 content) (bytes_at shape bytes other)
-    (ne_eqb page other (λ is. apart (sym is)))
 
 -- ---- what a state says about a page
 

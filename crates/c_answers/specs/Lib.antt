@@ -17,3 +17,4 @@ pub mod Pieces
 pub mod PieceRuns
 pub mod Places
 pub mod Opened
+pub mod OpenPieces

@@ -18,6 +18,7 @@ pub mod link_shares;
 pub mod memories;
 pub mod memory_steps;
 pub mod open_answers;
+pub mod open_pieces;
 pub mod opened;
 pub mod page_writes;
 mod piece_laws;

@@ -23,9 +23,10 @@ use crate::checking::{
 use crate::flat_memory::PageState;
 use c_layout::refuse_trace;
 use guest_log::Shape;
+use page_message::FrameError;
 use page_versions::{IndexError, PageIndex};
 use std::alloc::{AllocError, AllocFailed, Global};
-use stream_check::{StreamChecker, Taken, WrongFrame, WrongPage};
+use stream_check::{FrameFault, StreamChecker, Taken, WrongFrame, WrongPage};
 use trace_codec::{TraceError, TraceView, WriteLog};
 use trace_readers::HeldTrace;
 
@@ -115,7 +116,9 @@ fn counted(old: usize, more: usize) -> usize
 
 impl PieceProgress {
     ghost use Rattle.std.specs.Prelude.{◌≡◌};
+    ghost use Rattle.c_answers.specs.PieceRuns.{cut_frame};
     ghost use Rattle.c_answers.specs.Pieces.{gone_on, piece_finding};
+    ghost use Rattle.c_answers.specs.StreamChecks.{frame_finding};
 
     /// Returns how far the stream has come after more frames.
     pub fn after(&self, taken: &Taken) -> PieceProgress
@@ -129,7 +132,7 @@ impl PieceProgress {
     }
 
     /// Returns a wrong frame of a piece as C sees it, counted in its stream.
-    fn finding(&self, found: &WrongFrame) -> StreamFinding
+    pub(crate) fn finding(&self, found: &WrongFrame) -> StreamFinding
         ensures { result ≡ piece_finding self.now found.now }
     {
         let in_stream = WrongFrame {
@@ -138,6 +141,18 @@ impl PieceProgress {
             fault: found.fault,
         };
         finding_of_frame(self.stream, &in_stream)
+    }
+
+    /// Returns the frame that is cut off, as C sees it, where the stream ends and bytes are left.
+    pub fn cut_off(&self) -> StreamFinding
+        ensures { result ≡ frame_finding self.now.stream (cut_frame self.now) }
+    {
+        let cut = WrongFrame {
+            number: self.frames,
+            offset: self.bytes,
+            fault: FrameFault::from(FrameError::Short),
+        };
+        finding_of_frame(self.stream, &cut)
     }
 }
 

@@ -8,6 +8,7 @@
 
 mod migration_plans;
 mod migration_questions;
+mod open_trace_checks;
 mod open_trace_memory;
 mod page_frames;
 mod stream_checks;
