@@ -38,6 +38,7 @@
  * - Only a pointer whose length is 0 may be null. Each other pointer is aligned for its type.
  * - The memory that a pointer and its length describe is there, and all of an input is initialized.
  * - A struct precopy_trace is as precopy_trace_open left it, and so are the bytes and the words that it was given.
+ * - What is lent to precopy_trace_check_piece began as zeros, and no other function changed it. It is of one trace.
  * - What a function writes overlaps nothing else that is passed to it, and no other thread reads or writes it
  *   meanwhile. No thread writes an input meanwhile.
  * - No function is called from a signal handler, nor from the forked child of a process with threads.
@@ -114,7 +115,7 @@ enum precopy_status {
     PRECOPY_SHORT_BUFFER = 61,  /* a buffer is too short for what belongs there */
     PRECOPY_PAGE_LENGTH = 62,   /* the number of bytes is not that of a page */
     PRECOPY_MEMORY_LENGTH = 63, /* the length of memory is not that of all pages */
-    PRECOPY_PAGE_COUNT = 64,    /* there is not a struct precopy_page for each page */
+    PRECOPY_PAGE_COUNT = 64,    /* there is not an element for each page */
     PRECOPY_PAGE_MISSING = 65,  /* a page did not come */
     PRECOPY_STREAM_SIZES = 66,  /* the streams do not have as many bytes as their sizes say */
 
@@ -832,6 +833,38 @@ uint32_t precopy_trace_versions_before(const struct precopy_trace *trace, uint64
 PRECOPY_ANSWERS PRECOPY_NOT_NULL(1)
 uint32_t precopy_trace_page_at(const struct precopy_trace *trace, uint32_t page, uint32_t stamp, uint8_t *content,
                                size_t content_length);
+
+/*
+ * Checks the next bytes of a stream, as precopy_check_piece does, in memory that is lent. It takes none itself, and no
+ * longer than the piece takes. Pieces of several streams may come in any order.
+ *
+ * `last` is the stream's own, and so is *progress, which says its number. All streams share `greatest` and `memory`.
+ * Both `last` and `greatest` have a word for each page of the guest: its stamp plus 1, or 0 if it did not come.
+ * `memory` has the bytes of all pages, each at its greatest stamp. All three begin as zeros. Before it checks anything
+ * it may return PRECOPY_MEMORY_LENGTH, or PRECOPY_PAGE_COUNT for either list of words. For a greater stamp than before
+ * it makes a page from the writes in between, and for a lower one, which comes in another stream, from the page's
+ * first.
+ */
+PRECOPY_ANSWERS PRECOPY_NOT_NULL(1, 4, 11)
+uint32_t precopy_trace_check_piece(const struct precopy_trace *trace, const uint8_t *piece, size_t piece_length,
+                                   struct precopy_progress *progress, uint32_t *last, size_t last_length,
+                                   uint32_t *greatest, size_t greatest_length, uint8_t *memory, size_t memory_length,
+                                   struct precopy_finding *found);
+
+/*
+ * Ends a stream that was checked in pieces, of which `left` bytes came behind its last whole frame: returns PRECOPY_OK
+ * if it is 0. Otherwise a frame is cut off: it returns PRECOPY_FRAME_SHORT and sets *found.
+ */
+PRECOPY_ANSWERS PRECOPY_NOT_NULL(1, 3)
+uint32_t precopy_end_stream(const struct precopy_progress *progress, size_t left, struct precopy_finding *found);
+
+/*
+ * What precopy_check_pages does, by the words of the greatest stamps, from one write of each page. Of *progress it
+ * reads the stop alone.
+ */
+PRECOPY_ANSWERS PRECOPY_NOT_NULL(1, 2, 5)
+uint32_t precopy_trace_check_pages(const struct precopy_trace *trace, const struct precopy_progress *progress,
+                                   const uint32_t *greatest, size_t greatest_length, struct precopy_finding *found);
 
 /* Returns whether each byte is 0; with no bytes it is true. It takes no memory. */
 PRECOPY_ANSWERS

@@ -71,7 +71,7 @@
     case PRECOPY_MEMORY_LENGTH:
         return "the length of memory is not that of all pages";
     case PRECOPY_PAGE_COUNT:
-        return "there is not a struct precopy_page for each page";
+        return "there is not an element for each page";
     case PRECOPY_PAGE_MISSING:
         return "a page did not come";
     case PRECOPY_STREAM_SIZES:

@@ -462,5 +462,26 @@ extern "C" {
         content: *mut u8,
         content_length: usize,
     ) -> u32;
+    pub fn precopy_trace_check_piece(
+        trace: *const Trace,
+        piece: *const u8,
+        piece_length: usize,
+        progress: *mut Progress,
+        last: *mut u32,
+        last_length: usize,
+        greatest: *mut u32,
+        greatest_length: usize,
+        memory: *mut u8,
+        memory_length: usize,
+        found: *mut Finding,
+    ) -> u32;
+    pub fn precopy_end_stream(progress: *const Progress, left: usize, found: *mut Finding) -> u32;
+    pub fn precopy_trace_check_pages(
+        trace: *const Trace,
+        progress: *const Progress,
+        greatest: *const u32,
+        greatest_length: usize,
+        found: *mut Finding,
+    ) -> u32;
     pub fn precopy_is_zero(bytes: *const u8, bytes_length: usize) -> bool;
 }

@@ -73,7 +73,7 @@ pub enum Status {
     PageLength = 62,
     /// the length of memory is not that of all pages
     MemoryLength = 63,
-    /// there is not a struct precopy_page for each page
+    /// there is not an element for each page
     PageCount = 64,
     /// a page did not come
     PageMissing = 65,

@@ -82,6 +82,7 @@ pub extern "C" fn precopy_end_stream(
     ensures whole { result ≡ 0 → (left ≡ 0) × (found.new ≡ found.old) }
     ensures cut { result ≢ 0 → (left ≢ 0) × (result ≡ number_of_frame Short)
         × (found.new ≡ frame_finding progress.now.stream (cut_frame progress.now)) }
+    ensures only { left ≡ 0 → result ≡ 0 }
 {
     if left == 0 {
         return 0;
@@ -106,6 +107,8 @@ pub extern "C" fn precopy_trace_check_pages(
     ensures refused { result ≢ 0 → (t : GuestTrace) × Shows trace.now t × (refusal : OpenRefusal)
         × (result ≡ number_of_open refusal) × RefusesOpenPages t progress.now.stop greatest.now refusal
         × (found.new ≡ found_in_open progress.now refusal found.old) }
+    ensures only { (t : GuestTrace) → Shows trace.now t → length greatest.now ≡ t.pages
+        → AreCurrentStamps t progress.now.stop (stamps_in greatest.now) → result ≡ 0 }
 {
     match test_open_pages(&trace.opened(), progress.stop, greatest) {
         Ok(()) => 0,
