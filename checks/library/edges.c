@@ -93,8 +93,18 @@ static void nulls_of_frames(void) {
     struct precopy_finding found = {9, 9, 9, 9, 9, 9, 9, 9};
     struct precopy_progress progress = {0, 0, 0, 1};
     struct precopy_page states[2] = {{0, 0}, {0, 0}};
+    struct precopy_trace held;
+    uint32_t words[4], last[1] = {0}, greatest[1] = {0};
     uint8_t memory[16] = {0};
     size_t needed = 9;
+    ROW(precopy_trace_open(trace, sizeof trace, words, 4, &held, &needed, &record) == PRECOPY_OK);
+    ROW(precopy_trace_check_piece(&held, NULL, 0, &progress, NULL, 0, NULL, 0, NULL, 0, &found)
+        == PRECOPY_MEMORY_LENGTH);
+    ROW(precopy_trace_check_piece(&held, NULL, 0, &progress, NULL, 0, NULL, 0, memory, 16, &found)
+        == PRECOPY_PAGE_COUNT);
+    ROW(precopy_trace_check_pages(&held, &progress, NULL, 0, &found) == PRECOPY_PAGE_COUNT);
+    ROW(precopy_trace_check_piece(&held, NULL, 0, &progress, last, 1, greatest, 1, memory, 16, &found) == PRECOPY_OK);
+    needed = 9;
     ROW(precopy_encode_frame(&sizes, 0, 1, NULL, 0, NULL, 0, &needed) == PRECOPY_PAGE_LENGTH && needed == 9);
     ROW(precopy_encode_frame(&sizes, 0, 1, page, 16, NULL, 0, &needed) == PRECOPY_SHORT_BUFFER && needed == 25);
     ROW(precopy_decode_frame(&sizes, NULL, 0, &head, NULL, 0) == PRECOPY_FRAME_SHORT);

@@ -373,6 +373,37 @@ uint32_t __wrap_precopy_trace_page_at(const struct precopy_trace *trace, uint32_
                                                          OUT(content, content_length), content_length));
 }
 
+FENCED(trace_check_piece);
+uint32_t __wrap_precopy_trace_check_piece(const struct precopy_trace *trace, const uint8_t *piece, size_t piece_length,
+                                          struct precopy_progress *progress, uint32_t *last, size_t last_length,
+                                          uint32_t *greatest, size_t greatest_length, uint8_t *memory,
+                                          size_t memory_length, struct precopy_finding *found) {
+    struct fences all = {.count = 0};
+    struct precopy_trace meanwhile;
+    return given_back(&all, __real_precopy_trace_check_piece(
+                                open_trace(&all, trace, &meanwhile), IN(piece, piece_length), piece_length,
+                                OUT(progress, 1), OUT(last, last_length), last_length, OUT(greatest, greatest_length),
+                                greatest_length, OUT(memory, memory_length), memory_length, OUT(found, 1)));
+}
+
+FENCED(end_stream);
+uint32_t __wrap_precopy_end_stream(const struct precopy_progress *progress, size_t left,
+                                   struct precopy_finding *found) {
+    struct fences all = {.count = 0};
+    return given_back(&all, __real_precopy_end_stream(IN(progress, 1), left, OUT(found, 1)));
+}
+
+FENCED(trace_check_pages);
+uint32_t __wrap_precopy_trace_check_pages(const struct precopy_trace *trace, const struct precopy_progress *progress,
+                                          const uint32_t *greatest, size_t greatest_length,
+                                          struct precopy_finding *found) {
+    struct fences all = {.count = 0};
+    struct precopy_trace meanwhile;
+    return given_back(&all,
+                      __real_precopy_trace_check_pages(open_trace(&all, trace, &meanwhile), IN(progress, 1),
+                                                       IN(greatest, greatest_length), greatest_length, OUT(found, 1)));
+}
+
 FENCED(encode_frame);
 uint32_t __wrap_precopy_encode_frame(const struct precopy_sizes *sizes, uint32_t page, uint32_t stamp,
                                      const uint8_t *bytes, size_t bytes_length, uint8_t *frame, size_t frame_length,

@@ -602,6 +602,56 @@ static void pieces(void) {
     ROW(is_page(&found, 0, 0, 1, 1, 0));
 }
 
+/* The same streams over an open trace, and the second in two pieces, around the first. */
+static void open_pieces(void) {
+    struct precopy_finding found = {9, 9, 9, 9, 9, 9, 9, 9};
+    struct precopy_trace held;
+    uint32_t words[19];
+    size_t needed;
+    ROW(precopy_trace_open(trace, sizeof trace, words, 19, &held, &needed, &record) == PRECOPY_OK);
+    for (size_t cut = 0; cut <= 93; cut++) {
+        struct precopy_progress progress = {0, 0, 0, 3}, other = {1, 0, 0, 3};
+        uint32_t last[4] = {0}, second[4] = {0}, greatest[4] = {0};
+        uint8_t memory[64] = {0}, wanted[64];
+        ROW(precopy_trace_check_piece(&held, sent, cut, &progress, last, 4, greatest, 4, memory, 64, &found)
+            == PRECOPY_OK);
+        uint32_t ends = precopy_trace_check_pages(&held, &progress, greatest, 4, &found);
+        size_t taken = progress.bytes;
+        ROW(taken <= cut && (ends == PRECOPY_OK) == (progress.frames == 5));
+        ROW((precopy_end_stream(&progress, cut - taken, &found) == PRECOPY_OK) == (taken == cut));
+        ROW(taken == cut || is_frame(&found, 0, progress.frames, taken, 0, 0, 0));
+        ROW(precopy_trace_check_piece(&held, sent, 93, &other, second, 4, greatest, 4, memory, 64, &found)
+            == PRECOPY_OK);
+        ROW(precopy_trace_check_piece(&held, sent + taken, 118 - taken, &progress, last, 4, greatest, 4, memory, 64,
+                                      &found)
+            == PRECOPY_OLDER);
+        ROW(is_frame(&found, 0, 5, 93, 1, 2, 3) && progress.bytes == taken && other.bytes == 93);
+        ROW(precopy_trace_check_pages(&held, &progress, greatest, 4, &found) == PRECOPY_OK);
+        ROW(precopy_trace_memory_before(&held, 2500, wanted, 64, &needed) == PRECOPY_OK);
+        ROW(!memcmp(memory, wanted, sizeof memory) && greatest[0] == 2 && greatest[1] == 4 && greatest[3] == 1);
+    }
+    struct precopy_progress progress = {0, 0, 0, 3};
+    uint32_t last[4] = {0}, greatest[4] = {0};
+    uint8_t memory[64] = {0}, other[25];
+    ROW(precopy_trace_check_piece(&held, sent, 93, &progress, last, 4, greatest, 4, memory, 63, &found)
+        == PRECOPY_MEMORY_LENGTH);
+    ROW(precopy_trace_check_piece(&held, sent, 93, &progress, last, 3, greatest, 4, memory, 64, &found)
+        == PRECOPY_PAGE_COUNT);
+    ROW(precopy_trace_check_piece(&held, sent, 93, &progress, last, 4, greatest, 5, memory, 64, &found)
+        == PRECOPY_PAGE_COUNT);
+    ROW(precopy_trace_check_pages(&held, &progress, greatest, 3, &found) == PRECOPY_PAGE_COUNT);
+    ROW(precopy_trace_check_pages(&held, &progress, greatest, 4, &found) == PRECOPY_PAGE_MISSING);
+    ROW(is_page(&found, 0, 0, 1, 1, 0));
+    ROW(precopy_trace_check_piece(&held, sent, 68, &progress, last, 4, greatest, 4, memory, 64, &found) == PRECOPY_OK);
+    ROW(precopy_trace_check_pages(&held, &progress, greatest, 4, &found) == PRECOPY_PAGE_BEHIND);
+    ROW(is_page(&found, 1, 2, 3, 3, 1200));
+    memcpy(other, sent + 68, sizeof other);
+    other[24] = 7;
+    ROW(precopy_trace_check_piece(&held, other, 25, &progress, last, 4, greatest, 4, memory, 64, &found)
+        == PRECOPY_OTHER_BYTES);
+    ROW(is_frame(&found, 0, 4, 68, 1, 3, 3) && memory[16] == 0 && memory[31] == 2);
+}
+
 /* Whether a sentence was written, and nothing behind it. */
 static int is_text(uint32_t status, const uint8_t *text, size_t length, size_t needed, const char *wanted) {
     if (status != PRECOPY_OK || needed != strlen(wanted) || memcmp(text, wanted, needed)) {
@@ -666,6 +716,7 @@ int main(void) {
     ROW(precopy_abi() == PRECOPY_ABI);
     streams();
     pieces();
+    open_pieces();
     plans();
     reports();
     sweeps();

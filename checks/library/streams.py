@@ -138,6 +138,8 @@ def trial(chosen, tally):
     tally.add(told == stream_rows.told_by_model(wrong), f"{name}: the library tells {told}, and the model {wrong}")
     pieces = stream_rows.told_by_library(in_pieces(chosen, trace, stop, sent))
     tally.add(pieces == told, f"{name}: in pieces the library tells {pieces}, and at once {told}")
+    mixed = stream_rows.told_by_library(in_any_order(chosen, trace, stop, sent))
+    tally.add(mixed == told, f"{name}: over an open trace the library tells {mixed}, and at once {told}")
     if wrong is None:
         return None
     named = told and is_named(told, streams[at][place][0], at, place, offset, len(texts[at][place]))
@@ -158,6 +160,21 @@ def in_pieces(chosen, trace, stop, streams):
         # The end of the last stream may be left out.
         if (number < last or chosen.random() < 0.5) and (found := check.end_stream()) and is_asked:
             return found
+    return check.finish()
+
+
+def in_any_order(chosen, trace, stop, streams):
+    """What is found in streams over an open trace, of which pieces of random lengths come in a random order."""
+    check, left = precopy.OpenTrace(trace).check(stop), dict(enumerate(streams))
+    while left:
+        number, length = chosen.choice([*left]), chosen.choice([1, 8, 30, 500])
+        check.take(number, left[number][:length])
+        left[number] = left[number][length:]
+        if not left[number]:
+            del left[number]
+            # The end of a stream may be left out.
+            if chosen.random() < 0.5:
+                check.end_stream(number)
     return check.finish()
 
 

@@ -31,6 +31,7 @@ from ._calls import LIBRARY as _LIBRARY
 from ._calls import lent as _lent
 from ._calls import number as _number
 from ._interface import Status
+from ._open_checks import OpenCheck
 from ._open_traces import OpenTrace
 from ._predictions import (
     Agreement,
@@ -71,12 +72,12 @@ from ._streams import Finding, StreamCheck, check_streams, writes_before
 
 __all__ = [
     "Agreement", "Amounts", "BestStart", "BufferRefused", "Errors", "Finding", "FlatMemory", "Forecast", "ForecastEnd",
-    "Frame", "FrameRefused", "LinkShares", "NoMemory", "OpenTrace", "Overlap", "PlaceRefused", "Prediction", "Question",
-    "QuestionRefused", "Reason", "Refused", "Round", "Settings", "SettingsRefused", "Sizes", "Status", "StreamCheck",
-    "Sums", "Taken", "TraceRefused", "Verdict", "Write", "agreement", "best_start", "check_settings", "check_streams",
-    "check_trace", "decode_frame", "encode_frame", "enough", "forecast", "is_zero", "link_shares", "memory",
-    "memory_before", "memory_step", "page_at", "page_writes", "plan", "predict", "report", "rounds", "sweep", "version",
-    "version_after", "versions_after", "versions_before", "writes_before",
+    "Frame", "FrameRefused", "LinkShares", "NoMemory", "OpenCheck", "OpenTrace", "Overlap", "PlaceRefused",
+    "Prediction", "Question", "QuestionRefused", "Reason", "Refused", "Round", "Settings", "SettingsRefused", "Sizes",
+    "Status", "StreamCheck", "Sums", "Taken", "TraceRefused", "Verdict", "Write", "agreement", "best_start",
+    "check_settings", "check_streams", "check_trace", "decode_frame", "encode_frame", "enough", "forecast", "is_zero",
+    "link_shares", "memory", "memory_before", "memory_step", "page_at", "page_writes", "plan", "predict", "report",
+    "rounds", "sweep", "version", "version_after", "versions_after", "versions_before", "writes_before",
 ]  # fmt: skip
 
 

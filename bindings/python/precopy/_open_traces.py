@@ -9,6 +9,7 @@ from . import _calls, _interface
 from ._calls import LIBRARY as _LIBRARY
 from ._calls import lent as _lent
 from ._calls import number as _number
+from ._open_checks import OpenCheck
 from ._refusals import Bytes
 from ._refusals import check as _check
 from ._refusals import check_over as _check_over
@@ -78,6 +79,10 @@ class OpenTrace:
         where = _number("page", page, 32), _number("stamp", stamp, 32)
         _check(_LIBRARY.precopy_trace_page_at(self._trace, *where, ctypes.addressof(room), len(room)))
         return room.raw
+
+    def check(self, stop: int) -> OpenCheck:
+        """Returns a check of the streams of a migration that stops its guest after the first `stop` writes."""
+        return OpenCheck(self, self._trace, stop)
 
     def _versions(self, call: Any, place: int) -> List[int]:
         found, needed = _room(ctypes.c_uint32 * self.pages), ctypes.c_size_t()

@@ -51,14 +51,18 @@ def writes_before(trace: Bytes, tick: int) -> int:
     return count.value
 
 
-def _found(call: Any, trace: Bytes, *words: Any) -> Optional[Finding]:
-    """Makes a call over a trace whose last word but the record is what it finds."""
-    found = _interface.Finding()
-    status = call_over(call, trace, *words, found)
+def told(status: int, found: _interface.Finding) -> Optional[Finding]:
+    """What a call with this status found, or None."""
     if status not in _calls.WRONG:
         check(status)
         return None
     return Finding(Status(status), *(getattr(found, name) for name, _ in _interface.Finding._fields_))
+
+
+def _found(call: Any, trace: Bytes, *words: Any) -> Optional[Finding]:
+    """Makes a call over a trace whose last word but the record is what it finds."""
+    found = _interface.Finding()
+    return told(call_over(call, trace, *words, found), found)
 
 
 def check_streams(trace: Bytes, stop: int, streams: Sequence[Bytes]) -> Optional[Finding]:

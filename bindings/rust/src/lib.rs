@@ -3,6 +3,7 @@
 
 mod calls;
 mod flat;
+mod open_check;
 mod open_trace;
 mod places;
 mod predictions;
@@ -14,6 +15,7 @@ mod streams;
 pub use flat::{
     accept, decode_frame, decode_frame_into, encode_frame, encode_frame_into, missing, FlatMemory, Frame, Page, Taken,
 };
+pub use open_check::OpenCheck;
 pub use open_trace::OpenTrace;
 pub use places::{
     memory_step, page_at, page_at_into, page_writes, page_writes_into, version_after, versions_after,

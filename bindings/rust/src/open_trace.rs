@@ -1,7 +1,7 @@
 //! A trace that stays open between calls.
 
 use crate::refusals::{checked, checked_buffer, with_record, Refused, NO_RECORD};
-use crate::{calls, room, Sizes};
+use crate::{calls, room, OpenCheck, Sizes};
 use std::marker::PhantomData;
 
 /// C's `struct precopy_trace`.
@@ -71,6 +71,15 @@ impl<'a> OpenTrace<'a> {
     pub fn sizes(&self) -> Sizes {
         let calls::Sizes { shift, pages, writes } = self.shown.sizes;
         Sizes { shift, pages, writes }
+    }
+
+    pub(crate) fn shown(&self) -> *const Trace {
+        &self.shown
+    }
+
+    /// Returns a check of the streams of a migration that stops its guest after the first `stop` writes.
+    pub fn check(&self, stop: u32) -> Result<OpenCheck<'_>, Refused> {
+        OpenCheck::new(self, stop)
     }
 
     /// Returns the number of writes before a tick.

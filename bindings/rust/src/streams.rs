@@ -136,7 +136,7 @@ pub fn writes_before(trace: &[u8], tick: u64) -> Result<u32, Refused> {
 }
 
 /// What a call that finds something returns.
-fn told(status: u32, found: &calls::Finding, record: u32) -> Result<Option<Finding>, Refused> {
+pub(crate) fn told(status: u32, found: &calls::Finding, record: u32) -> Result<Option<Finding>, Refused> {
     match Finding::of(Status::of(status), found) {
         Some(finding) => Ok(Some(finding)),
         None => with_record(record, checked(status).map(|()| None)),

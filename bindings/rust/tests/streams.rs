@@ -3,7 +3,7 @@
 mod guest;
 
 use guest::TRACE;
-use precopy::{Finding, FramePlace, Refused, Status, StreamCheck};
+use precopy::{Finding, FramePlace, OpenTrace, Refused, Status, StreamCheck};
 
 /// Frames of pages 0 to 3 and of page 1 again, which begin at bytes 0, 25, 50, 59 and 68. After them comes the older
 /// frame of page 1 once more.
@@ -84,6 +84,20 @@ fn in_pieces(length: usize, streams: &[&[u8]]) -> Option<Finding> {
     check.finish().unwrap()
 }
 
+/// The same over an open trace, to which a piece of each stream comes in turn.
+fn in_turn(length: usize, streams: &[&[u8]]) -> Option<Finding> {
+    let trace = OpenTrace::open(&TRACE).unwrap();
+    let mut check = trace.check(3).unwrap();
+    let longest = streams.iter().map(|it| it.len()).max().unwrap_or(0);
+    for from in (0..longest).step_by(length) {
+        for (number, stream) in streams.iter().enumerate() {
+            let end = stream.len().min(from + length);
+            check.take(number, stream.get(from..end).unwrap_or_default()).unwrap();
+        }
+    }
+    check.finish().unwrap()
+}
+
 #[test]
 fn pieces() {
     let wrong: [&[&[u8]]; 9] = [
@@ -102,6 +116,11 @@ fn pieces() {
         let at_once = precopy::check_streams(&TRACE, 3, &streams.concat(), &sizes).unwrap();
         for length in 1..=SENT.len() {
             assert_eq!(in_pieces(length, streams), at_once, "{streams:?} in pieces of {length}");
+            assert_eq!(
+                in_turn(length, streams),
+                at_once,
+                "{streams:?} in turn, in pieces of {length}"
+            );
         }
     }
 }
