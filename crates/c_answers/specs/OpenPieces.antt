@@ -31,8 +31,8 @@ pub record FitsGuest (trace : GuestTrace) (lent : Lent) : Type 0 where
   pub last_is : length lent.last ≡ trace.pages
   pub greatest_is : length lent.greatest ≡ trace.pages
 
--- what a call over memory asks for: this and the words of the greatest stamps began as zeros, and nothing but such calls
--- changed them
+-- what a call over memory asks for: this and the words of the greatest stamps began as zeros, and nothing but such
+-- calls changed them
 abbrev pub KeepsPages : GuestTrace → List ℕ → List ℕ → Type 0
 KeepsPages trace greatest memory =
     length greatest ≡ trace.pages → length memory ≡ memory_length trace → IsKept trace greatest memory

@@ -1,11 +1,13 @@
 -- The pages in memory, at the versions of their words.
-use Rattle.std.proofs.Common.{◌≡◌, ℕ, ◌+◌, ◌-◌, ◌*◌, ◌^◌, ◌<◌, ◌≤◌, List, ◌++◌, length, get_or, max, set, take, drop, inl}
+use Rattle.std.proofs.Common.{◌≡◌, ℕ, ◌+◌, ◌-◌, ◌*◌, ◌^◌, ◌<◌, ◌≤◌, List, ◌++◌, length, get_or, max, set, take, drop}
+use Rattle.std.proofs.Common.{inl}
 use Rattle.std.proofs.Common.{None, Option, ◌∷◌, inr, map, refl, replicate, suc, zero, sym, ap, subst, ◌∙◌, arith}
 use Rattle.std.specs.List.{between}
 use Rattle.std.proofs.Math.Nat.{mul-le-mul_right}
 use Rattle.std.proofs.lemmas.Bool.{cases_eq, cases_lt}
 use Rattle.std.proofs.lemmas.Grind.{get_or-set_at}
-use Rattle.std.proofs.lemmas.List.{drop-drop, drop-take, get_or-replicate, get_or-set_other, length-replicate, length-set, take-append-drop}
+use Rattle.std.proofs.lemmas.List.{drop-drop, drop-take, get_or-replicate, get_or-set_other, length-replicate}
+use Rattle.std.proofs.lemmas.List.{length-set, take-append-drop}
 use Rattle.std.proofs.lemmas.Slice.{between_is}
 use Rattle.migration_model.specs.Final.{shape_of_trace}
 use Rattle.migration_model.specs.Memory.{memory_with, page_of, put}
@@ -27,8 +29,8 @@ page_fits trace page memory low len =
     omega (arith, end, len)
 
 -- the later of two versions is one
-pub later_version : (trace : GuestTrace) (page a b : ℕ) → a ≡ version_after trace page a → b ≡ version_after trace page b
-    → max a b ≡ version_after trace page (max a b)
+pub later_version : (trace : GuestTrace) (page a b : ℕ) → a ≡ version_after trace page a
+    → b ≡ version_after trace page b → max a b ≡ version_after trace page (max a b)
 later_version trace page a b first second = elim (cases_lt a b) [
   | inl rises ↦
       let same : b ≡ max a b = omega (arith, rises) in

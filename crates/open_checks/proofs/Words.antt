@@ -11,7 +11,8 @@ use Rattle.open_checks.specs.Kept.{known_by, stamp_in}
 
 -- a word that is not 0 has a stamp
 pub stamp_some : (word : ℕ) → 1 ≤ word → stamp_in word ≡ Some (word - 1)
-stamp_some word some = cond-false (eqb word 0) None (Some (word - 1)) (ne_eqb word 0 (λ none. omega (arith, none, some)))
+stamp_some word some =
+    cond-false (eqb word 0) None (Some (word - 1)) (ne_eqb word 0 (λ none. omega (arith, none, some)))
 
 pub stamp_own : (stamp : ℕ) → stamp_in (stamp + 1) ≡ Some stamp
 stamp_own stamp =

@@ -1,5 +1,5 @@
--- What a caller lends to a check over an open trace: words with the stamps of the pages that came, and memory with their
--- bytes. All of it begins as zeros. This project's own.
+-- What a caller lends to a check over an open trace: words with the stamps of the pages that came, and memory with
+-- their bytes. All of it begins as zeros. This project's own.
 use Rattle.std.specs.Prelude.{◌≡◌, ℕ, ◌*◌, ◌-◌, ◌^◌, ◌<◌, ◌==◌, if◌then◌else◌, List, length, map, slice_index}
 use Rattle.std.specs.Prelude.{Option, Some, None}
 use Rattle.migration_model.specs.Final.{shape_of_trace}

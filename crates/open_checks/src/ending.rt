@@ -55,7 +55,7 @@ fn page_behind(trace: &OpenTrace<'_>, stop: u32, page: u32, word: u32) -> WrongP
     }
 }
 
-/// Tests, at the end of all streams, that each page came at its version at the stop. It looks at one write of each page.
+/// Tests, at the end of all streams, that each page came at its version at the stop. It looks at one write of each.
 pub fn test_pages(trace: &OpenTrace<'_>, stop: u32, greatest: &[u32]) -> Result<(), WrongPage>
     requires words { length greatest.now ≡ trace.now.pages }
     requires versions { AreVersions trace.now greatest.now }

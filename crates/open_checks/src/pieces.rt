@@ -47,9 +47,9 @@ fn take_front(
     Ok(size)
 }
 
-/// Takes all whole frames of the next bytes of a stream, up to the first that is wrong, of a guest that is stopped after
-/// the first `stop` writes of the trace. What is behind them is the beginning of a frame, or nothing, and comes again at
-/// the front of the stream's next bytes. After an error the frames before the wrong one are taken.
+/// Takes all whole frames of the next bytes of a stream, up to the first that is wrong, of a guest that is stopped
+/// after the first `stop` writes of the trace. What is behind them is the beginning of a frame, or nothing, and comes
+/// again at the front of the stream's next bytes. After an error the frames before the wrong one are taken.
 ///
 /// `last` is the stream's own; `greatest` and `memory` are those of all streams, which may come in any order.
 pub fn take_piece(

@@ -17,8 +17,8 @@ pub(crate) fn stamp_of(word: u32) -> Option<u32>
     Some(word - 1)
 }
 
-/// Tests the stamp of a frame, which comes after one of its page with the stamp `last`, if any. If it is right, it looks
-/// at one write of the trace.
+/// Tests the stamp of a frame, which comes after one of its page with the stamp `last`, if any. If it is right, it
+/// looks at one write of the trace.
 pub(crate) fn test_stamp(
     trace: &OpenTrace<'_>,
     stop: u32,

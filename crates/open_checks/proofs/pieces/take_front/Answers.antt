@@ -1,4 +1,5 @@
-use Rattle.std.proofs.Common.{◌≡◌, ◌+◌, ◌-◌, ◌<◌, ◌*◌, ◌^◌, ℕ, List, Option, get_or, set, max, take, refl, sym, ap, subst}
+use Rattle.std.proofs.Common.{◌≡◌, ◌+◌, ◌-◌, ◌<◌, ◌*◌, ◌^◌, ℕ, List, Option, get_or, set, max, take, refl, sym, ap}
+use Rattle.std.proofs.Common.{subst}
 use Rattle.std.proofs.Common.{◌∙◌, arith}
 use Rattle.std.proofs.lemmas.Result.{err_from_is_err_and}
 use Rattle.migration_model.specs.Frames.{GuestShape, PageFrame, SpellsFrame}
@@ -68,7 +69,8 @@ returns-clause-kept c =
     let memory = c.args.memory.now in
     let page : inside.page ≡ frame.page = ap (λ (f : PageFrame). f.page) c.view.view_is in
     let stamp : inside.stamp ≡ frame.stamp = ap (λ (f : PageFrame). f.stamp) c.view.view_is in
-    let low : frame.page < trace.pages = omega (arith, c.in_ok-view.ensures.found.is_frame.page, c.shape.ensures.pages) in
+    let low : frame.page < trace.pages =
+    omega (arith, c.in_ok-view.ensures.found.is_frame.page, c.shape.ensures.pages) in
     let version : c.saturating_sub-version.result ≡ get_or greatest frame.page 0 - 1 =
     c.saturating_sub-version.ensures ∙ ap (λ (p : ℕ). get_or greatest p 0 - 1) page in
     IsKept-next trace greatest memory (set greatest inside.page c.max.result) c.test_in_memory.new.memory frame.page
