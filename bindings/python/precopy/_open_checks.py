@@ -74,9 +74,7 @@ class OpenCheck:
         before, found = known.progress.bytes, _interface.Finding()
         lent = known.last, len(known.last), self._greatest, len(self._greatest)
         memory = ctypes.addressof(self._memory), len(self._memory)
-        status = _LIBRARY.precopy_trace_check_piece(
-            self._handle, start, length, known.progress, *lent, *memory, found
-        )
+        status = _LIBRARY.precopy_trace_check_piece(self._handle, start, length, known.progress, *lent, *memory, found)
         known.first = told(status, found)
         taken = known.progress.bytes - before
         known.left = b"" if known.first else ctypes.string_at(start + taken, length - taken)
