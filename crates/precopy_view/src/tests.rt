@@ -231,6 +231,7 @@ total time: 385 ms
 sent: 384 bytes
 downtime: 135 ms, limit: 200 ms, kept: uncertain, in 20 of 20 redraws and from 19 of 19 starts
 standard errors: sent 64 bytes, time 54 ms, downtime 60 ms
+warning: the limit is kept by less than two standard errors
 warning: fewer than 100 pages decided the stop; chance moves it
 like QEMU: looks 2, time 398 ms, sent 320 bytes, downtime 198 ms, kept
 starts: 21, known: 19, converging: 19, limit kept: 19

@@ -162,23 +162,31 @@ fn lines_of_predictions_by_looks(rt: HostRuntime) {
 /// The time, the bytes, and the downtime.
 type Numbers = (u128, u128, u128);
 
-fn costs((time, bytes, downtime): Numbers) -> CostNumbers {
-    CostNumbers {
-        time,
-        bytes,
-        downtime,
-    }
+fn numbers(costs: &CostNumbers) -> Numbers {
+    (costs.time, costs.bytes, costs.downtime)
+}
+
+/// How many starts there are, from how many the migration is known, converges and keeps its limit, and what it costs at
+/// least and at most.
+type Ranges = ([u64; 4], Numbers, Numbers);
+
+fn ranges_told(ranges: &StartRanges) -> Ranges {
+    (
+        [ranges.count, ranges.known, ranges.converging, ranges.kept],
+        numbers(&ranges.least),
+        numbers(&ranges.greatest),
+    )
 }
 
 #[test]
 fn ranges_over_starts_by_looks(rt: HostRuntime) {
-    type Row = (u64, Option<([u64; 3], Numbers, Numbers)>);
+    type Row = (u64, Option<Ranges>);
     const ROWS: [Row; 3] = [
         (3, None),
         (
             4,
             Some((
-                [4, 0, 0],
+                [21, 4, 0, 0],
                 (3_150_000, 49_152, 550_000),
                 (4_350_000, 69_632, 800_000),
             )),
@@ -186,7 +194,7 @@ fn ranges_over_starts_by_looks(rt: HostRuntime) {
         (
             8,
             Some((
-                [15, 15, 15],
+                [21, 15, 15, 15],
                 (1_175_000, 36_864, 50_000),
                 (1_925_000, 61_440, 50_000),
             )),
@@ -199,15 +207,8 @@ fn ranges_over_starts_by_looks(rt: HostRuntime) {
         let settings = settings(&rt, max, 0);
         let spread = spread_cases(alloc, &settings, LAST).expect(&rt, "memory");
         let cases = cases_by(alloc, &trace, &spread, &measure).expect(&rt, "memory");
-        let found = ranges_over(alloc, &measure, &cases, LAST).expect(&rt, "memory");
-        let expected = expected.map(|([known, converging, kept], least, greatest)| StartRanges {
-            count: 21,
-            known,
-            converging,
-            kept,
-            least: costs(least),
-            greatest: costs(greatest),
-        });
+        let ranges = ranges_over(alloc, &measure, &cases, LAST).expect(&rt, "memory");
+        let found = ranges.map(|ranges| ranges_told(&ranges));
         assert!(rt; found == expected, "{max}");
     }
 }
