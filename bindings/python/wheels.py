@@ -19,16 +19,7 @@ import zipfile
 HERE = os.path.dirname(os.path.abspath(__file__))
 NAME = "libprecopy.so.3"
 LIBRARY = os.path.join(HERE, "..", "..", "out", "library", NAME)
-PARTS = (
-    "__init__.py",
-    "_calls.py",
-    "_interface.py",
-    "_open_traces.py",
-    "_predictions.py",
-    "_refusals.py",
-    "_streams.py",
-    "py.typed",
-)
+PARTS = sorted(it for it in os.listdir(os.path.join(HERE, "precopy")) if it.endswith((".py", ".typed")))
 MOMENT = (1980, 1, 1, 0, 0, 0)
 
 

@@ -20,7 +20,7 @@
 
 #define PATTERN 0xA5
 #define FRONT 64
-#define MOST_BUFFERS 8
+#define MOST_BUFFERS 9
 
 /* A buffer of a call, and the memory between two guard pages in which it lies meanwhile. */
 struct room {

@@ -631,7 +631,7 @@ static void open_pieces(void) {
         ROW(!memcmp(memory, wanted, sizeof memory) && greatest[0] == 2 && greatest[1] == 4 && greatest[3] == 1);
     }
     struct precopy_progress progress = {0, 0, 0, 3};
-    uint32_t last[4] = {0}, greatest[4] = {0};
+    uint32_t last[4] = {0}, greatest[5] = {0};
     uint8_t memory[64] = {0}, other[25];
     ROW(precopy_trace_check_piece(&held, sent, 93, &progress, last, 4, greatest, 4, memory, 63, &found)
         == PRECOPY_MEMORY_LENGTH);

@@ -20,7 +20,6 @@ from precopy_dev.models import redrawn
 
 HEADER, CRATE = "include/precopy.h", "bindings/rust"
 BAD_ROUNDS = 25
-SOURCES = ("flat.rs", "lib.rs", "open_trace.rs", "places.rs", "predictions.rs", "refusals.rs", "streams.rs")
 
 
 def receive(tally, folder, path, trace):
@@ -66,7 +65,8 @@ def check_statuses(tally):
     tally.add(all("mean nothing" in it for it in told), "header and crate differ about pages that did not come")
     tally.add("#[non_exhaustive]\n#[repr(u32)]\npub enum Status" in source, "statuses are not said to become more")
     declared = set(re.findall(r"\b(precopy_\w+)\(", re.sub(r"/\*.*?\*/", "", read(HEADER, "r"), flags=re.S)))
-    called = set(re.findall(r"\bcalls::(precopy_\w+)", "".join(read(f"{CRATE}/src/{it}", "r") for it in SOURCES)))
+    sources = [it for it in os.listdir(os.path.join(TOP, CRATE, "src")) if it != "calls.rs"]
+    called = set(re.findall(r"\bcalls::(precopy_\w+)", "".join(read(f"{CRATE}/src/{it}", "r") for it in sources)))
     tally.add(declared == called, f"the crate does not have the calls {sorted(declared ^ called)}")
 
 
