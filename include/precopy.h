@@ -38,7 +38,8 @@
  * - Only a pointer whose length is 0 may be null. Each other pointer is aligned for its type.
  * - The memory that a pointer and its length describe is there, and all of an input is initialized.
  * - A struct precopy_trace is as precopy_trace_open left it, and so are the bytes and the words that it was given.
- * - What is lent to precopy_trace_check_piece began as zeros, and no other function changed it. It is of one trace.
+ * - What is lent to precopy_trace_check_piece and precopy_trace_check_pages began as zeros, and only the first of these
+ *   changed it. It is of one trace.
  * - What a function writes overlaps nothing else that is passed to it, and no other thread reads or writes it
  *   meanwhile. No thread writes an input meanwhile.
  * - No function is called from a signal handler, nor from the forked child of a process with threads.
@@ -835,8 +836,8 @@ uint32_t precopy_trace_page_at(const struct precopy_trace *trace, uint32_t page,
                                size_t content_length);
 
 /*
- * Checks the next bytes of a stream, as precopy_check_piece does, in memory that is lent. It takes none itself, and no
- * longer than the piece takes. Pieces of several streams may come in any order.
+ * Checks the next bytes of a stream, as precopy_check_piece does, in memory that is lent. It takes none itself, and
+ * makes no index. Pieces of several streams may come in any order.
  *
  * `last` is the stream's own, and so is *progress, which says its number. All streams share `greatest` and `memory`.
  * Both `last` and `greatest` have a word for each page of the guest: its stamp plus 1, or 0 if it did not come.
