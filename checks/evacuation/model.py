@@ -3,7 +3,8 @@
 import math
 from typing import NamedTuple
 
-from precopy_dev.models import redrawn
+from precopy_dev.models import courses, redrawn
+from precopy_dev.models.courses import Manner, Record
 
 
 class Move(NamedTuple):
@@ -81,7 +82,7 @@ def tick_factor(guest: Guest, bandwidth: float, downtime: int) -> int:
 
 class Plan(NamedTuple):
     """Time, bytes and downtime; whether the record lasts to the stop, whether the plan ends since few pages are left,
-    and whether the limit of the downtime is kept."""
+    and whether the guest is stopped, and for no longer than the limit of the downtime."""
 
     time: int
     sent: int
@@ -119,28 +120,33 @@ def rates(guest: Guest, bandwidth: float, downtime: int) -> Rates | None:
     return Rates(factor, rate, min(downtime, (1000 * 65_536 - 1) // rate * tick), by_page)
 
 
-def planned(guest: Guest, rates: Rates, start: int, base: int | None) -> Plan:
+def planned(guest: Guest, rates: Rates, start: int, base: int | None, manner: Manner = Manner.LOOKS) -> Plan:
     """A migration that begins at a tick, to a destination with a copy of all that was written before another one. Tick
     0 is before all that the record found."""
     factor, rate, limit, written = rates
     tick, last = 1000 * factor, guest.last // factor
     threshold = limit // tick * rate // 1000 + 1
     settings = redrawn.Settings(rate, rate, 0, threshold, 64, start, base=base // factor if base else None)
-    plan = redrawn.planned(written, settings)
+    plan = Record(written, last).course(settings, redrawn.Scale(tick, 4096, guest.sampled, guest.guest), manner)
     down, size = plan.down * tick, plan.total * 4096 * guest.guest // guest.sampled
-    return Plan((plan.stop - start) * tick + down, size, down, plan.stop <= last, plan.reason == "few", down <= limit)
+    kept = courses.stops(plan, manner) and down <= limit
+    return Plan((plan.stop - start) * tick + down, size, down, plan.stop <= last, plan.ending == "few", kept)
 
 
-def costs(guest: Guest, bandwidth: float, downtime: int, base: int | None) -> tuple | None:
+def costs(guest: Guest, bandwidth: float, downtime: int, base: int | None, manner: Manner) -> tuple | None:
     """What a migration from the beginning of the record on costs: time, bytes and downtime, the shortest and the
-    longest time and the fewest bytes over at most 21 starts, whether it converges, and whether the limit is kept."""
+    longest time and the fewest bytes over at most 21 starts, whether it converges, and whether the limit is kept. If
+    the record ends first, the numbers are those of Clark's plan."""
     found = rates(guest, bandwidth, downtime)
     if found is None:
         return None
     first, last = guest.first // found.factor, guest.last // found.factor
     every = max(1, math.ceil((last - first) / 20))
-    plans = [planned(guest, found, start, base) for start in range(first, last + 1, every)]
-    cold, known = plans[0], [plan for plan in plans if plan.is_known] or plans[:1]
+    plans = [planned(guest, found, start, base, manner) for start in range(first, last + 1, every)]
+    cold = plans[0]
+    if not cold.is_known:
+        cold = planned(guest, found, first, base, Manner.ROUNDS)._replace(is_known=False)
+    known = [plan for plan in plans if plan.is_known] or [cold]
     times = [plan.time for plan in known]
     return (
         cold.time,

@@ -16,7 +16,7 @@ from checks.lib.harness import cases_of, expect
 from checks.recording.recorder_runs import SECONDS, TOP
 from precopy_tools import places, refusals
 from precopy_tools.formats import samples, traces
-from precopy_tools.predict import day_chart, forecast, plans
+from precopy_tools.predict import clark, day_chart, forecast, plans
 from precopy_tools.predict.texts import CONVERGES
 
 # The built precopy-view, by which tools/predict plans.
@@ -237,18 +237,30 @@ def predicted(_, folder):
     """The status says whether the limit is kept. What the lines say of a migration is tested by checks/predictions."""
     path = os.path.join(folder, "guest.light.pcwt")
     run_thin(RECORDED, path, "--one-in", "4", "--start", "1000")
-    # All redraws keep the limit, but two standard errors more of the downtime do not.
-    printed, _ = run_predict(path, *LINK, status=5)
-    expect("converges: yes, " in printed and "at half the link: " in printed, printed)
-    expect("kept: uncertain, in 20 of 20 redraws" in printed, printed)
-    hosts = ["max-bandwidth 33554432B", "downtime-limit 100", "migrate-setspeed DOMAIN 32", "setmaxdowntime DOMAIN 100"]
-    expect(all(f"{words}\n" in printed for words in hosts) and "precopy live" not in printed, printed)
-    again, _ = run_predict(path, *LINK, status=5)
-    expect(again == printed, "the same words print other lines")
+    # By Clark's rounds all redraws keep the limit, but two standard errors more of the downtime do not.
+    for plan, kept, status, steps in (([], "yes", 0, "looks"), (["--clark"], "uncertain", 5, "rounds")):
+        printed, _ = run_predict(path, *LINK, *plan, status=status)
+        expect(re.search(rf"^converges: yes, .*; {steps}: \d+$", printed, re.M), printed)
+        expect("at half the link: " in printed and ("like QEMU" in printed) == bool(plan), printed)
+        expect(f"kept: {kept}, in 20 of 20 redraws" in printed, printed)
+        hosts = ["max-bandwidth 33554432B", "downtime-limit 100", "setspeed DOMAIN 32", "setmaxdowntime DOMAIN 100"]
+        expect(all(f"{words}\n" in printed for words in hosts) and "precopy live" not in printed, printed)
+        again, _ = run_predict(path, *LINK, *plan, status=status)
+        expect(again == printed, "the same words print other lines")
     over_shares(path)
     busy, part = os.path.join(folder, "busy.pcwt"), os.path.join(folder, "part.pcwt")
     made_trace(busy, rate=12)
     run_thin(busy, part, "--one-in", "2", "--start", "1000")
+    for plan in [], ["--clark"]:
+        expect_statuses(path, part, plan)
+    for option in (["--first", "1MiB"], ["--inc", "5"], ["--rounds", "5"], ["--skip"]):
+        _, refused = run_predict(path, *LINK, *option, status=2)
+        expect(refused.endswith(f"error: {clark.NEEDED}\n"), refused)
+        run_predict(path, *LINK, *option, "--clark", status=None)
+
+
+def expect_statuses(path, part, plan):
+    """What is told of two records by one plan, with what status."""
     for name, words, status, said in (
         (part, ["--link", "16MiB", "--downtime", "10ms"], 3, "converges: no"),
         (part, ["--link", "64MiB", "--downtime", "3ms"], 0, "decided the stop"),
@@ -264,7 +276,7 @@ def predicted(_, folder):
         (path, ["--link", "128Gbit"], 0, "at twice the link: no plan"),
         (path, ["--link", "1"], 2, "Kbit, Mbit, Gbit"),
     ):
-        printed, refused = run_predict(name, *words, status=status)
+        printed, refused = run_predict(name, *words, *plan, status=status)
         expect(said in printed + refused, printed + refused)
         is_cut = "a plan takes no longer limit than that: 65,535 pages of the sample" in printed
         expect(is_cut == ("9s" in words or "128Gbit" in words), printed)
@@ -318,8 +330,14 @@ def converted(_, folder):
         found, words = asked.limits(forecast.Link(bandwidth, downtime))
         expect(found == factor and f"{1000 * factor}us" in words and "3/30" in words, f"{found}, {words}")
     expect(asked.start == 25 and asked.moment(0.025).isoformat() == "2026-11-26T00:00:00.025000+00:00", "the start")
-    for base, wanted in ((0, "--rounds 64 --start 0"), (700, "--base 0 --start 0")):
-        warm = forecast.forecast_of(VIEW[0], path)
+    by_rounds, skipping = clark.Pace(), clark.Pace(1 << 20, 7, 5, True)
+    for base, pace, wanted in (
+        (0, None, "--sampled 3/30 --start 0"),
+        (700, None, "--base 0 --start 0"),
+        (0, by_rounds, "--sampled 3/30 --clark --rounds 64 --start 0"),
+        (0, skipping, "--sampled 3/30 --clark --first 1MiB --inc 35 --rounds 5 --skip --start 0"),
+    ):
+        warm = forecast.forecast_of(VIEW[0], path, pace=pace)
         warm.begin_with(base)
         _, words = warm.words(forecast.Link(8 << 20, 0.1))
         expect(" ".join(words).endswith(wanted), f"{words}")

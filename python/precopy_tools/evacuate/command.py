@@ -6,8 +6,9 @@
 There is one record a guest: a trace that tools/record has made, with NAME.json beside it, a series of these, or a whole
 trace. For each number at once (1, 2, 4 and so on up to all) and each of four orders it prints the time of the whole,
 the bytes and the longest downtime. Each guest has an even share of the link. The best schedule comes last: one that
-keeps all limits, then the one that takes less time, then fewer bytes. Costs are those of precopy-view, and schedules
-those of precopy-schedule. docs/EVACUATION.md says what they leave out.
+keeps all limits, then the one that takes less time, then fewer bytes. Costs are those of precopy-view, by a
+hypervisor's looks or with --clark by Clark's rounds, and schedules those of precopy-schedule. docs/EVACUATION.md says
+what they leave out.
 
 Then comes what performs it: a script of virsh, or with --lines qmp the commands for each guest's monitor. --dry-run
 prints nothing but the script, and --run performs the schedule itself. It shows each guest that moves, begins no other
@@ -68,7 +69,8 @@ def gather(options: argparse.Namespace, settings: Settings, hour: Hour) -> tuple
         chosen = Chosen(paths, {}, {}, told)
     if not (options.costs or options.dry_run or options.json == "-"):
         print("\n".join([*chosen.told, ""]), end="")
-    asked = host_costs.Asked(options.program, options.link - settings.reserve, options.at_once or (), options.tick)
+    link, numbers = options.link - settings.reserve, options.at_once or ()
+    asked = host_costs.Asked(options.program, link, numbers, options.tick, options.pace)
     of_settings = settings.limits_of(options.downtime)
 
     def limits_of(name: str) -> Wanted:
@@ -164,7 +166,7 @@ def show(
     steps, found_ways = performing(options, settings, names, answer, hour.opens)
     status = 1 if found.refused else texts.status_of(answer.best, limits.deadline)
     spread = days_of(options, found, chosen, answer, hour)
-    told = documents.document(limits, found.guests, answer, found.refused, hour, spread)
+    told = documents.document(limits, found, answer, hour, spread)
     if options.dry_run:
         print(lines.script(options.lines, steps, found_ways), end="")
     elif options.json != "-":

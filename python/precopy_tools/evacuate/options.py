@@ -6,6 +6,7 @@ import os
 from precopy_tools import places, version, words
 from precopy_tools.evacuate import hours, ways
 from precopy_tools.evacuate.ways import Way
+from precopy_tools.predict import clark
 
 PROGRAM, SCHEDULER = places.program("precopy-view"), places.helper("precopy-schedule")
 PROCESSORS = len(os.sched_getaffinity(0))
@@ -59,9 +60,10 @@ def add_run(parser: argparse.ArgumentParser) -> None:
 
 def options_of(given: list[str], description: str | None) -> argparse.Namespace:
     parser = version.parser("evacuate", description)
-    for add in (add_plan, add_answers, add_run):
+    for add in (add_plan, clark.add_to, add_answers, add_run):
         add(parser)
     options = parser.parse_args(given)
+    options.pace = clark.pace_of(parser, options)
     expect_fitting(parser, options)
     for name, path in (("precopy-view", options.program), ("precopy-schedule", options.scheduler)):
         if not os.access(path, os.X_OK):

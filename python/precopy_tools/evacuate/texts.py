@@ -113,7 +113,8 @@ def like_qemu(cost: Cost) -> str:
 
 
 def of_qemu(answer: Answer) -> list[str]:
-    """A line for each guest of which that is known, in the order of the schedule, which counts plans round by round."""
+    """A line for each guest of which that is known, in the order of the schedule: by Clark's rounds beside each plan,
+    and by looks only if its record ends first."""
     width = max(len("guest"), *(len(move.guest.name) for move in answer.moves))
     known = [move for move in answer.moves if move.cost.like_qemu]
     return [f"{move.guest.name:<{width}}  like QEMU: {like_qemu(move.cost)}" for move in known]
@@ -124,8 +125,9 @@ def of_all(guests: list[Guest], answer: Answer, asked: Asked, limits: Limits, ho
     within = f"; all within {time_text(micros_of(limits.deadline))}" if limits.deadline else ""
     limit = time_text(micros_of(limits.downtime))
     opens = f"; begins at {day_text(hour.opens)} {clock_text(hour.opens)} UTC" if hour.opens else ""
+    plans = "; by Clark's rounds" if asked.pace else ""
     return [
-        f"{counted(guests)}; link {gigabits(limits.link)} Gbit/s; downtime limit {limit}{within}{opens}",
+        f"{counted(guests)}; link {gigabits(limits.link)} Gbit/s; downtime limit {limit}{within}{opens}{plans}",
         *table(answer, limits.deadline),
         *doubts(guests, dict.fromkeys(each.at_once for each in answer.schedules)),
         "",

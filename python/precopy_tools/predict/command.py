@@ -1,6 +1,6 @@
 """Predicts the migration of a guest, from a sample of its pages that tools/record or tools/thin has made.
 
-    tools/predict NAME.light.pcwt --link 10Gbit --downtime 300ms
+    tools/predict NAME.light.pcwt --link 10Gbit --downtime 300ms [--clark]
     tools/predict NAME.light.pcwt .. --link 10Gbit --downtime 300ms [--picture NAME.svg]
 
 It reads NAME.json beside the trace, or the file of --record, asks `precopy-view predict`, and prints what that answers
@@ -9,6 +9,9 @@ of the whole guest. --when prints what `precopy-view when` answers of many start
 and the machine. The lines at half and twice the link show how much all answers depend on it. With --reached 0.85..1 the
 answers are those at both of these shares of it: one that is not the same at both is uncertain. docs/REAL-GUESTS.md says
 where hypervisors differ from a plan.
+
+A migration goes by the plan of a hypervisor that looks at its dirty bitmap as QEMU does, or with --clark by Clark's
+rounds. --first, --inc, --rounds and --skip are of these rounds, as those of precopy-view.
 
 Several traces have a line each, and so have the segments of a series, named as tools/record was told: its best and its
 worst start are those of `precopy-view when`. --picture writes what a migration costs by the time of day at which it
@@ -25,7 +28,7 @@ import sys
 
 from precopy_tools import places, printed, version, words
 from precopy_tools.formats import traces
-from precopy_tools.predict import day_chart, documents, plans, texts
+from precopy_tools.predict import clark, day_chart, documents, plans, texts
 from precopy_tools.predict.forecast import Forecast, Link, forecast_of
 from precopy_tools.record import series
 from precopy_tools.refusals import Refused
@@ -54,7 +57,9 @@ def options_of(given: list[str]) -> argparse.Namespace:
     add("--picture", metavar="PATH", help="write what a migration costs by time of day, as SVG")
     add("--starts", metavar="N", type=words.count, default=60, help="of each trace, at most 4,096 (60)")
     add("--program", metavar="PATH", default=PROGRAM, help="the built precopy-view")
+    clark.add_to(parser)
     options = parser.parse_args(given)
+    options.pace = clark.pace_of(parser, options)
     if (options.record or options.when) and len(options.traces) > 1:
         parser.error("--record and --when are of one trace")
     if options.when and (options.json or options.picture):
@@ -70,7 +75,7 @@ def options_of(given: list[str]) -> argparse.Namespace:
 
 def asked(options: argparse.Namespace, path: str) -> tuple[Forecast, Link]:
     """The question about one recording."""
-    forecast = forecast_of(options.program, path, options.record)
+    forecast = forecast_of(options.program, path, options.record, options.pace)
     if options.start > forecast.seconds():
         after, whole = (texts.time(each) for each in (options.start, forecast.seconds()))
         raise Refused(f"{path}: --start {after} is after the end of the recording, which has {whole}")

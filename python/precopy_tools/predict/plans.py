@@ -13,6 +13,8 @@ from precopy_tools.words import given_rate
 LEAST_LINK, MOST_RATE = 125, 1_000_000
 MOST_THRESHOLD = 65_536
 ROUNDS = 64
+# Why plans end that stop the guest. A plan of looks may end since it has no look left, or since its trace ends.
+STOPS = ("few", "fast", "rounds")
 STOP = re.compile(r"^stop (\w+) at (\d+) pages (\d+) down (\d+) total (\d+)$", re.M)
 
 
@@ -96,8 +98,15 @@ def limits(bandwidth: float, downtime: float, scale: Scale) -> list[str]:
     # A threshold above all pages of a trace is refused, and one of all of them says the same.
     most = (1000 * MOST_THRESHOLD - 1) // rate * scale.tick
     words = ["--link", given_rate(bandwidth), "--downtime", f"{min(round(1e6 * downtime), most)}us"]
-    words += ["--tick", f"{scale.tick}us", "--page", str(scale.page), "--sampled", f"{scale.sampled}/{scale.guest}"]
-    return [*words, "--rounds", str(ROUNDS)]
+    return [
+        *words,
+        "--tick",
+        f"{scale.tick}us",
+        "--page",
+        str(scale.page),
+        "--sampled",
+        f"{scale.sampled}/{scale.guest}",
+    ]
 
 
 def answered(program: str, command: list[str], trace: bytes) -> tuple[int, str]:

@@ -4,6 +4,7 @@ traces."""
 import datetime
 
 from precopy_tools.formats import samples
+from precopy_tools.predict import clark
 from precopy_tools.quantities import error_text, micros_of, size_text, time_text
 
 SHORT = "unknown, the recording ends before the migration does"
@@ -19,9 +20,10 @@ def error(seconds: float) -> str:
 
 
 def like_qemu(told: dict) -> list[str]:
-    """Bytes, time and downtime if the hypervisor goes on as QEMU does; nothing if it begins after the recording."""
+    """Bytes, time and downtime if the hypervisor goes on as QEMU does, beside Clark's plan; nothing if it begins after
+    the recording."""
     found = told.get("like_qemu")
-    if not found:
+    if not found or told["plan"] == clark.LOOKS:
         return []
     if "left_bytes" in found:
         return [SHORT]
@@ -92,7 +94,7 @@ def warnings(sample: samples.Sample) -> list[str]:
 def of_several(told: dict, begun: datetime.datetime, starts: dict, sample: samples.Sample) -> str:
     """The line of one of several traces: when the migration begins, what it costs, the best and the worst start."""
     parts = [f"{begun:%Y-%m-%d %H:%M:%S}", *cost(told)]
-    parts += [f"like QEMU {', '.join(like_qemu(told))}"] * ("like_qemu" in told)
+    parts += [f"like QEMU {', '.join(found)}" for found in [like_qemu(told)] if found]
     parts += [f"{name} {moment:%H:%M:%S} {size_text(start['sent_bytes'])}" for name, (moment, start) in starts.items()]
     parts += [f"{sample.late} of {sample.samples} looks late"] * (sample.late > 0)
     return "  ".join(parts + [f"uncertain: stood still for {sample.still_text()}"] * sample.stood_still)
