@@ -393,13 +393,13 @@ def made_series(folder, moments):
     return paths
 
 
-def starts_of(path, link, downtime):
+def starts_of(path, link, downtime, plan):
     """What `precopy-view json when` tells of a trace, by words that are made here: of each 50th tick or so."""
     trace = read_trace(path)
     writes = [(tick, page) for tick, page, *_ in trace.records() if tick >= 1000]
     text = forecast.encoded(trace.pages, writes + [(4999, 0)], 4096)
     words = ["--link", link, "--downtime", downtime, "--tick", "1ms", "--page", "4096", "--sampled", "256/512"]
-    sides = ["--from", "1000", "--to", "4999", "--every", "67", "--rounds", "64"]
+    sides = ["--from", "1000", "--to", "4999", "--every", "67", *plan, *["--rounds", "64"] * bool(plan)]
     done = subprocess.run([VIEW[0], "json", "when", *words, *sides], input=text, capture_output=True, timeout=SECONDS)
     return json.loads(done.stdout)
 
@@ -416,36 +416,10 @@ def predicted_series(_, folder):
     """A line for each segment, and a picture of all by time of day; a damaged one is refused, and the others stay."""
     begin = datetime.datetime(2026, 11, 26, 22, 0, tzinfo=datetime.timezone.utc)
     moments = [begin + datetime.timedelta(hours=hours) for hours in (0, 1, 9, 25, 30)]
-    paths, picture = made_series(folder, moments), os.path.join(folder, "day.svg")
-    link = ["--link", "16MiB", "--downtime", "2ms"]
+    paths, link = made_series(folder, moments), ["--link", "16MiB", "--downtime", "2ms"]
     name = os.path.join(folder, "guest.light.pcwt")
-    printed, refused = run_predict(name, *link, "--picture", picture, status=5)
-    lines = printed.strip().split("\n")
-    expect(len(lines) == 5 and not refused, f"{printed!r}, {refused!r}")
-    within = 0
-    for path, moment, line in zip(paths, moments, lines):
-        alone, _ = run_predict(path, *link, status=None)
-        converges = re.search(r"^converges: (\w+)", alone, re.M)[1]
-        expect(f"  {CONVERGES[converges]}  " in line, f"{converges} is not in {line!r}")
-        expect(line.startswith(f"{moment:%Y-%m-%d %H:%M:%S}  "), line)
-        for said in ("sent", "total time", "downtime"):
-            value = re.search(rf"^{said}: ([^,\n]+)", alone, re.M)[1]
-            error = re.search(rf"^standard errors: .*\b{said.split()[-1]} ([^,\n]+)", alone, re.M)[1]
-            expect(f"  {value} +- {error}  " in line, f"{value!r} +- {error} is not in {line!r}")
-        told = starts_of(path, "16MiB", "2ms")
-        within += sum(start["kept"] != "unknown" for start in told["starts"])
-        for which in ("best", "worst"):
-            start = told[which]
-            at = moment + datetime.timedelta(seconds=start["start_seconds"] - 1)
-            expect(f"  {which} {at:%H:%M:%S} {size_text(start['sent_bytes'])}" in line, f"{which}: {line}")
-    dots = pictured(picture)
-    expect(len(dots) == 3 * within > 100, f"{len(dots)} dots, {within} starts")
-    expect({dot[2] for dot in dots} == {day_chart.KEPT, day_chart.NOT_KEPT}, "no colours")
-    for place, _, _, text in dots:
-        moment = datetime.datetime.fromisoformat(text[:19])
-        of_day = (moment - moment.replace(hour=0, minute=0, second=0)).total_seconds() / 86400
-        wanted = day_chart.LEFT + of_day * (day_chart.WIDTH - day_chart.LEFT - day_chart.RIGHT)
-        expect(abs(place - wanted) < 0.1, f"{text} stands at {place}")
+    expect_series(folder, paths, moments, [*link, "--clark"], 5)
+    lines = expect_series(folder, paths, moments, link, 0)
     with open(paths[2], "r+b") as file:
         file.write(b"XXXX")
     printed, refused = run_predict(name, *link, status=1)
@@ -455,6 +429,45 @@ def predicted_series(_, folder):
     expect("other.light.pcwt: No such file" in refused, refused)
     run_predict(*paths[:2], *link, "--picture", os.path.join(folder, "none", "a.svg"), status=1)
     expect(not [name for name in os.listdir(folder) if name.endswith(".part")], f"{os.listdir(folder)}")
+
+
+def expect_series(folder, paths, moments, words, status):
+    """The lines and the picture of a series by one plan tell what is told of each segment alone. Returns the lines."""
+    name, picture = os.path.join(folder, "guest.light.pcwt"), os.path.join(folder, "day.svg")
+    printed, refused = run_predict(name, *words, "--picture", picture, status=status)
+    lines = printed.strip().split("\n")
+    expect(len(lines) == 5 and not refused, f"{printed!r}, {refused!r}")
+    told = [expect_segment(path, moment, line, words) for path, moment, line in zip(paths, moments, lines)]
+    starts = [start for each in told for start in each["starts"] if start["kept"] != "unknown"]
+    dots, kept = pictured(picture), {start["kept"] == "yes" for start in starts}
+    expect(len(dots) == 3 * len(starts) > 100, f"{len(dots)} dots, {len(starts)} starts")
+    expect({dot[2] == day_chart.KEPT for dot in dots} == kept, "other colours")
+    # By Clark's rounds some are kept and some are not.
+    expect("--clark" not in words or len({dot[2] for dot in dots}) == 2, "one colour")
+    for place, _, _, text in dots:
+        moment = datetime.datetime.fromisoformat(text[:19])
+        of_day = (moment - moment.replace(hour=0, minute=0, second=0)).total_seconds() / 86400
+        wanted = day_chart.LEFT + of_day * (day_chart.WIDTH - day_chart.LEFT - day_chart.RIGHT)
+        expect(abs(place - wanted) < 0.1, f"{text} stands at {place}")
+    return lines
+
+
+def expect_segment(path, moment, line, words):
+    """The line of a segment has what is told of it alone. Returns what `when` tells of it."""
+    alone, _ = run_predict(path, *words, status=None)
+    converges = re.search(r"^converges: (\w+)", alone, re.M)[1]
+    expect(f"  {CONVERGES[converges]}  " in line, f"{converges} is not in {line!r}")
+    expect(line.startswith(f"{moment:%Y-%m-%d %H:%M:%S}  "), line)
+    for said in ("sent", "total time", "downtime"):
+        value = re.search(rf"^{said}: ([^,\n]+)", alone, re.M)[1]
+        error = re.search(rf"^standard errors: .*\b{said.split()[-1]} ([^,\n]+)", alone, re.M)[1]
+        expect(f"  {value} +- {error}  " in line, f"{value!r} +- {error} is not in {line!r}")
+    told = starts_of(path, words[1], words[3], words[4:])
+    for which in ("best", "worst"):
+        start = told[which]
+        at = moment + datetime.timedelta(seconds=start["start_seconds"] - 1)
+        expect(f"  {which} {at:%H:%M:%S} {size_text(start['sent_bytes'])}" in line, f"{which}: {line}")
+    return told
 
 
 def pictures_of_any_starts(_, folder):

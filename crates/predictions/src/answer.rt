@@ -21,7 +21,8 @@ pub struct Answer {
     /// How many rounds or looks there are.
     pub rounds: u64,
     /// Why there are no more: 0 if few pages remain, 1 if the next rate is too high, 2 after the last round, 3 after the
-    /// last look, 4 if the trace ends first, 5 if it ends first and the lists did not get shorter.
+    /// last look, 4 if the trace ends first, 5 if it does and a list between the first and the last has no more pages
+    /// than the last.
     pub reason: u64,
     /// The tick at which the guest is stopped.
     pub stop: u64,
@@ -115,7 +116,8 @@ impl Answer {
         }
     }
 
-    /// Returns the answer to a question over a trace. The only error is that memory runs out.
+    /// Returns the answer to a question over a trace, which is one (`one_answer`). The only error is that memory runs
+    /// out.
     pub fn of_trace<T: Timeline>(
         alloc: Global,
         timeline: &T,

@@ -181,7 +181,7 @@ fn round_ending(reason: Reason) -> CourseEnd
     }
 }
 
-/// Returns why a plan of looks ends, if its lists get shorter or do not.
+/// Returns why a plan of looks ends, by whether its lists shorten.
 fn look_ending(end: PlanEnd, shortens: bool) -> CourseEnd
     ensures { result ≡ look_ending end shortens }
 {

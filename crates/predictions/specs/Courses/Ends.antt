@@ -15,13 +15,13 @@ round_ending few_remain = endings.Few
 round_ending too_fast = endings.Fast
 round_ending rounds_done = endings.Rounds
 
--- why a plan of looks ends, if its lists get shorter or do not
+-- why a plan of looks ends, by whether its lists shorten
 abbrev pub look_ending : PlanEnd → Bool → CourseEnd
 look_ending looks.Few shortens = endings.Fits
 look_ending looks.Looks shortens = endings.Looks
 look_ending looks.Record shortens = if shortens then endings.Cut else endings.Level
 
--- when a plan stops that ends so at a tick: if the record cuts it while its lists get shorter, after the record
+-- when a plan stops that ends so at a tick: if the record cuts it while its lists shorten, after the record
 abbrev pub stop_after : CourseEnd → ℕ → ℕ
 stop_after endings.Cut tick = tick + 1
 stop_after endings.Few tick = tick
