@@ -143,7 +143,7 @@ def best_line(asked, trace):
     best, _ = migration_model.chosen([Cost.of(asked, trace, tick) for tick in ticks], asked, trace)
     if not best:
         return "best -"
-    is_likely = str(best.likely() <= asked.downtime).lower()
+    is_likely = str(best.is_likely(asked.downtime)).lower()
     error = f"Some({best.errors[2]})" if best.errors else "None"
     numbers = f"{best.start} {best.plan.steps} {best.time} {best.sent} {best.down}"
     return f"best {numbers} {best.verdict().capitalize()} {is_likely} {error}"
