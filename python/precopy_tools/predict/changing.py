@@ -14,8 +14,8 @@ from precopy_tools.predict.forecast import Forecast, Link, encoded
 from precopy_tools.predict.link_clock import Change, ChangingLink
 from precopy_tools.quantities import micros_of
 
-# The limit at the greatest bandwidth has so many ticks, if ticks are not as short as can be.
-LEAST_LIMIT = 4
+# At the greatest bandwidth the limit of the downtime has so many ticks, unless the lowest rate would be below this.
+LEAST_LIMIT, ROUGH_RATE = 4, 100
 # What is told of a plan over one rate, and not over several.
 OF_ONE_RATE = ("enough", "hosts")
 
@@ -66,11 +66,16 @@ class Question:
         self.start = forecast.start // self.factor
 
     def _factor(self) -> int:
-        """By how much ticks are made longer: for the lowest bandwidth, but not beyond the limit at the greatest."""
-        fitting, limit = self.forecast.fitting(self.asked.downtime), 1e6 * self.asked.downtime
-        limit *= self.asked.lowest / self.asked.greatest / LEAST_LIMIT
-        short = [factor for factor in fitting if factor * self.forecast.tick() <= limit] or fitting[:1]
-        return self.forecast.longer(self.asked.lowest, short)
+        """By how much ticks are made longer: for the lowest bandwidth, if a plan can have the greatest then, and the
+        limit at that one has ticks enough. For one bandwidth it is that of a link that does not change."""
+        asked, forecast = self.asked, self.forecast
+        fitting = forecast.fitting(asked.downtime)
+        if asked.lowest == asked.greatest:
+            return forecast.longer(asked.lowest, fitting)
+        limit = 1e6 * asked.downtime * asked.lowest / asked.greatest / LEAST_LIMIT / forecast.tick()
+        longest = max(limit, ROUGH_RATE / forecast.scale(1).rate(asked.lowest))
+        longest = min(longest, forecast.most_link() / asked.greatest)
+        return forecast.longer(asked.lowest, [each for each in fitting if each <= longest] or fitting[:1])
 
     def _limit(self, lowest: int) -> float:
         """The limit of the downtime at the greatest rate, in seconds of whole ticks."""
