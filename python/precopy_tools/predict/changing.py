@@ -13,6 +13,7 @@ from precopy_tools.predict import plans
 from precopy_tools.predict.forecast import Forecast, Link, encoded
 from precopy_tools.predict.link_clock import Change, ChangingLink
 from precopy_tools.quantities import micros_of
+from precopy_tools.words import whole_rate
 
 # At the greatest bandwidth the limit of the downtime has so many ticks, unless the lowest rate would be below this.
 LEAST_LIMIT, ROUGH_RATE = 4, 100
@@ -68,14 +69,16 @@ class Question:
     def _factor(self) -> int:
         """By how much ticks are made longer: for the lowest bandwidth, if a plan can have the greatest then, and the
         limit at that one has ticks enough. For one bandwidth it is that of a link that does not change."""
-        asked, forecast = self.asked, self.forecast
-        fitting = forecast.fitting(asked.downtime)
-        if asked.lowest == asked.greatest:
-            return forecast.longer(asked.lowest, fitting)
-        limit = 1e6 * asked.downtime * asked.lowest / asked.greatest / LEAST_LIMIT / forecast.tick()
-        longest = max(limit, ROUGH_RATE / forecast.scale(1).rate(asked.lowest))
-        longest = min(longest, forecast.most_link() / asked.greatest)
-        return forecast.longer(asked.lowest, [each for each in fitting if each <= longest] or fitting[:1])
+        fitting = self.forecast.fitting(self.asked.downtime)
+        if self.asked.lowest < self.asked.greatest:
+            fitting = [factor for factor in fitting if self._is_fine(self.forecast.scale(factor))] or fitting[:1]
+        return self.forecast.longer(self.asked.lowest, fitting)
+
+    def _is_fine(self, scale: plans.Scale) -> bool:
+        """Whether ticks are short enough for the limit at the greatest bandwidth, unless the lowest rate is small."""
+        lowest, greatest = whole_rate(self.asked.lowest), whole_rate(self.asked.greatest)
+        has_limit = micros_of(self.asked.downtime) * lowest >= LEAST_LIMIT * scale.tick * greatest
+        return greatest <= scale.most() and (has_limit or scale.whole_rate(lowest) <= ROUGH_RATE)
 
     def _limit(self, lowest: int) -> float:
         """The limit of the downtime at the greatest rate, in seconds of whole ticks."""
