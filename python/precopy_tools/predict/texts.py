@@ -103,9 +103,11 @@ def of_day(link: DayLink) -> str:
 
 def counts_of(told: dict, name: str) -> str:
     """In how many redraws and from how many starts something is so, as precopy-view tells it."""
-    redraws, starts = told.get("redraws"), told.get("starts")
-    parts = [f"in {redraws[name]} of {redraws['count']} redraws"] * bool(redraws)
-    parts += [f"from {starts[name]} of {starts['count']} starts"] * bool(starts)
+    parts = [
+        f"{word} {told[what][name]} of {told[what]['count']} {what}"
+        for word, what in (("in", "redraws"), ("from", "starts"))
+        if what in told
+    ]
     return f", {' and '.join(parts)}" if parts else ""
 
 
