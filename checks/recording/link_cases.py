@@ -124,7 +124,7 @@ def what_goes_without(_, folder):
 
 
 def drawn_record(draw):
-    """A record with a hot set, and a link that changes within it: the words of --link, and its steps by microseconds."""
+    """A record with a hot set, and a link that changes within it: its rates in KiB, and when it has the later ones."""
     pages, last = draw.randrange(2, 300), draw.randrange(1500, 5000)
     hot = max(1, pages // draw.choice([2, 8, 32]))
     writes = sorted((draw.randrange(last + 1), draw.randrange(hot)) for _ in range(draw.randrange(800)))
@@ -137,8 +137,8 @@ def drawn_record(draw):
 
 
 def steps_of(record, rates, moments, start):
-    """The steps of a link that has the first rate up to a moment, as the tool counts them: after the start and up to the
-    last look. The day begins within some records, and the plain rate then."""
+    """The steps of a link, as the tool counts them: after the start and up to the last look. The day begins within some
+    records, and the plain rate then."""
     plain, *later = rates
     midnight = datetime.datetime(2026, 11, 27, tzinfo=datetime.timezone.utc)
     of_day = {(moment - moment.replace(hour=0, minute=0, second=0)): rate for moment, rate in zip(moments, later)}

@@ -110,7 +110,7 @@ class Host:
         return [self.placed[number] for number in range(len(self.order))]
 
     def _begin(self, pool: concurrent.futures.Executor) -> None:
-        """The next guests of the order take the slots that are free, and begin if none of their group is before them."""
+        """The next guests of the order take the free slots, and begin if none of their group is before them."""
         for slot in range(self.at_once):
             if slot not in self.slots and self.queue:
                 self.slots[slot] = self.queue.pop(0)

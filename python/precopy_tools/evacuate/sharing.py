@@ -12,8 +12,8 @@ class Share(NamedTuple):
 
 
 def fair(link: int, most: Sequence[int]) -> list[int]:
-    """The shares of guests of which each takes at most so many bytes a second: what one leaves goes to the others, which
-    have as much as each other."""
+    """The shares of guests of which each takes at most so many bytes a second: what one leaves goes to the others, and
+    these have equal ones."""
     left = link
     for place, least in enumerate(sorted(most)):
         level = left // (len(most) - place)

@@ -8,7 +8,6 @@ from precopy_tools.evacuate.hours import Hour, clock_text, day_text
 from precopy_tools.evacuate.schedules import Answer, Limits, Placed, Schedule
 from precopy_tools.quantities import micros_of, moment_text, size_text, time_text
 
-
 # What stands below the table if shares change.
 ONLY_RUN = "Only --run performs this schedule: it changes shares when guests begin and end."
 # So many changes of a share are told.

@@ -99,8 +99,8 @@ class Question:
         return encoded(self.forecast.sample.trace_pages, writes, self.forecast.page_size)
 
     def told(self) -> dict:
-        """What `precopy-view json predict` tells, in real times. What it tells of one rate alone is left out, and so are
-        the times over all starts: by the clock of a link a time is another one from each."""
+        """What `precopy-view json predict` tells, in real times. What is of one rate alone is left out, and so are the
+        times over all starts: by the clock of a link a time is another one from each."""
         warm = [] if self.forecast.base is None else ["--base", "0"]
         words = [*self.limits, *warm, "--start", str(self.link.clock(self.start))]
         told = plans.document(self.forecast.program, ["predict", *words], self.text())
@@ -133,8 +133,8 @@ class Question:
         return found
 
     def error(self, end: int, error: float) -> float:
-        """The standard error of a time that ends at these microseconds of the clock, in real seconds: by how much at most
-        the end is moved by one of the clock's, forwards or back."""
+        """The standard error of a time that ends at these microseconds of the clock, in real seconds: by how much at
+        most one of the clock's moves the end, forwards or back."""
         fine = self.link._replace(changes=tuple(Change(self.tick * tick, rate) for tick, rate in self.link.changes))
         by_clock = micros_of(error)
         before, now, after = (fine.tick_of(max(0, moment)) for moment in (end - by_clock, end, end + by_clock))
