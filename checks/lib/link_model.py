@@ -1,5 +1,5 @@
-"""A plain model of a link whose rate changes, as `crates/link_clock/specs` defines it: what it sends is added up tick by
-tick, and plans go page by page over writes by its clock. It shares no code with the tools."""
+"""A plain model of a link whose rate changes, as `crates/link_clock/specs` defines it: what it sends is added up by
+ticks, and plans go page by page over writes by its clock. It shares no code with the tools."""
 
 from bisect import bisect_left
 from fractions import Fraction
@@ -50,8 +50,8 @@ class Scale(NamedTuple):
 
 
 class Link(NamedTuple):
-    """Bytes a second from so many microseconds after the first look on; the greatest and the lowest that it can have; and
-    the limit of the downtime in microseconds."""
+    """Bytes a second from so many microseconds after the first look on; the greatest and the lowest that it can have;
+    and the limit of the downtime in microseconds."""
 
     steps: list[tuple[int, int]]
     greatest: int

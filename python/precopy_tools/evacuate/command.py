@@ -5,17 +5,15 @@
 
 There is one record a guest: a trace that tools/record has made, with NAME.json beside it, a series of these, or a whole
 trace. For each number at once (1, 2, 4 and so on up to all) and each of four orders it prints the time of the whole,
-the bytes and the longest downtime. Each guest has an even share of the link, which stays. The best schedule comes last: one that
-keeps all limits, then the one that takes less time, then fewer bytes. Costs are those of precopy-view, by a
-hypervisor's looks or with --clark by Clark's rounds, and schedules those of precopy-schedule. docs/EVACUATION.md says
-what they leave out.
-
-With --fluid guests that move share the link evenly at each moment, also while fewer move, and --run sets their shares.
+the bytes and the longest downtime. Each guest has an even share of the link, which stays; with --fluid those that move
+share the link evenly at each moment. The best schedule comes last: one that keeps all limits, then the one that takes
+less time, then fewer bytes. Costs are those of precopy-view, by a hypervisor's looks or with --clark by Clark's rounds,
+and schedules those of precopy-schedule. docs/EVACUATION.md says what they leave out.
 
 Then comes what performs it: a script of virsh, or with --lines qmp the commands for each guest's monitor. --dry-run
-prints nothing but the script, and --run performs the schedule itself. It shows each guest that moves, begins no other
-one after a failure, and cancels those under way on SIGINT and SIGTERM. It never touches a migration that it did not
-begin.
+prints nothing but the script, and --run performs the schedule itself; only it does with --fluid. It shows each guest
+that moves, begins no other one after a failure, and cancels those under way on SIGINT and SIGTERM. It never touches a
+migration that it did not begin.
 
 --at plans guests of series by their records of an hour, in UTC, and --window also holds them back until a calm: as if
 today is as the day of the records. What each move costs at its hour on each day is told beside it.
