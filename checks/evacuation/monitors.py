@@ -112,8 +112,8 @@ class Monitor(threading.Thread):
 
 
 def virsh_in(folder: str, seconds: float | str, failing: tuple[str, ...] = ()) -> tuple[dict, str]:
-    """An environment with a `virsh` whose migrations take so long, or what a shell makes of this, and the file of what it
-    did."""
+    """An environment with a `virsh` whose migrations take so long, or what a shell makes of that, and the file of what
+    it did."""
     programs, log = os.path.join(folder, "programs"), os.path.join(folder, "virsh.log")
     os.makedirs(programs, exist_ok=True)
     path = os.path.join(programs, "virsh")
