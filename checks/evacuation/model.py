@@ -225,7 +225,7 @@ class Mover:
         if told:
             self.found = told
         elif len(self.shares) == 1:
-            self.found, self.is_fixed = self.by_rounds(), True
+            self.found, self.is_fixed = self.by_first_share(), True
         else:
             time, sent, down, *_ = self.found
             self.found, self.is_fixed = (time, sent, down, "unknown", False), True
@@ -250,12 +250,16 @@ class Mover:
         time, sent = max(1, (it.stop - span[0]) * tick + down), it.total * 4096 * guest.guest // guest.sampled
         return time, sent, down, "yes" if it.ending == "few" else "no", it.ending == "few" and down <= limit
 
-    def by_rounds(self) -> tuple[int, int, int, str, bool]:
-        """The same by Clark's rounds at the first share alone, of a record that does not tell."""
+    def by_first_share(self) -> tuple[int, int, int, str, bool]:
+        """The same of a record that does not tell: as if the first share stays, and if it does not tell then either, by
+        Clark's rounds."""
         guest, limit = self.sharer.guest, self.sharer.downtime
         found = rates(guest, self.shares[0][1], limit)
         assert found
-        plan = planned(guest, found, guest.first // found.factor, self.sharer.base, Manner.ROUNDS)
+        start = guest.first // found.factor
+        plans = (planned(guest, found, start, self.sharer.base, manner) for manner in (Manner.LOOKS, Manner.ROUNDS))
+        looks, rounds = plans
+        plan = looks if looks.is_known else rounds
         return max(1, plan.time), plan.sent, plan.down, "unknown", False
 
     @property

@@ -72,23 +72,25 @@ class Moving:
 
     def plan(self) -> "Moving":
         """Plans it by its shares, with the range over starts that it has if its share stays. If its record does not
-        tell, it costs what it does at its first share alone, as one that writes no more; if that is so of a later share
-        only, what it does by those before."""
-        cost = self._cost() if self.is_known else None
-        if not cost and len(self.shares) == 1:
-            alone = self.asked._replace(link=float(self.shares[0].bandwidth * self.at_once))
-            cost = host_costs.cost_of(self.planner, alone, self.limits, self.at_once)
-            self.is_known = False
-        elif not cost and self.is_known:
-            cost = self.cost._replace(converges="unknown", kept=False, why=host_costs.TOO_SHORT)
-            self.is_known = False
+        tell, it costs what it does if its first share stays; if that is so of a later share only, what it does by those
+        before."""
+        if self.is_known:
+            cost = cost_over(self.planner, self.asked, self.limits, self.at_once, self.shares)
+            self.cost, self.is_known = cost or self._unknown(), cost is not None
         of_starts = {name: getattr(self.by_stays, name) for name in ("least", "most", "quiet", "record")}
-        cost = (cost or self.cost)._replace(shares=list(self.shares), most_share=self.most, **of_starts)
+        cost = self.cost._replace(shares=list(self.shares), most_share=self.most, **of_starts)
         self.cost = cost._replace(time=max(1, cost.time))
         return self
 
-    def _cost(self) -> Cost | None:
-        return cost_over(self.planner, self.asked, self.limits, self.at_once, self.shares)
+    def _unknown(self) -> Cost:
+        """What it costs if its record does not tell."""
+        if len(self.shares) > 1:
+            cost = self.cost
+        else:
+            alone = self.asked._replace(link=float(self.shares[0].bandwidth * self.at_once))
+            cost = host_costs.cost_of(self.planner, alone, self.limits, self.at_once)
+        why = cost.why if self.planner.sample.stood_still else host_costs.TOO_SHORT
+        return cost._replace(converges="unknown", kept=False, why=why)
 
 
 class Host:
