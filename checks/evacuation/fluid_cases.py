@@ -13,7 +13,6 @@ from checks.evacuation.cases import (
     document_of,
     expect,
     four_guests,
-    random_guest,
     run_tool,
     steady_guest,
     write_record,
@@ -53,18 +52,24 @@ class Drawn(NamedTuple):
     groups: dict[str, int]
 
 
+def drawn_guest(draw: random.Random) -> model.Guest:
+    """A guest whose pages are written at random, mostly in a hot part, at any pace."""
+    pages, last = draw.randrange(20, 400), 1000 + draw.randrange(500, 4000)
+    hot, count = max(1, pages // draw.choice([1, 4, 16])), draw.choice([10, 300, 3000])
+    written = sorted((draw.randrange(1000, last + 1), draw.randrange(hot)) for _ in range(draw.randrange(count)))
+    return model.Guest(pages, pages, pages * draw.choice([1, 1, 5, 30]), 1000, last, written)
+
+
 def drawn_host(draw: random.Random) -> Drawn:
-    guests, limits = {}, {}
-    link = draw.choice([1, 3, 16, 64, 1000]) * (1 << 20) + draw.choice([0, 0, 1])
-    downtime = draw.choice([0.01, 0.1, 0.3, 0.335, 2.0])
-    for number in range(draw.randrange(2, 6)):
-        name = f"guest{number}"
-        guests[name] = random_guest(draw)
+    """Two to five guests, over a link that moves them all in a tenth of a second to three, if they do not write."""
+    guests = {f"guest{number}": drawn_guest(draw) for number in range(draw.randrange(2, 6))}
+    size = sum(4096 * guest.guest for guest in guests.values())
+    link, downtime, limits = int(size / draw.choice([0.1, 0.5, 1, 3])), draw.choice([0.01, 0.1, 0.3, 0.335, 2.0]), {}
+    for name, guest in guests.items():
         own = draw.choice([None, None, float(draw.randint(link // 20, link))])
-        base = draw.choice([None, None, None, 0, draw.randint(0, guests[name].first)])
+        base = draw.choice([None, None, None, 0, draw.randint(0, guest.first)])
         limits[name] = host_costs.Wanted(downtime, own, base=base)
-    groups = {name: draw.choice([0, 0, 1]) for name in guests}
-    return Drawn(guests, limits, link, groups)
+    return Drawn(guests, limits, link, {name: draw.choice([0, 0, 1]) for name in guests})
 
 
 def random_hosts(programs: Programs, folder: str) -> None:
