@@ -8,6 +8,8 @@ from typing import NamedTuple
 
 from checks.lib import link_model
 from checks.lib.harness import cases_of, drawn, expect
+from checks.lib.tally import module
+from checks.lib.view_texts import schema_of
 from checks.recording.forecast_cases import run_predict
 from precopy_dev.models import courses, redrawn
 from precopy_dev.tree import TOP
@@ -242,6 +244,7 @@ def expect_told(told, wanted, steps, where):
     rows = [(0.0, link["link_bytes_per_second"]), *changes]
     expect(rows == [(at / 1e6, float(rate)) for at, rate in steps], f"{where}: {rows} in place of {steps}")
     expect("when" not in told and not {"enough", "hosts"} & set(prediction), f"{where}: {sorted(prediction)}")
+    expect_members(prediction)
     if wanted.ending == "cut":
         is_unknown = prediction["converges"] == prediction["kept"] == "unknown"
         expect(is_unknown and "migration" not in prediction, f"{where}: {prediction}")
@@ -260,6 +263,16 @@ def expect_told(told, wanted, steps, where):
     expect(found == wanted, f"{where}: {found} in place of {wanted}")
     verdict = "yes" if wanted.ending == "few" else "no"
     expect(prediction["converges"] in (verdict, "uncertain"), f"{where}: {prediction['converges']}")
+
+
+def expect_members(prediction):
+    """Each member keeps the schema of `precopy-view json predict`; those of all starts have counts alone."""
+    schema, jsonschema = schema_of("view-predict"), module("jsonschema")
+    for name, value in prediction.items():
+        part = {**schema["properties"][name], "$defs": schema["$defs"]}
+        part |= {"required": ["count", "known", "converging", "kept"]} if name == "starts" else {}
+        fault = next(jsonschema.Draft202012Validator(part).iter_errors(value), None)
+        expect(fault is None, f"{name}: {fault and fault.message}")
 
 
 def a_tenth_midway(_, folder):
