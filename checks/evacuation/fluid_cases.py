@@ -180,6 +180,25 @@ def guests_whose_records_do_not_tell(programs: Programs, folder: str) -> None:
         expect(abs(took - 4096 * pages / share) < 0.02 and costs[name]["converges"] == "unknown", f"{costs[name]}")
 
 
+def hours_of_fluid_guests(programs: Programs, folder: str) -> None:
+    """By the records of an hour the day of the record has what is planned, since its move has the same shares then."""
+    paths = []
+    for name, pages in ("web", 4096), ("db", 16384):
+        for day in 26, 27:
+            guest = steady_guest(pages + 100 * day, 10, 40)
+            moment = {"taken_of": f"domain {name}", "taken_at": f"2026-11-{day}T03:00:00+00:00"}
+            paths.append(write_record(folder, f"{name}.202611{day}T030000Z", guest, **moment))
+    words = ["--link", LINK, "--at-once", "2", "--at", "03:00", "--json", f"{folder}/told.json", "--fluid"]
+    text, fault = run_tool(programs, *paths, *words)
+    moves = moves_of(document_of(folder))
+    expect(not fault and len(moves["db"]["shares"]) == 2 and "limits kept on 2 of 2 days" in text, f"{fault}, {text}")
+    for move in moves.values():
+        newest, other = move["days"]
+        names = ("time_seconds", "sent_bytes", "down_seconds")
+        expect([newest[name] for name in names] == [move["cost"][name] for name in names], f"{move}")
+        expect(other["sent_bytes"] < newest["sent_bytes"], f"{move}")
+
+
 # ---- Runs.
 
 
@@ -250,6 +269,7 @@ CASES = (
     whole_fluid_runs,
     refused_fluid_words,
     guests_whose_records_do_not_tell,
+    hours_of_fluid_guests,
     fluid_runs,
     silent_monitors,
     fluid_runs_of_virsh,
