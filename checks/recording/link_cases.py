@@ -115,12 +115,12 @@ def what_goes_without(_, folder):
     words = ["--link", "64MiB", "--link", "05:38:55=32MiB"]
     for more in (["--when"], ["--clark"], ["--reached", "0.5..1"]):
         _, refused = run_predict(SQLITE, *words, *more, status=1)
-        said = f"changes within this recording, at 05:38:55 UTC: it goes without {more[0]}"
+        said = f"changes within this recording, at 05:38:55 UTC: {more[0]} needs a link that stays"
         expect(said in refused, f"{more}: {refused}")
     still = Record(300, 1, 4000, [(10, 3)], BEGUN).write(folder, "still.light.pcwt")
     picture = os.path.join(folder, "day.svg")
     printed, refused = run_predict(SQLITE, still, *words, "--picture", picture, status=1)
-    expect("it goes without --picture" in refused and printed.count("\n") == 1, f"{printed}, {refused}")
+    expect("--picture needs a link that stays" in refused and printed.count("\n") == 1, f"{printed}, {refused}")
     with open(picture, encoding="utf-8") as file:
         expect("64.00 MiB a second, from 05:38:55 UTC 32.00, downtime limit 300 ms" in file.read(), "another title")
 
