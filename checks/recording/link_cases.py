@@ -115,9 +115,9 @@ def what_goes_without(_, folder):
     words = ["--link", "64MiB", "--link", "05:38:55=32MiB"]
     for more in (["--when"], ["--clark"], ["--reached", "0.5..1"]):
         _, refused = run_predict(SQLITE, *words, *more, status=1)
-        said = f"changes within this recording, at 05:38:55 UTC: {more[0]} needs a link that stays"
+        said = f"changes within this record, at 05:38:55 UTC: {more[0]} needs a link that stays"
         expect(said in refused, f"{more}: {refused}")
-    still = Record(300, 1, 4000, [(10, 3)], BEGUN).write(folder, "still.light.pcwt")
+    still = Record(300, 1, 4000, [(10, 3)], NOON).write(folder, "still.light.pcwt")
     picture = os.path.join(folder, "day.svg")
     printed, refused = run_predict(SQLITE, still, *words, "--picture", picture, status=1)
     expect("--picture needs a link that stays" in refused and printed.count("\n") == 1, f"{printed}, {refused}")

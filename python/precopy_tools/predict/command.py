@@ -104,7 +104,7 @@ def asked(options: argparse.Namespace, path: str) -> tuple[Forecast, Link | Step
     if given:
         at = forecast.moment(link.steps[1].micros / 1e6)
         raise Refused(
-            f"{path}: the link changes within this recording, at {at:%H:%M:%S} UTC: --{given[0]} needs a link that stays"
+            f"{path}: the link changes within this record, at {at:%H:%M:%S} UTC: --{given[0]} needs a link that stays"
         )
     return forecast, link
 
