@@ -59,7 +59,8 @@ class Cost(NamedTuple):
     migration does, or if the guest stood still meanwhile: then the cost is that of a guest that writes no more. It is
     kept if the guest's limits are, and `why` says what is not. `like_qemu` is what `json predict` tells of a hypervisor
     that goes on as QEMU does, beside Clark's plan or if the recording ends first: nothing if the guest stood still, or
-    if the start is one of `json when`.
+    if the start is one of `json when`. If those that move share the link, `share` is the first of its `shares`, and
+    `most_share` the most that it takes.
     """
 
     at_once: int
@@ -77,6 +78,8 @@ class Cost(NamedTuple):
     record: str = ""
     start: float = 0.0
     like_qemu: dict = {}
+    shares: list = []
+    most_share: int = 0
 
 
 class Guest(NamedTuple):

@@ -48,6 +48,10 @@ def move_document(move: Placed, hour: Hour, days: dict[str, list[Day]]) -> dict:
         "end_seconds": move.end / 1e6,
         "slot": move.slot,
     }
+    if cost.shares:
+        told["shares"] = [
+            {"after_seconds": share.micros / 1e6, "link_bytes_per_second": share.bandwidth} for share in cost.shares
+        ]
     if hour.opens:
         told |= {
             "begin": iso_text(hour.opens + move.start / 1e6),
@@ -60,12 +64,15 @@ def move_document(move: Placed, hour: Hour, days: dict[str, list[Day]]) -> dict:
     return told
 
 
-def document(limits: Limits, found: Gathered, answer: Answer, hour: Hour, days: dict[str, list[Day]]) -> dict:
+def document(
+    limits: Limits, found: Gathered, answer: Answer, hour: Hour, days: dict[str, list[Day]], is_fluid: bool = False
+) -> dict:
     """All answers. Of a schedule of an hour there is when it opens, and of each move what it costs on each day."""
     deadline = limits.deadline
     return {
         "format": FORMAT,
         "plan": plan_of(found.asked.pace),
+        **({"fluid": True} if is_fluid else {}),
         "link_bytes_per_second": limits.link,
         "downtime_seconds": limits.downtime,
         **({"deadline_seconds": deadline} if deadline else {}),

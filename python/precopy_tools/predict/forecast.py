@@ -80,12 +80,19 @@ class Forecast:
         """The most bytes a second that a plan can have."""
         return float(self.scale(1).most())
 
-    def factor(self, link: Link) -> int:
-        """By how much ticks are made longer: for a rate of 500 or more, if they fit the downtime limit."""
-        downtime, tick = round(1e6 * link.downtime), self.tick()
-        fitting = [each for each in FACTORS if downtime % (tick * each) == 0 and tick * each <= LONGEST_TICK] or [1]
-        rate = self.scale(1).rate(link.bandwidth)
+    def fitting(self, downtime: float) -> list[int]:
+        """By how much ticks may be made longer if a limit of the downtime has whole ones."""
+        limit, tick = round(1e6 * downtime), self.tick()
+        return [each for each in FACTORS if limit % (tick * each) == 0 and tick * each <= LONGEST_TICK] or [1]
+
+    def longer(self, bandwidth: float, fitting: list[int]) -> int:
+        """By how much ticks are made longer: for a rate of 500 or more, if one of these is enough."""
+        rate = self.scale(1).rate(bandwidth)
         return next((factor for factor in fitting if rate * factor >= LEAST_RATE), fitting[-1])
+
+    def factor(self, link: Link) -> int:
+        """By how much ticks are made longer for a link."""
+        return self.longer(link.bandwidth, self.fitting(link.downtime))
 
     def text(self, factor: int) -> bytes:
         """The trace in longer ticks. Of several writes to a page in a tick one stays. A write at the last look, which

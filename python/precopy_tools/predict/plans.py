@@ -7,7 +7,7 @@ import subprocess
 from typing import NamedTuple
 
 from precopy_tools.record.memory import PAGE
-from precopy_tools.words import given_rate
+from precopy_tools.words import given_rate, whole_rate
 
 # Bytes in the smallest unit of a link, and the most pages in 1,000 ticks.
 LEAST_LINK, MOST_RATE = 125, 1_000_000
@@ -80,6 +80,10 @@ class Scale(NamedTuple):
     def rate(self, bandwidth: float) -> float:
         """Pages of the trace in 1,000 ticks, for bytes a second."""
         return bandwidth * self.tick * self.sampled / (1000 * self.page * self.guest)
+
+    def whole_rate(self, bandwidth: float) -> int:
+        """The same in whole pages, rounded down, as precopy-view has it."""
+        return whole_rate(bandwidth) * self.tick * self.sampled // (1000 * self.page * self.guest)
 
     def most(self) -> int:
         """The most bytes a second that a plan can have, in the unit of a link."""
