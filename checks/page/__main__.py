@@ -46,7 +46,9 @@ from checks.page.node import node_command, put_web
 from checks.page.shown import COLLECTOR, Page, tried
 from checks.view.limit_cases import Known
 from checks.view.quantity_cases import amounts, quantities, texts_of
+from precopy_dev import join_page
 from precopy_dev.packaging import notices
+from precopy_tools.refusals import Refused
 
 MOST_MODULE, MOST_PAGE = 65_536, 400_000
 VIEW = os.path.join(TOP, "crates", "precopy_view", "out", "precopy_view")
@@ -88,6 +90,23 @@ def check_sizes(tally, folder, module, page):
     told = re.search('<pre id="notices">(.*?)</pre>', text.decode(), re.DOTALL)
     wanted = notices.notices(notices.PLANNER)
     tally.add(told and html.unescape(told[1]) == wanted, "the page has not the notices of its libraries")
+
+
+def check_tabs(tally):
+    """A line of the page's script is as deep as it was, and no literal is changed."""
+    rows = [
+        ("  a\n    b\nc  d\n", "\ta\n\t\tb\nc  d\n"),
+        ("   a;\n\n  \n", "\t a;\n\n\t\n"),
+        ("  a(`b`);\n  `c${`d`}`", "\ta(`b`);\n\t`c${`d`}`"),
+    ]
+    for text, wanted in rows:
+        found = join_page.tabbed("a.js", text)
+        tally.add(found == wanted, f"{text!r} is joined as {found!r}, not {wanted!r}")
+    for text in ("a = `b\n  c`;", "a(`b`, `c\n  ${d}`)"):
+        try:
+            tally.add(False, f"{text!r} is joined as {join_page.tabbed('a.js', text)!r}")
+        except Refused as error:
+            tally.add("web/a.js has a template literal of several lines" in str(error), f"{text!r}: {error}")
 
 
 def node_settings(asked):
@@ -420,6 +439,7 @@ def check_pictures(tally, path, folder):
 
 def check_all(tally, folder, module, path, precopy, only):
     check_sizes(tally, folder, module, path)
+    check_tabs(tally)
     if not only or "node" in only:
         check_node(tally, folder, module, precopy)
     is_in_chromium = not only or not set(only).isdisjoint({*IN_CHROMIUM, *TRIALS})
