@@ -1,9 +1,5 @@
 //! What the plan of a trace comes to and predicts: that of a hypervisor's looks, or of Clark's rounds.
 
-// `IsCourse` holds of one value alone: `one_course`.
-// `IsPlan` holds of one value alone: `one_plan`.
-// `IsPrediction` holds of one value alone: `one_prediction`.
-
 ghost use Rattle.std.specs.Prelude.{◌≡◌, ◌≤◌, ◌<◌, ◌^◌, length, take};
 ghost use Rattle.look_planner.specs.Sums.{AreSums};
 ghost use Rattle.migration_model.specs.Looks.{AreHypervisorSettings};
