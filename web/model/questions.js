@@ -3,8 +3,8 @@
 
 import { AGREEMENT, ANSWER, ERRORS, FORECAST, QUESTION, REMEDIES, SETTINGS } from "./interface.js";
 
-/** The module's reasons of a stop, and its verdicts. */
-export const REASONS = ["few", "fast", "rounds"];
+/** The module's reasons why a plan ends, and its verdicts. */
+export const REASONS = ["few", "fast", "rounds", "looks", "cut", "level"];
 const VERDICTS = ["yes", "no", "unknown", "uncertain"];
 
 /** Why a migration like QEMU ends: few pages are left, the trace ends first, or it begins after the trace. */

@@ -1,8 +1,8 @@
 //! What keeps the limit of a migration, or how far it is kept.
 
 ghost use Rattle.std.specs.Prelude.{◌≡◌, ◌≢◌, ◌↔◌, IfErr, IfOk, IsOk, IsTrue, OnErr, length};
-ghost use Rattle.predictions.specs.Remedies.Questions.{trial_in};
 ghost use Rattle.predictions.specs.Remedies.{AreRemedies};
+ghost use Rattle.predictions.specs.Remedies.Questions.{trial_in};
 ghost use Rattle.migration_model.specs.Touches.{touches_of};
 ghost use Rattle.migration_model.specs.Trace.{GuestTrace, Spells};
 ghost use Rattle.predictions.specs.Questions.{AcceptsQuestion, Fits, scale_in};
