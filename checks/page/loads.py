@@ -33,13 +33,13 @@ MOST_MEMORY = 160 << 20
 # How long the browser may take to give back what it does not use any more.
 SECONDS_TO_COLLECT = 20
 
-# Moves the slider of the link, sixty times, each time after the page has drawn.
+# Moves the slider of the link, so many times, each time after the page has drawn.
 CHANGES = """
 (async () => {
   times.length = 0;
   plans.length = 0;
   const slider = document.getElementById("control-link").closest(".control").querySelector("[type=range]");
-  for (let number = 0; number < 60; number += 1) {
+  for (let number = 0; number < COUNT; number += 1) {
     const before = times.length;
     slider.value = Number(slider.value) + (number % 3 === 0 ? -1 : 1);
     slider.dispatchEvent(new Event("input"));
@@ -193,7 +193,7 @@ def speed_over(page, folder, length):
     if "1,048,576 writes" not in said:
         raise Failure(said)
     page.browser.call("Performance.enable", timeDomain="threadTicks")
-    plan_over(page, "with many looks", MANY_LOOKS, MOST_MANY_MILLIS)
+    plan_over(page, "with many looks", MANY_LOOKS, MOST_MANY_MILLIS, count=9)
     for words, settings in (("by looks", LOOKED), ("by rounds", SETTINGS)):
         plan = plan_over(page, words, settings, MOST_MILLIS)
     check_map(page)
@@ -205,12 +205,16 @@ def speed_over(page, folder, length):
     return plan
 
 
-def plan_over(page, words, settings, most):
+def changes(page, count):
+    return page.browser.value(CHANGES.replace("COUNT", str(count)))
+
+
+def plan_over(page, words, settings, most, count=60):
     """The time of a plan of some settings over the trace that is open, in milliseconds, of which a change takes so many
     at most."""
     page.ask(settings)
     before = processor_millis(page)
-    require_free(page, f"60 changes {words}", lambda: page.browser.value(CHANGES))
+    require_free(page, f"{count} changes {words}", lambda: changes(page, count))
     times, plans = page.browser.value("times"), page.browser.value("plans")
     each = (processor_millis(page) - before) / len(times)
     middle, plan = statistics.median(times), statistics.median(plans)
@@ -231,7 +235,7 @@ def check_late(page, folder):
     page.wait_for_plan()
     _, more_memory = opened(page, path)
     page.ask(f"{SETTINGS}&sample=65536/1000000")
-    require_free(page, "60 changes over a sample", lambda: page.browser.value(CHANGES))
+    require_free(page, "60 changes over a sample", lambda: changes(page, 60))
     middle = statistics.median(page.browser.value("times"))
     page.rest()
     planned, errors, enough, is_before = page.browser.value(LATE)
