@@ -55,8 +55,8 @@
 extern "C" {
 #endif
 
-/* The number in the name libprecopy.so.3: it changes when programs must be recompiled. */
-#define PRECOPY_ABI 3
+/* The number in the name libprecopy.so.4: it changes when programs must be recompiled. */
+#define PRECOPY_ABI 4
 
 /* The version of this header as a number, which is 10203 for 1.2.3. */
 #define PRECOPY_VERSION_NUMBER 600
@@ -222,11 +222,14 @@ struct precopy_settings {
 /* Settings to begin with: those that the program precopy uses if no option is given. */
 #define PRECOPY_SETTINGS_DEFAULT {sizeof(struct precopy_settings), 1000, 5000, 500, 64, 30, 0, 1000, 2, 0, 0, 0}
 
-/* Why pre-copying ends. */
+/* Why pre-copying ends. A plan of rounds ends for one of the first three; the others are of predictions by looks. */
 enum precopy_reason {
-    PRECOPY_FEW = 0,       /* fewer pages than the threshold were dirtied */
-    PRECOPY_FAST = 1,      /* the next rate would be above the greatest */
-    PRECOPY_ALL_ROUNDS = 2 /* all requested rounds are done */
+    PRECOPY_FEW = 0,        /* few pages are left: by rounds, fewer than the threshold were dirtied */
+    PRECOPY_FAST = 1,       /* the next rate would be above the greatest */
+    PRECOPY_ALL_ROUNDS = 2, /* all requested rounds are done */
+    PRECOPY_ALL_LOOKS = 3,  /* 2,000 looks are done */
+    PRECOPY_CUT = 4,        /* the trace ends first, while the lists of pages get shorter */
+    PRECOPY_LEVEL = 5       /* the trace ends first, and the lists of pages do not get shorter */
 };
 
 /* The sums of a plan. */
@@ -314,7 +317,12 @@ uint32_t precopy_sweep(const uint8_t *trace, size_t trace_length, const struct p
 
 /*
  * What is asked of a migration, in bytes a second and microseconds: how much it may take, what ticks and pages of the
- * trace stand for, and where it begins.
+ * trace stand for, where it begins, and by whose plan it goes.
+ *
+ * A hypervisor like QEMU sends with the whole link, and looks at its dirty bitmap again when the pages that are left go
+ * over it within the downtime. Clark's plan goes round by round, at rates that follow the guest's. `first`,
+ * `increment`, `rounds` and `skip` are of his rounds alone; but the ranges of `increment` and `rounds` are tested of
+ * both.
  */
 struct precopy_question {
     uint64_t size;          /* sizeof(struct precopy_question), which grows if a version asks for more */
@@ -328,12 +336,13 @@ struct precopy_question {
     uint64_t guest;         /* how many pages the guest has; if as many were recorded, any equal numbers do */
     uint64_t increment;     /* what is added to a dirtying rate, in pages per 1,000 ticks, if has_increment isn't 0 */
     uint64_t rounds;        /* the most rounds */
-    uint64_t start;         /* the tick at which the first round begins */
+    uint64_t start;         /* the tick at which it begins */
     uint64_t base;          /* the destination begins with the memory before this tick, if has_base isn't 0 */
     uint32_t has_first;     /* 0: the first round uses the whole link */
     uint32_t has_increment; /* 0: a tenth of what the link has above the first round */
     uint32_t has_base;      /* 0: the destination begins with nothing */
     uint32_t skip;          /* 0: all pages of a round are sent, even those that were written again */
+    uint32_t clark;         /* 0: it goes by a hypervisor's looks; else by Clark's rounds, as with --clark */
 };
 
 /*
@@ -341,7 +350,7 @@ struct precopy_question {
  * all were recorded. The link and the downtime are 0, and the caller's to set.
  */
 #define PRECOPY_QUESTION_DEFAULT                                                                                       \
-    {sizeof(struct precopy_question), 0, 0, 0, 0, 1000, 4096, 1, 1, 0, 30, 0, 0, 0, 0, 0, 0}
+    {sizeof(struct precopy_question), 0, 0, 0, 0, 1000, 4096, 1, 1, 0, 30, 0, 0, 0, 0, 0, 0, 0}
 
 /* An answer that a trace may be too short to give. */
 enum precopy_verdict {
@@ -352,23 +361,23 @@ enum precopy_verdict {
 };
 
 /*
- * What a migration will be. If a verdict is unknown, both are, and of the rest only `recorded` tells something: the
- * other numbers are of a plan that goes on without writes after the trace has ended. A number that 64 bits do not hold
- * is 2^64 - 1.
+ * What a migration will be. If a verdict is unknown, both are, and of the rest only `recorded` tells something: by
+ * rounds the other numbers are of a plan that goes on without writes after the trace has ended, and by looks of a guest
+ * that is stopped there. A number that 64 bits do not hold is 2^64 - 1.
  */
 struct precopy_prediction {
-    uint64_t rounds;    /* how many rounds there are */
+    uint64_t rounds;    /* how many rounds or looks there are */
     uint64_t reason;    /* of enum precopy_reason */
     uint64_t stop;      /* the tick at which the guest is stopped */
     uint64_t down;      /* how long the pages that are left take, in ticks */
-    uint64_t total;     /* the pages of the trace that are sent, over all rounds and after the stop */
+    uint64_t total;     /* the pages of the trace that are sent, before the stop and after it */
     uint64_t left;      /* how many of them are sent after the stop */
-    uint64_t time;      /* from the start of the first round until the guest runs again, in microseconds */
+    uint64_t time;      /* from the start until the guest runs again, in microseconds */
     uint64_t bytes;     /* how many bytes of the guest are sent */
     uint64_t downtime;  /* how long the guest stands still, with the reserve, in microseconds */
     uint64_t recorded;  /* how long the trace goes on after the start, in microseconds */
-    uint32_t converges; /* of enum precopy_verdict: whether rounds end since few pages are left */
-    uint32_t kept;      /* of enum precopy_verdict: whether the downtime is within its limit */
+    uint32_t converges; /* of enum precopy_verdict: whether it ends since few pages are left */
+    uint32_t kept;      /* of enum precopy_verdict: whether the guest is stopped, and for no longer than the limit */
 };
 
 /* How far the draw of a sample moves a prediction: standard errors. */
@@ -383,8 +392,8 @@ struct precopy_errors {
  * Predicts the migration of a trace with the limits of a question, as `precopy-view predict` does: sets *prediction,
  * and *errors to its standard errors, or to zeros.
  *
- * The question is tested first, then the trace, and then whether its pages are those of the question. It takes memory
- * as precopy_plan does, and for standard errors 4 bytes for each sampled page and the time of 20 more plans.
+ * The question is tested first, then the trace, and then whether its pages are those of the question. It takes no more
+ * memory than precopy_plan, and for standard errors 8 bytes for each sampled page and the time of 20 more plans.
  */
 PRECOPY_ANSWERS PRECOPY_NOT_NULL(3, 4, 5, 6)
 uint32_t precopy_predict(const uint8_t *trace, size_t trace_length, const struct precopy_question *question,
@@ -405,8 +414,8 @@ struct precopy_agreement {
 
 /*
  * Sets *agreement to how sure the verdicts of precopy_predict are, as `precopy-view predict` tells it: an answer is
- * uncertain unless 19 of 20 draws, and 19 in 20 of the starts, have it too. A limit is surely kept if two standard
- * errors more of the downtime are within it.
+ * uncertain unless 19 of 20 draws, and 19 in 20 of the starts, have it too. By rounds a limit is surely kept if two
+ * standard errors more of the downtime are within it; a hypervisor stops the guest only when what is left fits it.
  *
  * It tests what precopy_predict does, in the same order. It takes memory as that does, and the time of 62 plans.
  */
@@ -478,10 +487,11 @@ struct precopy_forecast {
 };
 
 /*
- * Sets *forecast to what a migration comes to like QEMU, as the line `like QEMU` of `precopy-view predict` tells it.
+ * Sets *forecast to what a migration comes to like QEMU, as the line `like QEMU` of `precopy-view predict --clark`
+ * tells it.
  *
- * It tests what precopy_predict does, in the same order. Of a question it does not use `first`, `increment`, `rounds`
- * and `skip`. It takes 16 bytes for each write, and some 5 for each page.
+ * It tests what precopy_predict does, in the same order. Of a question it does not use `first`, `increment`, `rounds`,
+ * `skip` and `clark`. It takes 16 bytes for each write, and some 5 for each page.
  */
 PRECOPY_ANSWERS PRECOPY_NOT_NULL(3, 4, 5)
 uint32_t precopy_forecast(const uint8_t *trace, size_t trace_length, const struct precopy_question *question,
@@ -526,24 +536,24 @@ struct precopy_starts {
  */
 struct precopy_best_start {
     uint64_t start;     /* its tick */
-    uint64_t rounds;    /* how many rounds there are */
+    uint64_t rounds;    /* how many rounds or looks there are */
     uint64_t time;      /* from the start until the guest runs again, in microseconds */
     uint64_t bytes;     /* how many bytes of the guest are sent */
     uint64_t downtime;  /* how long the guest stands still, with the reserve, in microseconds */
     uint32_t kept;      /* of enum precopy_verdict: whether the downtime is within its limit */
-    uint32_t is_likely; /* 0: the downtime and two standard errors of it are not within the limit */
+    uint32_t is_likely; /* 0: the limit is not kept, or by rounds not with two standard errors of the downtime */
 };
 
 /*
  * Sets *best to the best start of the migration of a question, as `precopy-view when` tells it, and *errors to the
- * standard errors from there, or to zeros. A start that is likely to keep the limit is better than one that is not: its
- * downtime and two standard errors are within it. Of two that are not, the one with the lower sum of these is better.
+ * standard errors from there, or to zeros. A start that is likely to keep the limit is better than one that is not: it
+ * keeps it, by rounds with two standard errors. Of two that are not, the one with the lower sum of these is better.
  * Then the one that sends less is, then the quicker one, and of equals the first.
  *
  * It tests what precopy_predict does, in the same order, and then the starts, with PRECOPY_TOO_MANY_STARTS and
- * PRECOPY_BAD_START. It takes memory as precopy_sweep does with a case for each start, and for standard errors as
- * precopy_predict does. It takes the time of a plan for each start, and of 20 more for each that is better than all
- * before it if pages were sampled.
+ * PRECOPY_BAD_START. It takes 16 bytes for each write, some 5 for each page, and memory for each start, and for
+ * standard errors as precopy_predict does. It takes the time of a plan for each start, and of 20 more for each that is
+ * better than all before it if pages were sampled.
  */
 PRECOPY_ANSWERS PRECOPY_NOT_NULL(3, 4, 5, 6, 7)
 uint32_t precopy_best_start(const uint8_t *trace, size_t trace_length, const struct precopy_question *question,

@@ -14,10 +14,12 @@ from checks.lib.amount_texts import size_text, time_text
 from checks.lib.harness import cases_of, drawn, draws, expect, run
 from checks.lib.tally import expect_in_time
 from checks.lib.view_texts import keeps_schema
+from precopy_dev.models.courses import Manner
 from precopy_dev.tree import TOP
 from precopy_tools.evacuate import costs as host_costs
 from precopy_tools.evacuate import schedules
 from precopy_tools.formats import samples, traces
+from precopy_tools.predict.clark import NEEDED, Pace, plan_of
 
 EVACUATE = os.path.join(TOP, "tools", "evacuate")
 SVG = "{http://www.w3.org/2000/svg}"
@@ -158,21 +160,22 @@ def write_record(folder: str, name: str, guest: model.Guest, **changed) -> str:
 
 
 def random_costs(programs: Programs, folder: str) -> None:
-    """The costs of each guest at each share, and the range over starts, are those of a plain planner."""
+    """The costs of each guest at each share, and the range over starts, are those of a plain planner, by both plans."""
     compared = 0
     for draw in drawn("records of guests", range(SETS)):
         guests = [random_guest(draw) for _ in range(draw.randrange(1, 4))]
         link, downtime = draw.choice([1, 4, 16, 64, 1000]) * (1 << 20), draw.choice([0.01, 0.1, 0.3, 0.335, 2.0])
-        asked = host_costs.Asked(programs.view, float(link), schedules.numbers_up_to(len(guests)), 0.001)
+        pace, numbers = draw.choice([None, Pace()]), schedules.numbers_up_to(len(guests))
+        asked = host_costs.Asked(programs.view, float(link), numbers, 0.001, pace)
         for place, guest in enumerate(guests):
             path = write_record(folder, f"guest{place}", guest)
             base = draw.choice([None, None, 0, draw.randint(0, guest.first)])
             told = host_costs.guest_of(path, asked, host_costs.Wanted(downtime, base=base))
             for at_once in asked.numbers:
-                wanted = model.costs(guest, link / at_once, round(1e6 * downtime), base)
+                wanted = model.costs(guest, link / at_once, round(1e6 * downtime), base, Manner(plan_of(pace)))
                 cost = told.costs.get(at_once)
                 compared += wanted is not None
-                where = f"{guest._replace(writes=[])}, {base}, {at_once} at once"
+                where = f"{guest._replace(writes=[])}, {base}, {at_once} at once by {plan_of(pace)}"
                 expect((cost and cost[2:10]) == wanted, f"{where}: {cost} in place of {wanted}")
     expect(compared > SETS, f"only {compared} costs were compared")
 
@@ -231,6 +234,11 @@ def micros(seconds: float) -> int:
 
 def whole_runs(programs: Programs, folder: str) -> None:
     """Each schedule, the best of them and its moves are those of the model; the table tells the same."""
+    for clark in False, True:
+        whole_run(programs, folder, ["--clark"] * clark)
+
+
+def whole_run(programs: Programs, folder: str, plan: list[str]) -> None:
     records = four_guests(folder)
     with open(f"{folder}/settings.json", "w", encoding="utf-8") as file:
         json.dump({"apart": [["web", "cache"]], "guests": {"db": {"downtime": "200ms", "domain": "db one"}}}, file)
@@ -247,9 +255,12 @@ def whole_runs(programs: Programs, folder: str) -> None:
         f"{folder}/host.svg",
         "--to",
         "qemu+ssh://b/system",
+        *plan,
     )
     expect(fault == "", fault)
     told = document_of(folder)
+    is_by_rounds = bool(plan)
+    expect((told["plan"] == "rounds", "; by Clark's rounds\n" in text) == (is_by_rounds, is_by_rounds), text)
     expected = expected_schedules(told, {"web": 1, "cache": 1}, 0)
     for schedule, (cost, _) in zip(told["schedules"], expected, strict=True):
         found = (
@@ -271,6 +282,10 @@ def whole_runs(programs: Programs, folder: str) -> None:
     lines = [line.removesuffix(" &&") for line in text.splitlines() if line.startswith("    move ")]
     expect(len(lines) == 4 and all(line.endswith("qemu+ssh://b/system") for line in lines), f"{lines}")
     expect_picture(f"{folder}/host.svg", told)
+    with open(f"{folder}/host.svg", encoding="utf-8") as file:
+        picture = file.read()
+    expect(("lines end rounds" in picture) == is_by_rounds, "the picture speaks of rounds, or does not")
+    expect(is_by_rounds or 'class="round"' not in picture, "a plan of looks has rounds in the picture")
 
 
 def expect_waits(text: str, told: dict) -> None:
@@ -297,10 +312,13 @@ def like_qemu_words(found: dict) -> str:
 
 
 def expect_like_qemu(text: str, told: dict) -> None:
-    """What each guest of the schedule comes to like QEMU is told in its order, as the document has it."""
+    """What each guest of the schedule comes to like QEMU is told in its order, as the document has it: of plans of
+    looks nothing, since all end within their records."""
     at_once = told["schedules"][told["best"]["schedule"]]["at_once"]
     costs = {guest["name"]: cost for guest in told["guests"] for cost in guest["costs"] if cost["at_once"] == at_once}
-    wanted = [(it["guest"], like_qemu_words(costs[it["guest"]]["like_qemu"])) for it in told["best"]["moves"]]
+    known = [it["guest"] for it in told["best"]["moves"] if "like_qemu" in costs[it["guest"]]]
+    expect(len(known) == (len(costs) if told["plan"] == "rounds" else 0), f"like QEMU: {known}")
+    wanted = [(name, like_qemu_words(costs[name]["like_qemu"])) for name in known]
     found = re.findall(r"^(\w+) +like QEMU: (.*)$", text, re.M)
     expect(found == wanted, f"like QEMU: {found} in place of {wanted}")
 
@@ -367,9 +385,11 @@ def refusals(programs: Programs, folder: str) -> None:
     _, fault = run_tool(programs, web, f"{folder}/twin.light.pcwt", *link, status=1)
     expect("there is no" in fault and "twin.light.json beside it" in fault, fault)
     fast = model.Guest(2000, 2000, 2000, 1000, 10_000, [(1000 + n // 20, n % 2000) for n in range(180_000)])
-    text, fault = run_tool(programs, web, write_record(folder, "fast", fast), *link, "--downtime", "50ms", status=3)
-    expect("fast converges at no share; with 0.537 Gbit/s: downtime" in fault, fault)
-    expect("missed: fast" in text and "1 at once, no convergence: fast\n" in text, text)
+    for plan, why in (["--clark"], "downtime"), ([], "the migration does not end"):
+        words = [web, write_record(folder, "fast", fast), *link, "--downtime", "50ms", *plan]
+        text, fault = run_tool(programs, *words, status=3)
+        expect(f"fast converges at no share; with 0.537 Gbit/s: {why}" in fault, fault)
+        expect("missed: fast" in text and "1 at once, no convergence: fast\n" in text, text)
     short = write_record(folder, "short", model.Guest(9000, 9000, 9000, 1000, 1010, [(1005, 3)]))
     text, fault = run_tool(programs, web, short, *link, status=4)
     expect("unknown: short  <- best" in text and "1 at once, records too short: short\n" in text, text)
@@ -428,7 +448,7 @@ def settings(programs: Programs, folder: str) -> None:
 
 
 def costs_of_other_hosts(programs: Programs, folder: str) -> None:
-    """Lines of costs give what the records give. Costs of another link or of other limits are refused."""
+    """Lines of costs give what the records give. Costs of another link or plan, or of other limits are refused."""
     records = four_guests(folder)
     words = ["--link", LINK, "--at-once", "1,2"]
     table, _ = run_tool(programs, *records, *words)
@@ -443,6 +463,7 @@ def costs_of_other_hosts(programs: Programs, folder: str) -> None:
         (["--link", "32MiB", "--at-once", "1,2"], "its link is"),
         (["--link", LINK, "--at-once", "4"], "no costs with 4"),
         ([*words, "--downtime", "100ms"], "the limits of web were other ones"),
+        ([*words, "--clark"], "its plans go by looks, and not by rounds"),
     ):
         _, fault = run_tool(programs, *files, *others, status=1)
         expect(told in fault, fault)
@@ -460,7 +481,7 @@ def damaged_lines(programs: Programs, folder: str, records: list[str], words: li
         return json.dumps({**fields, "costs": [{**first, **changed}, *rest]})
 
     for wrong, told in (
-        ('{"format": "precopy costs 2"}', "has no costs of a guest"),
+        (json.dumps({**fields, "format": "precopy costs 1"}), "has no costs of a guest"),
         (good[: len(good) // 2], "is no JSON"),
         ("[" * 100_000, "is no JSON"),
         ("[]", "has no costs"),
@@ -491,8 +512,13 @@ def refused_words(programs: Programs, folder: str) -> None:
         [*link, "--costs"],
         [*link, "--lines", "ssh"],
         [*link, "--program", "none"],
+        [*link, "--clark", "--rounds", "65"],
     ):
         run_tool(programs, web, *words, status=2)
+    for option in (["--first", "1MiB"], ["--inc", "5"], ["--rounds", "5"], ["--skip"]):
+        _, fault = run_tool(programs, web, *link, *option, status=2)
+        expect(fault.endswith(f"error: {NEEDED}\n"), fault)
+        run_tool(programs, web, *link, *option, "--clark")
 
 
 def a_hundred_guests(programs: Programs, folder: str) -> None:

@@ -53,7 +53,8 @@ class Monitor(threading.Thread):
         super().__init__(daemon=True)
         self.path, self.name_of_guest, self.log, self.seconds = os.path.join(folder, f"{name}.qmp"), name, log, seconds
         self.fails, self.state, self.migration = how.get("fails"), how.get("state", "running"), how.get("migration")
-        self.begun, self.asked = 0.0, []
+        self.begun, self.ended, self.asked, self.parameters = 0.0, 0.0, [], []
+        self.refuses = 0  # so many times it closes in place of taking parameters of a migration under way
         self.server = socket.socket(socket.AF_UNIX)
         self.server.bind(self.path)
         self.server.listen()
@@ -66,6 +67,9 @@ class Monitor(threading.Thread):
                 self.say(stream, {"QMP": {"version": {}}})
                 for line in stream:
                     asked = json.loads(line)
+                    if self.refuses and self.begun and asked["execute"] == "migrate-set-parameters":
+                        self.refuses -= 1
+                        break
                     self.say(stream, {"event": "RTC_CHANGE"})
                     self.say(stream, self.answer(asked["execute"], asked.get("arguments", {})))
 
@@ -80,6 +84,8 @@ class Monitor(threading.Thread):
     def answer(self, command: str, arguments: dict) -> dict:
         if command not in ("qmp_capabilities", "query-status", "query-migrate"):
             self.asked.append((command, arguments))
+        if command == "migrate-set-parameters":
+            self.parameters.append((time.time(), arguments))
         if command == "query-status":
             return {"return": {"status": self.state, "running": self.state == "running"}}
         if command == "query-migrate":
@@ -97,6 +103,7 @@ class Monitor(threading.Thread):
         if self.migration == "active" and self.begun and time.time() - self.begun >= self.seconds:
             self.migration = "failed" if self.fails else "completed"
             self.state = self.state if self.fails else "postmigrate"
+            self.ended = time.time()
             self.tell("fails" if self.fails else "ends")
         if self.migration is None:
             return {}
@@ -104,8 +111,9 @@ class Monitor(threading.Thread):
         return {**told, **({"error-desc": self.fails} if self.migration == "failed" else {"downtime": 9})}
 
 
-def virsh_in(folder: str, seconds: float, failing: tuple[str, ...] = ()) -> tuple[dict, str]:
-    """An environment with a `virsh` whose migrations take so long, and the file of what it did."""
+def virsh_in(folder: str, seconds: float | str, failing: tuple[str, ...] = ()) -> tuple[dict, str]:
+    """An environment with a `virsh` whose migrations take so long, or what a shell makes of that, and the file of what
+    it did."""
     programs, log = os.path.join(folder, "programs"), os.path.join(folder, "virsh.log")
     os.makedirs(programs, exist_ok=True)
     path = os.path.join(programs, "virsh")

@@ -52,11 +52,18 @@ def forecast(asked, trace) -> Optional[Forecast]:
     return Forecast(count, ends, time, sent, asked.bytes_of(left), downtime, downtime <= asked.downtime)
 
 
-def look_lines(asked, trace) -> list[str]:
+def beside(asked, trace) -> Optional[Forecast]:
+    """What is said beside a plan. A plan of looks says the same, but for what is sent and left if the trace ends
+    first."""
     told = forecast(asked, trace)
+    return told if told and (asked.clark or not told.ends) else None
+
+
+def look_lines(asked, trace) -> list[str]:
+    told = beside(asked, trace)
     return told.lines() if told else []
 
 
 def look_member(asked, trace) -> dict:
-    told = forecast(asked, trace)
+    told = beside(asked, trace)
     return {"like_qemu": told.member()} if told else {}

@@ -1,6 +1,6 @@
 """A plain model of what `precopy-view` and the library say of a migration: questions in time and bytes, the settings
 that they make, refusals, predictions, starts, reports and sweeps. Plans are made page by page, by
-python/precopy_dev/models/redrawn.py; all else is what docs/COMMANDS.md says. It shares no code with the programs."""
+python/precopy_dev/models; all else is what docs/COMMANDS.md says. It shares no code with the programs."""
 
 from dataclasses import dataclass
 from fractions import Fraction
@@ -11,18 +11,17 @@ from checks.lib.amount_texts import error_text, moment_text, rate_word, size_tex
 from checks.lib.host_words import host_lines, hosts_member
 from checks.lib.look_model import Forecast, forecast, look_lines, look_member
 from checks.lib.traces import Trace
-from precopy_dev.models import agreements, redrawn, remedies, shares
+from precopy_dev.models import agreements, courses, redrawn, remedies, shares
+from precopy_dev.models.courses import Course, Manner, Record
 
+# Why a plan ends, and what helps if that bounds no downtime.
 REASONS = {
-    "few": ("; rounds: ", ""),
-    "fast": (
-        "; the guest writes faster than the link sends; rounds: ",
-        "the plan ends with `fast`, so nothing bounds the downtime; give more of the link",
-    ),
-    "rounds": (
-        "; all rounds that are allowed are done; rounds: ",
-        "the plan ends with `rounds`, so nothing bounds the downtime; allow more rounds",
-    ),
+    "few": ("", ""),
+    "fast": ("; the guest writes faster than the link sends", "give more of the link"),
+    "rounds": ("; all rounds that are allowed are done", "allow more rounds"),
+    "looks": ("; 2,000 looks are done", "give more of the link"),
+    "cut": ("; the trace ends first", "give more of the link"),
+    "level": ("; the trace ends first, and the lists did not get shorter", "give more of the link"),
 }
 ERRORS = ("sent_bytes", "time_seconds", "down_seconds")
 STATUSES = {"yes": 0, "no": 3, "unknown": 4, "uncertain": 5}
@@ -40,7 +39,8 @@ def seconds(micros: int) -> Fraction:
 
 @dataclass(frozen=True)
 class Question:
-    """Rates in bytes a second, times in microseconds, a page in bytes, the start and the base in ticks."""
+    """Rates in bytes a second, times in microseconds, a page in bytes, the start and the base in ticks. A plan goes by
+    Clark's rounds, or by a hypervisor's looks, which know no rate of a first round, increment, rounds or skipping."""
 
     link: int
     first: Optional[int]
@@ -55,6 +55,10 @@ class Question:
     start: int
     base: Optional[int]
     skip: bool
+    clark: bool = False
+
+    def manner(self) -> Manner:
+        return Manner.ROUNDS if self.clark else Manner.LOOKS
 
     def millis_for_pages(self) -> int:
         return (self.downtime - self.reserve) // 1_000
@@ -69,11 +73,21 @@ class Question:
         return [f"--link={rate_word(self.link)}", *first, *times, *self.units()]
 
     def plan(self) -> list[str]:
-        """The other options of a plan."""
-        given = {"rounds": self.rounds, "start": self.start, "inc": self.increment, "base": self.base}
+        """The other options of a plan, but for the one that says by whom it is."""
+        given = {"start": self.start, "base": self.base}
+        return [*self.pace(), *(f"--{name}={it}" for name, it in given.items() if it is not None)]
+
+    def pace(self) -> list[str]:
+        """The options that are of Clark's rounds alone, but for the rate of the first one."""
+        given = {"rounds": self.rounds if self.clark else None, "inc": self.increment}
         return [f"--{name}={it}" for name, it in given.items() if it is not None] + ["--skip"] * self.skip
 
     def words(self) -> list[str]:
+        """The options of a command that knows both plans."""
+        return [*self.words_of_rounds(), *["--clark"] * self.clark]
+
+    def words_of_rounds(self) -> list[str]:
+        """The options of a command that knows only Clark's rounds."""
         return [*self.limits(), *self.plan()]
 
     def rate(self, size: int) -> int:
@@ -140,12 +154,24 @@ class Question:
         return 2 <= self.sampled < self.guest and self.sampled <= 65_536
 
     def trial(self) -> remedies.Trial:
-        """The same as a migration whose limits are changed."""
-        limits = remedies.Limits(self.link, self.downtime, self.first, self.reserve)
+        """The same as a migration whose limits are changed. A hypervisor has no first round."""
+        limits = remedies.Limits(self.link, self.downtime, self.first if self.clark else None, self.reserve)
         others = remedies.Others(self.rounds, self.start, self.skip, self.base, self.increment)
-        return remedies.Trial(self.scale(), limits, others)
+        return remedies.Trial(self.scale(), limits, others, self.manner())
 
-    def cost(self, start: int, plan: redrawn.Outcome) -> tuple[int, int, int]:
+    def course(self, record: Record, start: int) -> Course:
+        """What the plan comes to that begins at a tick."""
+        return record.course(self.settings()._replace(start=start), self.scale(), self.manner())
+
+    def errors(self, trace: Trace, start: int) -> tuple[int, int, int]:
+        """The standard errors of bytes, time and downtime from a start."""
+        return courses.errors(trace.guest, self.settings()._replace(start=start), self.scale(), self.manner())
+
+    def is_kept(self, plan: Course) -> bool:
+        """Whether a plan keeps the limit."""
+        return remedies.is_kept(self.trial(), plan)
+
+    def cost(self, start: int, plan: Course | redrawn.Outcome) -> tuple[int, int, int]:
         """The time and the downtime of a plan, and what it sends."""
         down = plan.down * self.tick + self.reserve
         return (plan.stop - start) * self.tick + down, down, self.bytes_of(plan.total)
@@ -192,7 +218,7 @@ class Answer(NamedTuple):
     share: shares.LinkShare
     forecast: Optional[Forecast]
     enough: remedies.Remedies
-    plan: redrawn.Outcome
+    plan: Course
 
     def is_sure(self) -> bool:
         return self.sure_converges == self.sure_kept == "yes"
@@ -202,24 +228,23 @@ def answer_of(asked: Question, trace: Trace) -> Optional[Answer]:
     """The answer to a question about a trace, or None if it is refused."""
     if asked.refusal(trace):
         return None
-    settings = asked.settings()
-    plan = redrawn.planned(trace.guest, settings)
+    plan = asked.course(trace.record, asked.start)
     time, down, sent = asked.cost(asked.start, plan)
     is_late = plan.stop > trace.last
     has_errors = not is_late and asked.has_errors()
     trial = asked.trial()
     agreement = agreements.agreement(trace.guest, trial)
     return Answer(
-        "unknown" if is_late else "yes" if plan.reason == "few" else "no",
-        "unknown" if is_late else "yes" if down <= asked.downtime else "no",
-        plan.reason,
-        plan.rounds,
+        trace.record.verdict(plan),
+        "unknown" if is_late else "yes" if asked.is_kept(plan) else "no",
+        courses.word_of(plan, asked.manner()),
+        plan.steps,
         time,
         sent,
         down,
-        plan.left,
+        trace.record.left(asked.settings(), asked.scale(), asked.manner()),
         max(0, trace.last - asked.start) * asked.tick,
-        redrawn.errors(trace.guest, settings, asked.scale()) if has_errors else None,
+        asked.errors(trace, asked.start) if has_errors else None,
         agreement,
         agreements.converges(trace.guest, trial, agreement),
         agreements.kept(trace.guest, trial, agreement),
@@ -250,10 +275,11 @@ def lines_of(asked: Question, told: Answer) -> list[str]:
             "converges: unknown, the trace ends before the migration does; record longer",
             f"total time: more than {time_text(told.recorded)}",
         ]
-    ends, warning = REASONS[told.why]
+    ends, help = REASONS[told.why]
+    ends = f"{ends}; {asked.manner().value}: {told.rounds}"
     down = f"{time_text(told.downtime)}, limit: {time_text(asked.downtime)}"
     lines = [
-        f"converges: {told.sure_converges}{agreement_words(told.agreement, 'converging')}{ends}{told.rounds}",
+        f"converges: {told.sure_converges}{agreement_words(told.agreement, 'converging')}{ends}",
         f"total time: {time_text(told.time)}",
         f"sent: {size_text(told.sent)}",
         f"downtime: {down}, kept: {told.sure_kept}{agreement_words(told.agreement, 'kept')}",
@@ -261,18 +287,24 @@ def lines_of(asked: Question, told: Answer) -> list[str]:
     if told.errors:
         sent, time, down = told.errors
         lines.append(f"standard errors: sent {size_text(sent)}, time {error_text(time)}, downtime {error_text(down)}")
-        if told.downtime <= asked.downtime < told.downtime + 2 * down:
+        is_close = told.downtime + 2 * down > asked.downtime and asked.manner() is Manner.ROUNDS
+        if told.kept == "yes" and is_close:
             lines.append("warning: the limit is kept by less than two standard errors")
     lines += ["warning: fewer than 100 pages decided the stop; chance moves it"] * (told.left < 100)
-    return lines + [f"warning: {warning}"] * (told.why != "few")
+    warning = f"warning: the plan ends with `{told.why}`, so nothing bounds the downtime; {help}"
+    return lines + [warning] * (told.why != "few")
+
+
+def lines_until_hosts(asked: Question, told: Answer, trace: Trace) -> list[str]:
+    """The lines of `precopy-view predict`, but for words of a live run and for hypervisors."""
+    ranges = [*look_lines(asked, trace), *Starts(asked, trace).lines(), *share_model.share_lines(told.share)]
+    return [*lines_of(asked, told), *ranges, *remedy_model.enough_lines(told.enough, told.is_sure())]
 
 
 def all_lines(asked: Question, told: Answer, trace: Trace) -> list[str]:
-    """All lines of `precopy-view predict`."""
-    hosts = host_lines(asked.link, asked.millis_for_pages())
-    ranges = [*look_lines(asked, trace), *Starts(asked, trace).lines(), *share_model.share_lines(told.share)]
-    enough = [*remedy_model.enough_lines(told.enough, told.is_sure()), live_line(asked.settings())]
-    return [*lines_of(asked, told), *ranges, *enough, *hosts]
+    """All lines of `precopy-view predict`. No live run performs a plan of looks."""
+    live = [live_line(asked.settings())] if asked.clark else []
+    return [*lines_until_hosts(asked, told, trace), *live, *host_lines(asked.link, asked.millis_for_pages())]
 
 
 def units_member(asked: Question) -> dict:
@@ -304,6 +336,7 @@ def document_of(asked: Question, told: Answer, trace: Trace) -> dict:
             "start": settings.start,
             **base,
         },
+        "plan": asked.manner().value,
         "converges": told.sure_converges,
         "kept": told.sure_kept,
         "recorded_seconds": seconds(told.recorded),
@@ -318,7 +351,7 @@ def document_of(asked: Question, told: Answer, trace: Trace) -> dict:
         return document
     migration = {
         "why": told.why,
-        "rounds": told.rounds,
+        asked.manner().value: told.rounds,
         "time_seconds": seconds(told.time),
         "sent_bytes": told.sent,
         "down_seconds": seconds(told.downtime),
@@ -338,7 +371,7 @@ class Starts:
         ticks = range(first, last + 1, max(1, -(-(last - first) // 20)))
         costs = [Cost.of(asked, trace, tick) for tick in ticks]
         self.count, self.known = len(ticks), [cost for cost in costs if cost.is_known]
-        self.converging = sum(cost.reason == "few" for cost in self.known)
+        self.converging = sum(cost.plan.ending == "few" for cost in self.known)
         self.kept = sum(cost.is_kept for cost in self.known)
 
     def spans(self):
@@ -378,8 +411,8 @@ class Cost(NamedTuple):
     """What a migration from a start costs, and the standard errors of bytes, time and downtime, if they are counted."""
 
     start: int
-    reason: str
-    rounds: int
+    plan: Course
+    manner: Manner
     time: int
     sent: int
     down: int
@@ -389,10 +422,10 @@ class Cost(NamedTuple):
 
     @staticmethod
     def of(asked: Question, trace: Trace, start: int) -> "Cost":
-        plan = redrawn.planned(trace.guest, asked.settings()._replace(start=start))
+        plan = asked.course(trace.record, start)
         time, down, sent = asked.cost(start, plan)
         is_known = plan.stop <= trace.last
-        return Cost(start, plan.reason, plan.rounds, time, sent, down, down <= asked.downtime, is_known)
+        return Cost(start, plan, asked.manner(), time, sent, down, asked.is_kept(plan), is_known)
 
     def prices(self) -> tuple[int, int, int]:
         return self.sent, self.time, self.down
@@ -401,17 +434,21 @@ class Cost(NamedTuple):
         """The same with its errors, if a part of the guest was sampled."""
         if not asked.has_errors():
             return self
-        settings = asked.settings()._replace(start=self.start)
-        return self._replace(errors=redrawn.errors(trace.guest, settings, asked.scale()))
+        return self._replace(errors=asked.errors(trace, self.start))
 
     def likely(self) -> int:
         """The downtime with two standard errors."""
         return self.down + (2 * self.errors[2] if self.errors else 0)
 
+    def is_likely(self, limit: int) -> bool:
+        """Whether the limit is kept, and by Clark's rounds with two standard errors. A hypervisor stops the guest only
+        when what is left fits it."""
+        return self.is_kept and (self.manner is Manner.LOOKS or self.likely() <= limit)
+
     def preference(self, limit: int) -> tuple[int, int, int]:
         """The numbers by which the least of some starts is the best, and the greatest the worst: by how much the limit
         is likely to be missed counts first."""
-        return self.likely() if self.likely() > limit else 0, self.sent, self.time
+        return 0 if self.is_likely(limit) else self.likely(), self.sent, self.time
 
     def verdict(self) -> str:
         return "unknown" if not self.is_known else "yes" if self.is_kept else "no"
@@ -425,7 +462,7 @@ class Cost(NamedTuple):
         return {
             "start": self.start,
             "start_seconds": seconds(self.start * tick),
-            "rounds": self.rounds,
+            self.manner.value: self.plan.steps,
             "time_seconds": seconds(self.time),
             "sent_bytes": self.sent,
             "down_seconds": seconds(self.down),
@@ -439,7 +476,8 @@ class Cost(NamedTuple):
 
     def choice(self, name: str, asked: Question) -> str:
         mark = "kept" if self.is_kept else "not kept"
-        mark += " by less than two standard errors" if self.is_kept and self.likely() > asked.downtime else ""
+        is_doubtful = self.is_kept and not self.is_likely(asked.downtime)
+        mark += " by less than two standard errors" if is_doubtful else ""
         costs = f"time {time_text(self.time)}, sent {size_text(self.sent)}, downtime {self.downtime()}, {mark}"
         return f"{name} {moment_text(self.start * asked.tick)}, --start {self.start}: {costs}"
 

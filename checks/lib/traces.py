@@ -6,6 +6,7 @@ import struct
 from functools import cached_property
 
 from precopy_dev.models import redrawn
+from precopy_dev.models.courses import Record
 from precopy_dev.tree import TOP
 
 MAGIC = b"PCWT"
@@ -57,6 +58,11 @@ class Trace:
     def guest(self) -> list[list[int]]:
         """The ticks at which each page is written."""
         return redrawn.by_page(self.pages, self.writes)
+
+    @cached_property
+    def record(self) -> Record:
+        """The same, as what is planned."""
+        return Record(self.guest, self.last)
 
     @cached_property
     def whole(self) -> bytes:

@@ -14,7 +14,7 @@ static const uint8_t page[16] = {5};
 static const uint8_t frame[25] = {0, 0, 0, 0, 1, 0, 0, 0, 1, 5};
 static const struct precopy_settings good = PRECOPY_SETTINGS_DEFAULT;
 static const struct precopy_settings bad = {sizeof bad, 1000, 5000, 500, 0, 30, 0, 1000, 2, 0, 0, 0};
-static const struct precopy_question asked = {sizeof asked, 16000, 0, 0, 0, 1000, 16, 1, 1, 0, 30, 0, 0, 0, 0, 0, 0};
+static const struct precopy_question asked = {sizeof asked, 16000, 0, 0, 0, 1000, 16, 1, 1, 0, 30, 0, 0, 0, 0, 0, 0, 1};
 static const struct precopy_starts all_starts = PRECOPY_STARTS_DEFAULT;
 static const struct precopy_sizes sizes = {4, 1, 1}, no_sizes = {4, 0, 1};
 

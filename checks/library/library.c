@@ -316,11 +316,11 @@ static struct precopy_settings settings_of(uint64_t min, uint64_t max, uint64_t 
     return settings;
 }
 
-/* What is asked of a guest of which every third page was recorded. */
+/* What is asked of a guest of which every third page was recorded: by Clark's rounds if these are odd in number. */
 static struct precopy_question question_of(uint64_t size, uint64_t pages) {
     struct precopy_question question = PRECOPY_QUESTION_DEFAULT;
     question.link = 3 * 4000 * size, question.downtime = 1000, question.page = size;
-    question.sampled = pages, question.guest = 3 * pages;
+    question.sampled = pages, question.guest = 3 * pages, question.clark = pages % 2;
     return question;
 }
 

@@ -21,7 +21,7 @@ from checks.lib.traces import header, record
 from checks.library import python_edges, traces
 from precopy_dev.tree import TOP
 
-LIBRARY = os.path.join(TOP, "out", "library", "libprecopy.so.3")
+LIBRARY = os.path.join(TOP, "out", "library", "libprecopy.so.4")
 SECONDS = 300
 HOSTILE = [-1, 1 << 31, 1 << 32, (1 << 32) + 1, (1 << 32) + 4, 1 << 63, 1 << 64, (1 << 64) + 1, 10**5000]
 HOSTILE += [-(1 << 31), -(1 << 32), -(1 << 63), -(1 << 64), -(10**30)]
@@ -67,14 +67,14 @@ def taking_numbers(trace):
 
 
 def numbers_of_questions(trace):
-    """Each number of a question about a trace, all of whose pages were recorded, of 1,000 pages per 1,000 ticks."""
+    """Each number of a question about a trace that has all pages, by rounds of 1,000 pages in as many ticks."""
     sizes = precopy.check_trace(trace)
     page, pages = sizes.page_length, sizes.pages
     ends = {"link": (page, 1_000_001 * page - 1), "first": (page, 1_001 * page - 1), "downtime": (0, 65_535_999)}
     ends |= {"reserve": (0, 0), "tick": (1, 1_000_000), "page": (page, page), "sampled": (pages, pages)}
     ends |= {"guest": (pages, 1_000 * pages), "increment of a question": (0, 1_000_000), "rounds": (1, 64)}
-    ends |= {"start": (0, (1 << 40) - 1), "base": (0, 0), "skip": (0, 1)}
-    asked = {"link": 1_000 * page, "downtime": 0, "page": page, "sampled": pages, "guest": pages}
+    ends |= {"start": (0, (1 << 40) - 1), "base": (0, 0), "skip": (0, 1), "clark": (0, 1)}
+    asked = {"link": 1_000 * page, "downtime": 0, "page": page, "sampled": pages, "guest": pages, "clark": True}
     for name, each in ends.items():
         for call in OF_QUESTIONS:
             yield f"{call.__name__}, {name}", answered_with(call, trace, asked, name.split()[0]), each

@@ -36,7 +36,7 @@ def outcome(call, *words):
 def script(python, text, *words):
     """What a program in Python prints, with this module on its path."""
     paths = os.pathsep.join([TOP, *(os.path.join(TOP, it) for it in ("python", "bindings/python"))])
-    environment = {**os.environ, "PYTHONPATH": paths, "PRECOPY_LIBRARY": os.path.join(LIBRARY, "libprecopy.so.3")}
+    environment = {**os.environ, "PYTHONPATH": paths, "PRECOPY_LIBRARY": os.path.join(LIBRARY, "libprecopy.so.4")}
     how = {"stdin": subprocess.DEVNULL, "capture_output": True, "text": True, "timeout": SECONDS}
     return subprocess.run([python, "-Bc", text, *words], env=environment, check=False, **how)
 
@@ -196,7 +196,7 @@ def check_copies(tally):
 def check_statuses(tally):
     """They are an enumeration, with the numbers of the header, and of a number that is not there they know that."""
     numbers = dict(re.findall(r"\bPRECOPY_(\w+) = (\d+)", read("include/precopy.h", "r")))
-    reasons = ("FEW", "FAST", "ALL_ROUNDS", "FEW_LEFT", "TRACE_ENDS", "NOT_BEGUN")
+    reasons = ("FEW", "FAST", "ALL_ROUNDS", "ALL_LOOKS", "CUT", "LEVEL", "FEW_LEFT", "TRACE_ENDS", "NOT_BEGUN")
     for it in ("OK", "YES", "NO", "UNKNOWN", "UNCERTAIN", *reasons):
         del numbers[it]
     found = {it.name: str(int(it)) for it in precopy.Status}

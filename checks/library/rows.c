@@ -99,10 +99,10 @@ static void sizes_of_settings(void) {
     ROW(count == 9);
 }
 
-/* Rounds of 2 and 4 pages per 1,000 ticks of 1 ms; the rates are in bytes a second of a guest of 8 pages, half of which
- * were recorded. */
+/* Clark's rounds of 2 and 4 pages per 1,000 ticks of 1 ms; the rates are in bytes a second of a guest of 8 pages, half
+ * of which were recorded. */
 static const struct precopy_question half = {sizeof half, 128, 64, 600000, 100000, 1000, 16, 4, 8,
-                                             1,           8,   0,  0,      1,      1,    0,  0};
+                                             1,           8,   0,  0,      1,      1,    0,  0, 1};
 
 static int is_told(const struct precopy_prediction *told, uint64_t time, uint64_t bytes, uint64_t downtime,
                    uint64_t left, uint32_t verdict) {
@@ -303,6 +303,45 @@ static void amounts(void) {
     ROW(are_enough(&asked, (struct precopy_amounts){0, 0, 0, 0, 0, 0, 0, 0, 0, 0, 0, 1}));
     asked = half, asked.has_base = 1, asked.base = 6, asked.start = 1201;
     ROW(are_enough(&asked, (struct precopy_amounts){125, 100195, 0, 0, 0, 1, 1, 0, 0, 0, 1, 1}));
+}
+
+static int is_predicted(const struct precopy_question *asked, struct precopy_prediction wanted,
+                        struct precopy_errors far) {
+    struct precopy_prediction told;
+    struct precopy_errors errors;
+    memset(&told, 9, sizeof told);
+    return precopy_predict(trace, sizeof trace, asked, &told, &errors, &record) == PRECOPY_OK
+           && !memcmp(&told, &wanted, sizeof told)
+           && are_errors(&errors, far.bytes, far.time, far.downtime, far.has_errors);
+}
+
+/* The same by a hypervisor's looks: the numbers are those of checks/lib/migration_model.py. */
+static void looks(void) {
+    struct precopy_question asked = half;
+    struct precopy_starts starts = PRECOPY_STARTS_DEFAULT;
+    uint32_t yes = PRECOPY_YES, unknown = PRECOPY_UNKNOWN;
+    struct precopy_errors far = {32, 135918, 0, 1}, none = {0, 0, 0, 1};
+    struct precopy_prediction kept = {2, PRECOPY_FEW, 1000, 500, 6, 2, 1600000, 192, 600000, 2500000, yes, yes};
+    asked.clark = 0;
+    ROW(is_predicted(&asked, kept, far));
+    ROW(is_sure(&asked, (struct precopy_agreement){20, 20, 20, 20, 17, 17, 17, yes, yes}));
+    ROW(are_shares(&asked, (struct precopy_link_shares){50, yes, yes}));
+    ROW(are_enough(&asked, (struct precopy_amounts){125, 100195, 0, 0, 0, 1, 1, 0, 0, 0, 1, 1}));
+    ROW(is_best(&asked, &starts, (struct precopy_best_start){13, 1, 1100000, 128, 600000, yes, 1}, none));
+    /* What is of rounds alone changes nothing, but its range is tested. */
+    asked.first = 128, asked.increment = 7, asked.rounds = 1, asked.skip = 1;
+    ROW(is_predicted(&asked, kept, far));
+    asked.rounds = 0;
+    ROW(precopy_predict(trace, sizeof trace, &asked, &kept, &far, &record) == PRECOPY_BAD_ROUNDS);
+    /* The trace ends before all pages are sent. */
+    asked = half, asked.clark = 0, asked.start = 2400;
+    ROW(is_predicted(
+        &asked,
+        (struct precopy_prediction){0, PRECOPY_CUT, 2501, 1000, 4, 4, 1201000, 128, 1100000, 100000, unknown, unknown},
+        none));
+    /* Any other number than 0 asks for rounds. */
+    asked = half, asked.clark = UINT32_MAX;
+    ROW(is_sure(&asked, (struct precopy_agreement){20, 9, 9, 9, 5, 5, 5, PRECOPY_UNCERTAIN, PRECOPY_UNCERTAIN}));
 }
 
 /* Returns what is told of a question with one other number. */
@@ -728,6 +767,7 @@ int main(void) {
     best_starts();
     numbers_of_starts();
     amounts();
+    looks();
     questions();
     memories();
     pages();

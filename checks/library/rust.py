@@ -53,7 +53,7 @@ def check_statuses(tally):
     """The numbers of the crate's statuses are those of the header."""
     header = dict(re.findall(r"\bPRECOPY_(\w+) = (\d+)", read(HEADER, "r")))
     others = {"OK", "FEW", "FAST", "ALL_ROUNDS", "YES", "NO", "UNKNOWN", "UNCERTAIN"}
-    others |= {"FEW_LEFT", "TRACE_ENDS", "NOT_BEGUN"}
+    others |= {"ALL_LOOKS", "CUT", "LEVEL", "FEW_LEFT", "TRACE_ENDS", "NOT_BEGUN"}
     header = {name.title().replace("_", ""): number for name, number in header.items() if name not in others}
     source = read(f"{CRATE}/src/status.rs", "r")
     crate = dict(re.findall(r"^    (\w+) = (\d+),$", source, re.M))
@@ -97,13 +97,18 @@ def prediction_lines(trace, asked):
     if refusal := told.refusal(trace, by_library=True):
         yield refused_line(refusal.number, precopy.predict, trace.text, asked)
         return
+    for manner in (told, dataclasses.replace(told, clark=True)):
+        yield from lines_by_manner(trace, manner)
+
+
+def lines_by_manner(trace, told):
     it = answer_of(told, trace)
-    yield f"plan {sums_line(it.plan)} {it.left}"
+    yield f"plan {it.rounds} {it.why.capitalize()} {it.plan.stop} {it.plan.down} {it.plan.total} {it.left}"
     verdicts = f"{it.converges.capitalize()} {it.kept.capitalize()}"
     yield f"migration {it.time} {it.sent} {it.downtime} {it.recorded} {verdicts}"
     # The library tells standard errors of what is unknown too.
     if 2 <= told.sampled <= 65_536:
-        sent, time, down = redrawn.errors(trace.guest, told.settings(), told.scale())
+        sent, time, down = told.errors(trace, told.start)
         yield f"errors {sent} {time} {down}"
     yield agreement_line(it)
     yield forecast_line(it.forecast)
@@ -138,9 +143,9 @@ def best_line(asked, trace):
     best, _ = migration_model.chosen([Cost.of(asked, trace, tick) for tick in ticks], asked, trace)
     if not best:
         return "best -"
-    is_likely = str(best.likely() <= asked.downtime).lower()
+    is_likely = str(best.is_likely(asked.downtime)).lower()
     error = f"Some({best.errors[2]})" if best.errors else "None"
-    numbers = f"{best.start} {best.rounds} {best.time} {best.sent} {best.down}"
+    numbers = f"{best.start} {best.plan.steps} {best.time} {best.sent} {best.down}"
     return f"best {numbers} {best.verdict().capitalize()} {is_likely} {error}"
 
 

@@ -13,6 +13,7 @@ from checks.lib.migration_model import STATUSES, Cost
 from checks.lib.traces import Trace, generated
 from checks.lib.view_texts import parsed, ran
 from checks.predictions.questions import random_question
+from precopy_dev.models.courses import Course
 
 TRIES, SELDOM = 1500, 20
 TOO_MANY, BAD_START, LAST_START = 90, 28, (1 << 40) - 1
@@ -60,15 +61,16 @@ def told_by_library(trace, asked, starts):
         return None, False
     errors = it.errors and (it.errors.bytes, it.errors.time, it.errors.downtime)
     is_kept = {precopy.Verdict.YES: True, precopy.Verdict.NO: False}[it.kept]
-    cost = Cost(it.start, "", it.rounds, it.time, it.bytes, it.downtime, is_kept, True, errors)
+    plan = Course("", it.rounds, 0, 0, 0)
+    cost = Cost(it.start, plan, asked.manner(), it.time, it.bytes, it.downtime, is_kept, True, errors)
     return cost.member(asked.tick), it.is_likely
 
 
 def document_of(view, path, asked, starts):
     """The status and the document of `precopy-view json when`."""
-    pace = [f"--rounds={asked.rounds}", *["--skip"] * asked.skip]
-    numbers = {"from": asked.start, "inc": asked.increment, "base": asked.base, "to": starts[0], "every": starts[1]}
-    words = [*asked.limits(), *pace, *(f"--{name}={it}" for name, it in numbers.items() if it is not None)]
+    numbers = {"from": asked.start, "base": asked.base, "to": starts[0], "every": starts[1]}
+    words = [*asked.limits(), *asked.pace(), *(f"--{name}={it}" for name, it in numbers.items() if it is not None)]
+    words += ["--clark"] * asked.clark
     status, text, faults = ran(view, ["json", "when", *words], path)
     expect(status in STATUSES.values() and not faults, f"{words}: status {status}, {faults}")
     return status, parsed("when", text)
@@ -77,7 +79,7 @@ def document_of(view, path, asked, starts):
 def kinds_of(best, limit):
     if best is None:
         return ["unknown"]
-    kind = "not kept" if not best.is_kept else "likely" if best.likely() <= limit else "kept"
+    kind = "not kept" if not best.is_kept else "likely" if best.is_likely(limit) else "kept"
     return [kind, "with errors"] if best.errors else [kind]
 
 
@@ -91,7 +93,7 @@ def check_starts(case, view, path, asked, trace, starts):
             case.add(refused.status == number, f"{asked}, {starts}: {refused.status}, and not status {number}")
         return ["refused"]
     best, _ = migration_model.chosen([Cost.of(asked, trace, tick) for tick in ticks], asked, trace)
-    wanted = (best.member(asked.tick), best.likely() <= asked.downtime) if best else (None, False)
+    wanted = (best.member(asked.tick), best.is_likely(asked.downtime)) if best else (None, False)
     found = told_by_library(trace, asked, starts)
     case.add(found == wanted, f"{asked}, {starts}: {found}, and the model {wanted}")
     if starts[0] is None or starts[0] >= asked.start:

@@ -106,11 +106,12 @@ class Asked:
         return next((name for name, is_refused in tests if is_refused), None)
 
     def question(self):
-        """The same as a question of `precopy-view` and the library."""
+        """The same as a question of `precopy-view` and the library, which goes by Clark's rounds."""
         link, first, *times = self.limits()
         increment = (self.rate(link) - self.rate(first)) * self.increase // 100
         scale = self.tick, self.page, self.sampled, self.guest
-        return Question(link, first, *times, *scale, increment, self.rounds, self.start, self.base, bool(self.skip))
+        others = self.rounds, self.start, self.base, bool(self.skip)
+        return Question(link, first, *times, *scale, increment, *others, clark=True)
 
     def settings(self):
         return self.question().settings()

@@ -35,7 +35,7 @@ def check_forecasts(page):
         fragment = f"trace=gzip&link={word}&first={first}&downtime={downtime}us&reserve=0us&start={start}"
         page.ask(f"{fragment}&tick=1ms&sample=all&rounds=30&skip=0&base={'none' if base is None else base}")
         scale = (1_000, trace.size, trace.pages, trace.pages)
-        asked = Question(link, None, downtime, 0, *scale, None, 30, start, base, False)
+        asked = Question(link, None, downtime, 0, *scale, None, 30, start, base, False, clark=True)
         wanted, found = line_of(asked, trace), told(page)
         expect(found == wanted, f"{fragment}: {found!r} in place of {wanted!r}")
         ends.add("none" if not wanted else "cut" if "ends first" in wanted else "few")

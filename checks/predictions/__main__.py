@@ -3,11 +3,12 @@
     checks/run predictions [--seed N] [--questions COUNT] [--module MODULE] [PRECOPY_VIEW]
 
 MODULE is out/browser_planner.wasm, which `make page` builds, if none is given. Of 200 random questions, or of COUNT if
-that is more, two thirds are about eight traces and a third about four records. They are asked of precopy-view, in lines
-and in JSON, of the page's module, if Node is there, of the library in C and in Python, if `make lib` has built it, and
-those about records of tools/predict. All must answer what a plain model does, which plans page by page, in all that
-they tell, or refuse by the same words or number. At most a fifth is refused, and of each verdict, of each end like QEMU
-and of each kind of shares of the link there are a number. A question at a door is a case.
+that is more, two thirds are about eight traces and a third about four records; half go by a hypervisor's looks, and
+half by Clark's rounds. They are asked of precopy-view, in lines and in JSON, of the library in C and in Python, if
+`make lib` has built it, those about records of tools/predict, and those of Clark's rounds of the page's module, if Node
+is there. All must answer what a plain model does, which plans page by page, in all that they tell, or refuse by the
+same words or number. At most a fifth is refused, and of each plan, verdict, end like QEMU and kind of shares of the
+link there are a number, and several ends of each plan. A question at a door is a case.
 """
 
 import collections
@@ -18,24 +19,30 @@ import tempfile
 from typing import Optional
 
 from checks.lib.harness import expect, left_out, run_main, seed
-from checks.lib.migration_model import Answer, answer_of
+from checks.lib.migration_model import Answer, Question, answer_of
 from checks.page.node import node_command, put_web
 from checks.predictions import questions
 from checks.predictions.doors import DOORS, Programs, asker, compare
 from checks.predictions.questions import Asked
 from precopy_dev.tree import TOP
 
-VERDICTS = {"yes": 20, "no": 10, "uncertain": 8, "unknown": 10, "refused": 4}
+VERDICTS = {"yes": 20, "no": 4, "uncertain": 8, "unknown": 10, "refused": 4}
 OTHERS = {"few left": 20, "trace ends": 10, "not begun": 4, "share turns": 10, "no share turns": 10}
+# By each plan, and how these end. No draw makes 2,000 looks.
+PLANS = {"looks": 50, "looks end with few": 20, "looks end with cut": 4, "looks end with level": 1}
+PLANS |= {"rounds": 50, "rounds end with few": 20, "rounds end with fast": 1, "rounds end with rounds": 1}
 FEW, AT_ONCE = 6, 4
 
 
-def kinds_of(answer: Optional[Answer]) -> list[str]:
-    """Of which kinds an answer is: its verdict, and if it is not refused its end like QEMU and its shares."""
+def kinds_of(asked: Question, answer: Optional[Answer]) -> list[str]:
+    """Of which kinds an answer is: its verdict, and if it is not refused its end like QEMU, its shares, and the plan
+    with its end."""
     if answer is None:
         return ["refused"]
     end = "not begun" if answer.forecast is None else "few left" if answer.forecast.ends else "trace ends"
-    return [answer.sure_kept, end, "share turns" if answer.share.below else "no share turns"]
+    plan = asked.manner().value
+    shares = "share turns" if answer.share.below else "no share turns"
+    return [answer.sure_kept, end, shares, plan, f"{plan} end with {answer.why}"]
 
 
 def tried(programs: Programs, some: list[Asked]) -> tuple[list[str], list[str]]:
@@ -43,7 +50,7 @@ def tried(programs: Programs, some: list[Asked]) -> tuple[list[str], list[str]]:
     answers = [answer_of(asked.question, asked.trace) for asked in some]
     doors = [door(programs) for door in DOORS if not door.lacking(programs)]
     found = [fault for door in doors for fault in compare(door, some, answers)]
-    return [kind for answer in answers for kind in kinds_of(answer)], found
+    return [kind for asked, answer in zip(some, answers) for kind in kinds_of(asked.question, answer)], found
 
 
 def draw_and_trace(asked: Asked) -> str:
@@ -69,7 +76,7 @@ def programs_of(folder: str, view: str, module: str) -> Programs:
 
 def expect_each(kinds: collections.Counter) -> None:
     told = ", ".join(f"{kind} {count}" for kind, count in sorted(kinds.items()))
-    least, all_asked = VERDICTS | OTHERS, sum(kinds[verdict] for verdict in VERDICTS)
+    least, all_asked = VERDICTS | OTHERS | PLANS, sum(kinds[verdict] for verdict in VERDICTS)
     expect(5 * kinds["refused"] <= all_asked, f"more than a fifth is refused: {told}")
     expect(all(kinds[kind] >= count for kind, count in least.items()), f"fewer than {least}: {told}")
     print(f"{all_asked} questions: {told}")

@@ -15,14 +15,15 @@
 #include <stdlib.h>
 
 #define LONG_NUMBERS 12
-#define SHORT_NUMBERS 4
+#define SHORT_NUMBERS 5
 
 /* Reads a question, and returns whether there is one. */
 static int read_question(struct precopy_question *asked) {
     uint64_t *longs[LONG_NUMBERS] = {&asked->link,      &asked->first,  &asked->downtime, &asked->reserve,
                                      &asked->tick,      &asked->page,   &asked->sampled,  &asked->guest,
                                      &asked->increment, &asked->rounds, &asked->start,    &asked->base};
-    uint32_t *shorts[SHORT_NUMBERS] = {&asked->has_first, &asked->has_increment, &asked->has_base, &asked->skip};
+    uint32_t *shorts[SHORT_NUMBERS] = {&asked->has_first, &asked->has_increment, &asked->has_base, &asked->skip,
+                                       &asked->clark};
     for (int i = 0; i < LONG_NUMBERS; i++) {
         if (scanf("%" SCNu64, longs[i]) != 1) {
             return 0;

@@ -9,10 +9,9 @@ import traceback
 from typing import NamedTuple, Optional
 
 from checks.lib.host_words import host_lines
-from checks.lib.look_model import Forecast, look_lines
-from checks.lib.migration_model import STATUSES, Answer, Refusal, Starts, all_lines, document_of, lines_of
-from checks.lib.remedy_model import Remedies, enough_lines
-from checks.lib.share_model import share_lines
+from checks.lib.look_model import Forecast
+from checks.lib.migration_model import STATUSES, Answer, Refusal, all_lines, document_of, lines_until_hosts
+from checks.lib.remedy_model import Remedies
 from checks.lib.tally import Failure, LeftOut, module, why_not
 from checks.lib.view_texts import parsed, ran
 from checks.predictions.questions import Asked
@@ -23,6 +22,7 @@ from precopy_tools.predict import command
 LIBRARY = os.path.join(TOP, "out", "library")
 SECONDS, HOW = 600, {"capture_output": True, "text": True, "check": False}
 VERDICTS = ("yes", "no", "unknown", "uncertain")
+REASONS = ("few", "fast", "rounds", "looks", "cut", "level")
 AGREEMENT = ("draws", "draws_known", "draws_converging", "draws_kept", "starts", "starts_converging", "starts_kept")
 AGREEMENT += ("converges", "kept")
 ENDS = ("few_left", "trace_ends", "not_begun")
@@ -147,9 +147,7 @@ class Tool(Door):
         question = asked.question
         is_whole = f"--downtime={question.downtime}us" in asked.words
         hosts = host_lines(question.link, question.millis_for_pages()) if is_whole else []
-        ranges = [*look_lines(question, asked.trace), *Starts(question, asked.trace).lines()]
-        ranges += share_lines(answer.share)
-        lines = [*lines_of(question, answer), *ranges, *enough_lines(answer.enough, answer.is_sure()), *hosts]
+        lines = [*lines_until_hosts(question, answer, asked.trace), *hosts]
         return [STATUSES[answer.sure_kept], lines, ""]
 
     def refused(self, asked: Asked, refusal: Refusal) -> object:
@@ -162,7 +160,7 @@ class Tool(Door):
 
 
 class Page(Door):
-    """The page's module, by the file that asks it."""
+    """The page's module, by the file that asks it. It plans by Clark's rounds alone."""
 
     name = "web/engine/planner.js"
 
@@ -171,6 +169,9 @@ class Page(Door):
         if not programs.node:
             return "there is no node with 64-bit memory"
         return "" if os.path.exists(programs.module) else f"there is no {programs.module}; make page builds it"
+
+    def is_asked(self, asked: Asked) -> bool:
+        return asked.question.clark
 
     def all_told(self, some: list[Asked]) -> list[object]:
         questions = [
@@ -314,7 +315,7 @@ class C(Library):
         """The numbers of a question in the order of struct precopy_question."""
         given = vars(asked.question)
         has = [int(given[name] is not None) for name in ("first", "increment", "base")]
-        return [given[name] or 0 for name in self.NUMBERS.split()] + has + [int(given["skip"])]
+        return [given[name] or 0 for name in self.NUMBERS.split()] + has + [int(given["skip"]), int(given["clark"])]
 
     def answer(self, numbers: list[int]) -> object:
         """What a line of the program tells: twelve numbers, four of standard errors, twelve of what is enough, nine of
@@ -328,7 +329,7 @@ class C(Library):
         given = zip(self.AMOUNTS, numbers[16:21], numbers[21:26])
         enough = {name: amount if has else None for name, amount, has in given}
         enough |= {"is_kept": numbers[26] != 0, "ends": numbers[27] != 0}
-        reason = ("few", "fast", "rounds")[found["reason"]]
+        reason = REASONS[found["reason"]]
         sure = dict(zip(AGREEMENT, numbers[28:37]))
         sure |= {name: VERDICTS[sure[name]] for name in ("converges", "kept")}
         forecast = dict(zip(FORECAST, numbers[37:44]))

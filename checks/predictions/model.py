@@ -12,7 +12,7 @@ def in_longer_ticks(asked: Question, record: dict, trace: Trace) -> tuple[Questi
 
     Ticks are longer by the least of 1, 2, 5, 10 and 20 that makes a rate of 500, of those that divide the downtime.
     They are counted from the first look on. The trace has no write from before it, and one at the last. A downtime in
-    which more than 65,535 pages go is the longest in which no more do.
+    which more than 65,535 pages go is the longest in which no more do. What is added to a rate grows with the ticks.
     """
     rate = Fraction(asked.link * asked.tick * asked.sampled, 1000 * asked.page * asked.guest)
     fitting = [
@@ -21,7 +21,8 @@ def in_longer_ticks(asked: Question, record: dict, trace: Trace) -> tuple[Questi
         if asked.downtime % (asked.tick * each) == 0 and asked.tick * each <= 1_000_000
     ] or [1]
     factor = next((each for each in fitting if rate * each >= 500), fitting[-1])
-    longer = replace(asked, tick=asked.tick * factor, start=asked.start // factor)
+    increment = None if asked.increment is None else min(1_000_000, asked.increment * factor)
+    longer = replace(asked, tick=asked.tick * factor, start=asked.start // factor, increment=increment)
     most = (1000 * 65_536 - 1) // max(1, longer.rate(asked.link)) * longer.tick
     longer = replace(longer, downtime=min(asked.downtime, most))
     first = record["first_tick"]

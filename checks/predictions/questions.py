@@ -121,8 +121,13 @@ def recorded(draw: random.Random, path: str) -> str:
 # ---- Questions.
 
 
+def of_looks(asked: Question) -> Question:
+    """The same by a hypervisor's looks, without what is of Clark's rounds alone; the most rounds are the default."""
+    return replace(asked, first=None, increment=None, rounds=30, skip=False, clark=False)
+
+
 def random_question(draw: random.Random, trace: Trace) -> Question:
-    """A question about a trace, most of the time one that is not refused."""
+    """A question about a trace, most of the time one that is not refused; half of them go by a hypervisor's looks."""
     pages, sampled = trace.pages, trace.pages
     if draw.randrange(2):
         sampled = draw.randrange(max(1, pages - draw.choice([0] * 9 + [1])), 2 * pages + 2)
@@ -138,7 +143,7 @@ def random_question(draw: random.Random, trace: Trace) -> Question:
     first = draw.choice([None, None, max(125, asked.link * draw.randrange(10, 101) // 100 // 125 * 125)])
     increment = draw.choice([None, None, draw.randrange(1 + min(1_000_000, asked.rate(asked.link)))])
     reserve = draw.choice([0, 0, draw.randrange(1 + 2 * asked.downtime)])
-    return replace(
+    made = replace(
         asked,
         start=start,
         base=base,
@@ -146,12 +151,19 @@ def random_question(draw: random.Random, trace: Trace) -> Question:
         increment=increment,
         reserve=reserve,
         downtime=asked.downtime + reserve * draw.choice([0, 1, 1, 1, 1, 1]),
+        clark=True,
     )
+    return draw.choice([made, of_looks(made)])
 
 
-def in_range(draw: random.Random, trace: Trace, is_refused: bool = False, **changed) -> Question:
-    """A question about a trace that is not refused, or one that is, with some of its numbers changed."""
-    asked = (replace(random_question(draw, trace), **changed) for _ in itertools.count())
+def in_range(
+    draw: random.Random, trace: Trace, is_refused: bool = False, clark: Optional[bool] = None, **changed
+) -> Question:
+    """A question about a trace that is not refused, or one that is, with some of its numbers changed. It goes by
+    Clark's rounds, or does not: that is drawn too, if it is not said."""
+    clark = bool(draw.randrange(2)) if clark is None else clark
+    drawn = (random_question(draw, trace) for _ in itertools.count())
+    asked = (replace(it, **changed) for it in drawn if it.clark == clark)
     return next(it for it in asked if (it.refusal(trace) is not None) == is_refused)
 
 
@@ -165,15 +177,31 @@ def limited(draw: random.Random, asked: Question, trace: Trace) -> Question:
     return replace(asked, link=link, downtime=ticks * asked.tick)
 
 
+def paced(draw: random.Random, asked: Question) -> tuple[Question, list[str]]:
+    """The same with a pace of Clark's rounds, and the words of tools/predict for that."""
+    first = draw.choice([None, asked.link * draw.randrange(10, 101) // 100 // 125 * 125])
+    made = replace(
+        asked,
+        first=first if first and asked.rate(first) else None,
+        increment=draw.choice([None, draw.randrange(1 + min(1_000, asked.rate(asked.link)))]),
+        rounds=draw.choice([64, 64, draw.randrange(1, 65)]),
+        skip=bool(draw.randrange(2)),
+        clark=True,
+    )
+    first_word = [] if made.first is None else [f"--first={made.first // 125}Kbit"]
+    return made, ["--clark", *first_word, *made.pace()]
+
+
 def of_record(draw: random.Random, folder: str, trace: Trace, told: dict) -> Asked:
     """What tools/predict may be asked about a record, and the same in its longer ticks."""
     sampled, length = told["trace_pages"], told["last_tick"] - told["first_tick"]
     guest = max(sampled, round(Fraction(sampled * told["guest_nonzero"], told["sampled_nonzero"])))
     tick = round(1e6 * told["tick_seconds"])
-    asked = Question(1, None, 0, 0, tick, trace.size, sampled, guest, None, 64, 0, None, False)
+    asked = Question(1, None, 0, 0, tick, trace.size, sampled, guest, None, 30, 0, None, False)
     asked = limited(draw, asked, trace)
     asked = replace(asked, downtime=max(1, asked.downtime - asked.downtime % draw.choice([1, 10 * tick, 20 * tick])))
-    words = [trace.path, f"--link={asked.link // 125}Kbit", f"--downtime={asked.downtime}us"]
+    asked, pace = paced(draw, asked) if draw.randrange(2) else (asked, [])
+    words = [trace.path, f"--link={asked.link // 125}Kbit", f"--downtime={asked.downtime}us", *pace]
     if draw.randrange(3) == 0:
         later = draw.randrange(1, 2 + length // 2)
         asked, words = replace(asked, start=later), [*words, f"--start={later * tick}us"]

@@ -27,6 +27,7 @@ from checks.lib.traces import Trace
 from checks.recording import (
     compare_cases,
     forecast_cases,
+    link_cases,
     memory_cases,
     running_cases,
     sample_cases,
@@ -412,6 +413,7 @@ CASES = [
     *scan_cases.CASES,
     *compare_cases.CASES,
     *forecast_cases.CASES,
+    *link_cases.CASES,
     *running_cases.CASES,
 ]
 

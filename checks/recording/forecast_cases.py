@@ -16,7 +16,7 @@ from checks.lib.harness import cases_of, expect
 from checks.recording.recorder_runs import SECONDS, TOP
 from precopy_tools import places, refusals
 from precopy_tools.formats import samples, traces
-from precopy_tools.predict import day_chart, forecast, plans
+from precopy_tools.predict import clark, day_chart, forecast, plans
 from precopy_tools.predict.texts import CONVERGES
 
 # The built precopy-view, by which tools/predict plans.
@@ -237,18 +237,30 @@ def predicted(_, folder):
     """The status says whether the limit is kept. What the lines say of a migration is tested by checks/predictions."""
     path = os.path.join(folder, "guest.light.pcwt")
     run_thin(RECORDED, path, "--one-in", "4", "--start", "1000")
-    # All redraws keep the limit, but two standard errors more of the downtime do not.
-    printed, _ = run_predict(path, *LINK, status=5)
-    expect("converges: yes, " in printed and "at half the link: " in printed, printed)
-    expect("kept: uncertain, in 20 of 20 redraws" in printed, printed)
-    hosts = ["max-bandwidth 33554432B", "downtime-limit 100", "migrate-setspeed DOMAIN 32", "setmaxdowntime DOMAIN 100"]
-    expect(all(f"{words}\n" in printed for words in hosts) and "precopy live" not in printed, printed)
-    again, _ = run_predict(path, *LINK, status=5)
-    expect(again == printed, "the same words print other lines")
+    # By Clark's rounds all redraws keep the limit, but two standard errors more of the downtime do not.
+    for plan, kept, status, steps in (([], "yes", 0, "looks"), (["--clark"], "uncertain", 5, "rounds")):
+        printed, _ = run_predict(path, *LINK, *plan, status=status)
+        expect(re.search(rf"^converges: yes, .*; {steps}: \d+$", printed, re.M), printed)
+        expect("at half the link: " in printed and ("like QEMU" in printed) == bool(plan), printed)
+        expect(f"kept: {kept}, in 20 of 20 redraws" in printed, printed)
+        hosts = ["max-bandwidth 33554432B", "downtime-limit 100", "setspeed DOMAIN 32", "setmaxdowntime DOMAIN 100"]
+        expect(all(f"{words}\n" in printed for words in hosts) and "precopy live" not in printed, printed)
+        again, _ = run_predict(path, *LINK, *plan, status=status)
+        expect(again == printed, "the same words print other lines")
     over_shares(path)
     busy, part = os.path.join(folder, "busy.pcwt"), os.path.join(folder, "part.pcwt")
     made_trace(busy, rate=12)
     run_thin(busy, part, "--one-in", "2", "--start", "1000")
+    for plan in [], ["--clark"]:
+        expect_statuses(path, part, plan)
+    for option in (["--first", "1MiB"], ["--inc", "5"], ["--rounds", "5"], ["--skip"]):
+        _, refused = run_predict(path, *LINK, *option, status=2)
+        expect(refused.endswith(f"error: {clark.NEEDED}\n"), refused)
+        run_predict(path, *LINK, *option, "--clark", status=None)
+
+
+def expect_statuses(path, part, plan):
+    """What is told of two records by one plan, with what status."""
     for name, words, status, said in (
         (part, ["--link", "16MiB", "--downtime", "10ms"], 3, "converges: no"),
         (part, ["--link", "64MiB", "--downtime", "3ms"], 0, "decided the stop"),
@@ -264,7 +276,7 @@ def predicted(_, folder):
         (path, ["--link", "128Gbit"], 0, "at twice the link: no plan"),
         (path, ["--link", "1"], 2, "Kbit, Mbit, Gbit"),
     ):
-        printed, refused = run_predict(name, *words, status=status)
+        printed, refused = run_predict(name, *words, *plan, status=status)
         expect(said in printed + refused, printed + refused)
         is_cut = "a plan takes no longer limit than that: 65,535 pages of the sample" in printed
         expect(is_cut == ("9s" in words or "128Gbit" in words), printed)
@@ -318,8 +330,14 @@ def converted(_, folder):
         found, words = asked.limits(forecast.Link(bandwidth, downtime))
         expect(found == factor and f"{1000 * factor}us" in words and "3/30" in words, f"{found}, {words}")
     expect(asked.start == 25 and asked.moment(0.025).isoformat() == "2026-11-26T00:00:00.025000+00:00", "the start")
-    for base, wanted in ((0, "--rounds 64 --start 0"), (700, "--base 0 --start 0")):
-        warm = forecast.forecast_of(VIEW[0], path)
+    by_rounds, skipping = clark.Pace(), clark.Pace(1 << 20, 7, 5, True)
+    for base, pace, wanted in (
+        (0, None, "--sampled 3/30 --start 0"),
+        (700, None, "--base 0 --start 0"),
+        (0, by_rounds, "--sampled 3/30 --clark --rounds 64 --start 0"),
+        (0, skipping, "--sampled 3/30 --clark --first 1MiB --inc 35 --rounds 5 --skip --start 0"),
+    ):
+        warm = forecast.forecast_of(VIEW[0], path, pace=pace)
         warm.begin_with(base)
         _, words = warm.words(forecast.Link(8 << 20, 0.1))
         expect(" ".join(words).endswith(wanted), f"{words}")
@@ -375,13 +393,13 @@ def made_series(folder, moments):
     return paths
 
 
-def starts_of(path, link, downtime):
+def starts_of(path, link, downtime, plan):
     """What `precopy-view json when` tells of a trace, by words that are made here: of each 50th tick or so."""
     trace = read_trace(path)
     writes = [(tick, page) for tick, page, *_ in trace.records() if tick >= 1000]
     text = forecast.encoded(trace.pages, writes + [(4999, 0)], 4096)
     words = ["--link", link, "--downtime", downtime, "--tick", "1ms", "--page", "4096", "--sampled", "256/512"]
-    sides = ["--from", "1000", "--to", "4999", "--every", "67", "--rounds", "64"]
+    sides = ["--from", "1000", "--to", "4999", "--every", "67", *plan, *["--rounds", "64"] * bool(plan)]
     done = subprocess.run([VIEW[0], "json", "when", *words, *sides], input=text, capture_output=True, timeout=SECONDS)
     return json.loads(done.stdout)
 
@@ -398,36 +416,10 @@ def predicted_series(_, folder):
     """A line for each segment, and a picture of all by time of day; a damaged one is refused, and the others stay."""
     begin = datetime.datetime(2026, 11, 26, 22, 0, tzinfo=datetime.timezone.utc)
     moments = [begin + datetime.timedelta(hours=hours) for hours in (0, 1, 9, 25, 30)]
-    paths, picture = made_series(folder, moments), os.path.join(folder, "day.svg")
-    link = ["--link", "16MiB", "--downtime", "2ms"]
+    paths, link = made_series(folder, moments), ["--link", "16MiB", "--downtime", "2ms"]
     name = os.path.join(folder, "guest.light.pcwt")
-    printed, refused = run_predict(name, *link, "--picture", picture, status=5)
-    lines = printed.strip().split("\n")
-    expect(len(lines) == 5 and not refused, f"{printed!r}, {refused!r}")
-    within = 0
-    for path, moment, line in zip(paths, moments, lines):
-        alone, _ = run_predict(path, *link, status=None)
-        converges = re.search(r"^converges: (\w+)", alone, re.M)[1]
-        expect(f"  {CONVERGES[converges]}  " in line, f"{converges} is not in {line!r}")
-        expect(line.startswith(f"{moment:%Y-%m-%d %H:%M:%S}  "), line)
-        for said in ("sent", "total time", "downtime"):
-            value = re.search(rf"^{said}: ([^,\n]+)", alone, re.M)[1]
-            error = re.search(rf"^standard errors: .*\b{said.split()[-1]} ([^,\n]+)", alone, re.M)[1]
-            expect(f"  {value} +- {error}  " in line, f"{value!r} +- {error} is not in {line!r}")
-        told = starts_of(path, "16MiB", "2ms")
-        within += sum(start["kept"] != "unknown" for start in told["starts"])
-        for which in ("best", "worst"):
-            start = told[which]
-            at = moment + datetime.timedelta(seconds=start["start_seconds"] - 1)
-            expect(f"  {which} {at:%H:%M:%S} {size_text(start['sent_bytes'])}" in line, f"{which}: {line}")
-    dots = pictured(picture)
-    expect(len(dots) == 3 * within > 100, f"{len(dots)} dots, {within} starts")
-    expect({dot[2] for dot in dots} == {day_chart.KEPT, day_chart.NOT_KEPT}, "no colours")
-    for place, _, _, text in dots:
-        moment = datetime.datetime.fromisoformat(text[:19])
-        of_day = (moment - moment.replace(hour=0, minute=0, second=0)).total_seconds() / 86400
-        wanted = day_chart.LEFT + of_day * (day_chart.WIDTH - day_chart.LEFT - day_chart.RIGHT)
-        expect(abs(place - wanted) < 0.1, f"{text} stands at {place}")
+    expect_series(folder, paths, moments, [*link, "--clark"], 5)
+    lines = expect_series(folder, paths, moments, link, 0)
     with open(paths[2], "r+b") as file:
         file.write(b"XXXX")
     printed, refused = run_predict(name, *link, status=1)
@@ -437,6 +429,45 @@ def predicted_series(_, folder):
     expect("other.light.pcwt: No such file" in refused, refused)
     run_predict(*paths[:2], *link, "--picture", os.path.join(folder, "none", "a.svg"), status=1)
     expect(not [name for name in os.listdir(folder) if name.endswith(".part")], f"{os.listdir(folder)}")
+
+
+def expect_series(folder, paths, moments, words, status):
+    """The lines and the picture of a series by one plan tell what is told of each segment alone. Returns the lines."""
+    name, picture = os.path.join(folder, "guest.light.pcwt"), os.path.join(folder, "day.svg")
+    printed, refused = run_predict(name, *words, "--picture", picture, status=status)
+    lines = printed.strip().split("\n")
+    expect(len(lines) == 5 and not refused, f"{printed!r}, {refused!r}")
+    told = [expect_segment(path, moment, line, words) for path, moment, line in zip(paths, moments, lines)]
+    starts = [start for each in told for start in each["starts"] if start["kept"] != "unknown"]
+    dots, kept = pictured(picture), {start["kept"] == "yes" for start in starts}
+    expect(len(dots) == 3 * len(starts) > 100, f"{len(dots)} dots, {len(starts)} starts")
+    expect({dot[2] == day_chart.KEPT for dot in dots} == kept, "other colours")
+    # By Clark's rounds some are kept and some are not.
+    expect("--clark" not in words or len({dot[2] for dot in dots}) == 2, "one colour")
+    for place, _, _, text in dots:
+        moment = datetime.datetime.fromisoformat(text[:19])
+        of_day = (moment - moment.replace(hour=0, minute=0, second=0)).total_seconds() / 86400
+        wanted = day_chart.LEFT + of_day * (day_chart.WIDTH - day_chart.LEFT - day_chart.RIGHT)
+        expect(abs(place - wanted) < 0.1, f"{text} stands at {place}")
+    return lines
+
+
+def expect_segment(path, moment, line, words):
+    """The line of a segment has what is told of it alone. Returns what `when` tells of it."""
+    alone, _ = run_predict(path, *words, status=None)
+    converges = re.search(r"^converges: (\w+)", alone, re.M)[1]
+    expect(f"  {CONVERGES[converges]}  " in line, f"{converges} is not in {line!r}")
+    expect(line.startswith(f"{moment:%Y-%m-%d %H:%M:%S}  "), line)
+    for said in ("sent", "total time", "downtime"):
+        value = re.search(rf"^{said}: ([^,\n]+)", alone, re.M)[1]
+        error = re.search(rf"^standard errors: .*\b{said.split()[-1]} ([^,\n]+)", alone, re.M)[1]
+        expect(f"  {value} +- {error}  " in line, f"{value!r} +- {error} is not in {line!r}")
+    told = starts_of(path, words[1], words[3], words[4:])
+    for which in ("best", "worst"):
+        start = told[which]
+        at = moment + datetime.timedelta(seconds=start["start_seconds"] - 1)
+        expect(f"  {which} {at:%H:%M:%S} {size_text(start['sent_bytes'])}" in line, f"{which}: {line}")
+    return told
 
 
 def pictures_of_any_starts(_, folder):

@@ -8,10 +8,11 @@ report` or `precopy sweep`, under the names of that text; both must be what a mo
 lines that are no wider than asked; runs of hot pages fill up to eight such lines, and only then some may be left out. A
 picture must have its bars and texts inside, and no text over another, also with 1, 30 and 10,000 windows; 200 random
 pictures of reports and starts are read back, each mark to the numbers that it may stand for. Random questions in time
-and bytes are asked of `json report`, `when`, `json when`, `advise` and `json sweep`; of each answer there are a number,
-and at most a fifth is refused, in the words of the model. Words of limits are tried at the ends of their ranges, and
-with misspellings; times, rates and sizes as words are those of checks/view/quantities.tsv and random decimals, for the
-program and for the tools.
+and bytes are asked of `json report`, `when`, `json when`, `advise` and `json sweep`, half of those about starts by a
+hypervisor's looks; of each answer there are a number, and at most a fifth is refused, in the words of the model. Words
+of limits are tried at the ends of their ranges, and with misspellings, and those of Clark's rounds without --clark;
+times, rates and sizes as words are those of checks/view/quantities.tsv and random decimals, for the program and for the
+tools.
 """
 
 import collections
@@ -30,6 +31,7 @@ from checks.view.advice_cases import advice_tries
 from checks.view.limit_cases import SEEN, report_tries, start_tries, word_tries
 from checks.view.nearest_cases import nearest_tries
 from checks.view.picture_cases import picture_tries
+from checks.view.plan_cases import plan_tries
 from checks.view.quantity_cases import quantity_tries
 from precopy_dev.models import redrawn
 
@@ -202,14 +204,14 @@ def tries_of(folder):
     for tries in (report_tries, start_tries):
         yield from tries(known)
     yield from advice_tries(examples, known, folder)
-    for tries in (word_tries, nearest_tries, quantity_tries):
+    for tries in (word_tries, plan_tries, nearest_tries, quantity_tries):
         yield from tries(gzip)
     yield from picture_tries(folder)
 
 
 # How often each must come of the random questions, at least; and at most a fifth of each kind is refused.
 LEAST = {"report": {"yes": 50, "no": 10, "unknown": 15, "refused": 1}}
-LEAST |= {"when": {"yes": 15, "no": 6, "unknown": 15, "refused": 1}}
+LEAST |= {f"when by {plan}": {"yes": 10, "no": 3, "unknown": 10, "refused": 1} for plan in ("looks", "rounds")}
 LEAST |= {"advise": {"fits": 25, "another": 5, "unlikely": 1, "unknown": 3, "refused": 1}}
 
 

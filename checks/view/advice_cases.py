@@ -192,7 +192,8 @@ def of_a_sample(draw, trace):
     """A question about a part of a guest, with a downtime in which some pages go over the link."""
     sampled, tick = draw.randrange(trace.pages, 60), draw.choice([1, 100, 1_000])
     guest, reserve = sampled * draw.choice([2, 9, 300]), draw.choice([0, 0, 7 * tick + 1])
-    asked = Question(1, None, 0, reserve, tick, trace.size, sampled, guest, None, 30, draw.randrange(300), None, False)
+    scale, start = (tick, trace.size, sampled, guest), draw.randrange(300)
+    asked = Question(1, None, 0, reserve, *scale, None, 30, start, None, False, clark=True)
     bytes_of_kbit, rate = 125, draw.randrange(200, 3_000)
     link = -(-rate * 1_000 * asked.bytes_of(sampled) // (sampled * tick * bytes_of_kbit)) * bytes_of_kbit
     ticks = draw.randrange(1, 20) * 1_000 // replace(asked, link=link).rates()[0] + 1
@@ -213,7 +214,7 @@ REFUSED = [
 def advice_tries(examples, traces, folder):
     """The tries of advice, and of sweeps in times and bytes."""
     yield from ((check_advice, words, trace) for trace in examples for words in BUDGETS)
-    for draw, trace, asked in some("advice", traces, ADVICE, rounds=30, skip=False, increment=None):
+    for draw, trace, asked in some("advice", traces, ADVICE, clark=True, rounds=30, skip=False, increment=None):
         yield check_measured_advice, asked, draw.choice([None, None, draw.randrange(200)]), trace
     graded = graded_trace(folder)
     for draw in drawn("advice of samples", range(SAMPLES)):

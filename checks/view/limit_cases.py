@@ -25,7 +25,7 @@ RATES = {
     "MiB": 1 << 20,
     "GiB": 1 << 30,
 }
-REPORTS, STARTS, SELDOM = 200, 120, 8
+REPORTS, STARTS, SELDOM = 200, 200, 8
 # What came of the questions, by what was asked for, as the model has it.
 SEEN: Counter = Counter()
 # A trace in a file.
@@ -33,17 +33,20 @@ Known = Trace.at
 
 
 def some(kind: str, traces: list[Trace], count: int, **changed) -> Iterator[tuple[Draw, Trace, Question]]:
-    """So many draws of a kind, each with a trace and a question about it, of which one in SELDOM is refused."""
+    """So many draws of a kind, each with a trace and a question about it, of which one in SELDOM is refused. They go by
+    both plans in turn, if none is said."""
     for draw in drawn(kind, range(count)):
         trace = draw.choice(traces)
-        yield draw, trace, in_range(draw, trace, draw.number % SELDOM == 0, **changed)
+        plan = {"clark": draw.number // SELDOM % 2 == 0}
+        yield draw, trace, in_range(draw, trace, draw.number % SELDOM == 0, **{**plan, **changed})
 
 
-def is_refused(view, command: list[str], asked: Question, words: list[str], trace: Trace) -> bool:
-    """Whether the question is refused; then the program must say so in the words of the model."""
+def is_refused(view, command: list[str], asked: Question, words: list[str], trace: Trace, kind: str = "") -> bool:
+    """Whether the question is refused; then the program must say so in the words of the model. It is counted as one of
+    the kind, or of the command."""
     refusal = asked.refusal(trace)
     if refusal:
-        SEEN[command[-1], "refused"] += 1
+        SEEN[kind or command[-1], "refused"] += 1
         found = list(ran(view, [*command, *words], trace.path))
         expect(found == refusal.of_view(), f"{command} {words}: {found} in place of {refusal}")
     return refusal is not None
@@ -83,7 +86,7 @@ def measured_report(asked: Question, trace: Trace, length: int, hot: int) -> dic
 
 
 def check_measured(view, _, asked, length, hot, trace):
-    words = [*asked.words(), f"--window={length}", f"--hot={hot}"]
+    words = [*asked.words_of_rounds(), f"--window={length}", f"--hot={hot}"]
     if not is_refused(view, ["json", "report"], asked, words, trace):
         status, text, faults = ran(view, ["json", "report", *words], trace.path)
         expect(status == 0 and not faults, f"{words}: status {status}, {faults!r}")
@@ -94,7 +97,7 @@ def check_measured(view, _, asked, length, hot, trace):
 
 def report_tries(traces):
     """The tries of random limits over some traces."""
-    for draw, trace, asked in some("reports", traces, REPORTS):
+    for draw, trace, asked in some("reports", traces, REPORTS, clark=True):
         length = max(1, (trace.last + 1) // draw.choice([1, 7, 60, 400]))
         yield check_measured, asked, length, draw.randrange(1, 4), trace
 
@@ -123,6 +126,7 @@ def told_of(asked: Question, costs: list[Cost], trace) -> tuple[int, str, dict]:
     lines = [heading, *(cost.row(asked.tick) for cost in costs)]
     document = {
         "limit_seconds": migration_model.seconds(asked.downtime),
+        "plan": asked.manner().value,
         "starts": [cost.member(asked.tick) for cost in costs],
     }
     for name, title, cost in (("best", "best: ", best), ("worst", "worst:", worst)):
@@ -137,9 +141,9 @@ def told_of(asked: Question, costs: list[Cost], trace) -> tuple[int, str, dict]:
 
 def check_starts(view, _, asked, starts, workers, trace):
     words, ticks = starts
-    words = [*asked.limits(), f"--rounds={asked.rounds}", *["--skip"] * asked.skip, *words, f"--workers={workers}"]
-    words += [] if asked.increment is None else [f"--inc={asked.increment}"]
-    if is_refused(view, ["when"], asked, words, trace):
+    words = [*asked.limits(), *asked.pace(), *["--clark"] * asked.clark, *words, f"--workers={workers}"]
+    kind = f"when by {asked.manner().value}"
+    if is_refused(view, ["when"], asked, words, trace, kind):
         return
     status, table, document = told_of(asked, [Cost.of(asked, trace, tick) for tick in ticks], trace)
     found = ran(view, ["when", *words], trace.path)
@@ -147,7 +151,7 @@ def check_starts(view, _, asked, starts, workers, trace):
     found, text, faults = ran(view, ["json", "when", *words], trace.path)
     expect(found == status and not faults, f"{words}: status {found}, {faults!r}")
     expect(parsed("when", text) == document, f"{words}: {text} in place of {document}")
-    SEEN["when", next(verdict for verdict, number in STATUSES.items() if number == status)] += 1
+    SEEN[kind, next(verdict for verdict, number in STATUSES.items() if number == status)] += 1
 
 
 def start_tries(traces):
@@ -195,7 +199,7 @@ REFUSED = [
     *((word, TOGETHER) for word in ("--link=1GB", "--downtime=1s", "--first=1GB", "--reserve=1s")),
 ]
 NO_SETTINGS = "--min, --max and --threshold cannot be used with --link and --downtime"
-PLAIN = Question(10**9, None, 1_000, 0, 1_000, 4_096, 1, 1, None, 30, 0, None, False)
+PLAIN = Question(10**9, None, 1_000, 0, 1_000, 4_096, 1, 1, None, 30, 0, None, False, clark=True)
 
 
 def check_words(view, _, words, refused, trace):
@@ -221,7 +225,7 @@ def word_tries(trace):
     ):
         asked = replace(PLAIN, **changed)
         refusal = asked.limit_refusal()
-        words = [word for word in asked.words() if not word.startswith(("--rounds", "--start", "--sampled"))]
+        words = [word for word in asked.words_of_rounds() if not word.startswith(("--rounds", "--start", "--sampled"))]
         yield check_words, words, refusal and refusal.told, trace
     for word in ("--max=5", "--min=5", "--threshold=5"):
         yield check_words, ["--link=1GB", "--downtime=1ms", word], NO_SETTINGS, trace

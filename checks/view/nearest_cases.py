@@ -46,7 +46,7 @@ def nearest_drawn(draw):
     tick = 10 ** draw.randrange(7)
     share = tick * 25 / (4_096_000 * guest)
     rate = int(draw.randrange(2, 1_000_000) / share) + 1
-    asked = Question(rate, None, 0, 0, tick, 4_096, 25, guest, None, 30, 0, None, False)
+    asked = Question(rate, None, 0, 0, tick, 4_096, 25, guest, None, 30, 0, None, False, clark=bool(draw.randrange(2)))
     low, high = max(0, int(draw.random() / share) - 1), int((1_000_002 + 10 ** draw.randrange(8)) / share) + 1
     name, changed = draw.choice(
         [
@@ -58,7 +58,7 @@ def nearest_drawn(draw):
             ("reserve", {"downtime": draw.randrange(10**6), "reserve": 10**8}),
         ]
     )
-    return name, replace(asked, **changed)
+    return name, replace(asked, clark=asked.clark or name == "first", **changed)
 
 
 def nearest_tries(trace):

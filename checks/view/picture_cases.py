@@ -212,7 +212,7 @@ def report_lines(report, length, limits):
 def check_report_marks(view, _, limits, settings, length, trace):
     """Reads the picture of a report back, and compares it with the report of the model."""
     report = report_of(trace, settings, length)
-    words = limits.words() if limits else options_of(settings)
+    words = limits.words_of_rounds() if limits else options_of(settings)
     picture = Picture(told(view, ["chart", *words, f"--window={length}"], trace.path))
     windows, pages, rates = picture.panels
     stop = report["stop"]
@@ -271,8 +271,7 @@ def read_starts(picture, axis, costs, chosen, limit):
 def check_start_marks(view, _, limits, ticks, length, trace):
     """Reads the picture of some starts back, and compares it with what the model makes of them."""
     starts = [f"--from={ticks[0]}", f"--to={ticks.stop - 1}", f"--every={ticks.step}"]
-    plan = [f"--rounds={limits.rounds}", *["--skip"] * limits.skip]
-    plan += [] if limits.increment is None else [f"--inc={limits.increment}"]
+    plan = [*limits.pace(), *["--clark"] * limits.clark]
     costs = [Cost.of(limits, trace, tick) for tick in ticks]
     status, _, document = told_of(limits, costs, trace)
     found, text, _ = ran(view, ["when", "--chart", *limits.limits(), *plan, *starts, f"--window={length}"], trace.path)
@@ -322,7 +321,8 @@ def picture_tries(folder):
     """The tries of 200 random pictures, each over a random trace."""
     for draw in drawn("pictures", range(REPORTS + STARTS)):
         trace = random_trace(draw, folder)
-        limits, length = in_range(draw, trace), random_window(draw, trace.last)
+        clark = True if draw.number < REPORTS else None
+        limits, length = in_range(draw, trace, clark=clark), random_window(draw, trace.last)
         if draw.number < REPORTS:
             limits = draw.choice([None, limits])
             settings = limits.settings() if limits else random_settings(draw, trace.last)

@@ -11,6 +11,9 @@ here when all have moved.
 Bytes are those of pages sent whole, and times are without QEMU's set-up, but for the whole: that is from the first
 command to the last end. --keep leaves the records and the plans in a folder for each run.
 
+With --at-once 2,3 `tools/evacuate --run` itself moves all by each of these numbers at once, with shares that stay and
+with --fluid. Then the times of guests are with the set-up of QEMU, and bytes are all that it sends.
+
 It needs what tools/compare-qemu needs, and 5 GiB of memory for six guests of 512 MiB. On a busy machine it shows how
 busy that is. The status is 0 if all guests have arrived whole.
 """
@@ -29,6 +32,7 @@ from precopy_bench.measuring import memory_folder
 from precopy_dev.tree import TOP
 from precopy_dev.words import parser_of
 from precopy_tools import words
+from precopy_tools.evacuate.options import numbers
 from precopy_tools.formats import traces
 from precopy_tools.qemu import guest, migration, qmp
 
@@ -83,7 +87,7 @@ class Host:
 
     def __init__(self, options, folder, memory_folder_path):
         self.options, self.folder, self.memory_folder = options, folder, memory_folder_path
-        self.machine = guest.Machine(guest.nodes_of(options.memory, 1), "tcg", [])
+        self.machine = guest.Machine(guest.nodes_of(options.memory, 1), options.accelerator, [])
         self.names, self.systems, self.guests = WORKLOADS[: options.guests], {}, {}
 
     def boot(self):
@@ -149,23 +153,49 @@ class Host:
         return [self.arrived(name, costs[name], moved[name]) for name in schedule["guests"]], seconds
 
     def arrived(self, name, planned, real):
+        return Move(name, planned, real, self.compared(name))
+
+    def compared(self, name):
         """Compares the memory of a guest that has moved, ends it at the destination, and lets it go on here."""
         differ, _ = migration.differing_of(self.guests[name], self.guests[f"{name}-to"])
         self.guests.pop(f"{name}-to").end()
         with self.guests[name].client() as client:
             client.ask("cont")
-        return Move(name, planned, real, differ)
+        return differ
+
+    def evacuate_by_tool(self, records, words, path):
+        """Moves all guests by `tools/evacuate --run`. Returns what it tells, and how many pages differ."""
+        for name in self.names:
+            to = self.start(f"{name}-to", name, incoming=True)
+            to.wait_for_socket()
+            with to.client() as client:
+                client.ask("migrate-incoming", uri=f"unix:{self.folder}/{name}.migration")
+        ways = ["--monitor", f"{self.folder}/{{name}}.qmp", "--to", f"unix:{self.folder}/{{name}}.migration"]
+        command = [EVACUATE, *records, *limits_of(self.options), *words, "--lines", "qmp", *ways]
+        done = subprocess.run([*command, "--run", "--force", "--json", path], capture_output=True, text=True)
+        if done.returncode:
+            raise Failed(done.stderr.strip() or done.stdout[-300:])
+        with open(path.replace(".json", ".text"), "w", encoding="utf-8") as file:
+            file.write(done.stdout)
+        for name in self.names:
+            with self.guests[f"{name}-to"].client() as client:
+                migration.wait_until_arrived(client)
+        with open(path, encoding="utf-8") as file:
+            return json.load(file), sum(self.compared(name) for name in self.names)
 
     def end(self):
         for each in self.guests.values():
             each.end()
 
 
+def limits_of(options):
+    return ["--link", words.given_rate(options.link), "--downtime", words.given_time(options.downtime)]
+
+
 def planned(options, records, folder):
     """All answers of tools/evacuate."""
     path = os.path.join(folder, "plan.json")
-    limits = ["--link", words.given_rate(options.link), "--downtime", words.given_time(options.downtime)]
-    command = [EVACUATE, *records, *limits]
+    command = [EVACUATE, *records, *limits_of(options)]
     done = subprocess.run([*command, "--json", path], capture_output=True, text=True)
     if done.returncode not in (0, 3, 4):
         raise Failed(done.stderr.strip())
@@ -208,11 +238,42 @@ def show(number, kind, schedule, moves, seconds):
     sys.stdout.flush()
 
 
+def show_told(number, kind, told):
+    """The same of what `tools/evacuate --run` tells."""
+    moves = {move["guest"]: move for move in told["best"]["moves"]}
+    schedule = told["schedules"][told["best"]["schedule"]]
+    costs = costs_at(told, schedule["at_once"])
+    sent = sum(each["sent_bytes"] for each in told["run"]["guests"])
+    rows = [("**all**", schedule["sent_bytes"], schedule["time_seconds"], sent, told["run"]["time_seconds"])]
+    for each in told["run"]["guests"]:
+        name, taken = each["guest"], each["end_seconds"] - each["start_seconds"]
+        length = moves[name]["end_seconds"] - moves[name]["start_seconds"]
+        rows.append((f"`{name}`", costs[name]["sent_bytes"], length, each["sent_bytes"], taken))
+    for name, plan_sent, plan, sent, taken in rows:
+        how = kind if name == "**all**" else ""
+        print(
+            f"| {number} | {how} | {name} | {plan_sent / MIB:,.0f} | {sent / MIB:,.0f} "
+            f"| {100 * (plan_sent / sent - 1):+.1f} | {plan:.2f} | {taken:.2f} | {100 * (plan / taken - 1):+.1f} | |"
+        )
+    sys.stdout.flush()
+
+
 def one_run(number, host, options, folder):
-    """Records all guests, and moves them by two schedules. Returns how many pages differ at destinations."""
+    """Records all guests, and moves them by two schedules, or by the tool with shares that stay and that change.
+    Returns how many pages differ at destinations."""
     place, differ = os.path.join(options.keep or folder, f"run{number}"), 0
     os.makedirs(place)
-    told = planned(options, host.record(place), place)
+    records = host.record(place)
+    for at_once in options.at_once:
+        for kind, more in (("stay", []), ("fluid", ["--fluid"])):
+            words_of_tool = ["--at-once", str(at_once), *more]
+            path = os.path.join(place, f"{kind}{at_once}.json")
+            told, apart = host.evacuate_by_tool(records, words_of_tool, path)
+            show_told(number, f"{kind}: {at_once} at once", told)
+            differ += apart
+    if options.at_once:
+        return differ
+    told = planned(options, records, place)
     for kind, schedule in schedules_of(told):
         moves, seconds = host.evacuate(schedule, costs_at(told, schedule["at_once"]))
         show(number, kind, schedule, moves, seconds)
@@ -229,6 +290,8 @@ def options_of(given):
     add("--downtime", type=words.seconds, default=0.3, metavar="TIME", help="limit of each guest (300ms)")
     add("--for", type=words.seconds, dest="length", default=60.0, metavar="TIME", help="how long to record (60s)")
     add("--patience", type=words.seconds, default=180.0, metavar="TIME", help="with one migration (180s)")
+    add("--at-once", type=numbers, default=(), metavar="K", help="move by tools/evacuate --run; several with commas")
+    add("--accelerator", choices=("tcg", "kvm"), default="tcg", help="of QEMU (tcg)")
     add("--keep", metavar="DIR", help="where records and plans stay")
     add("-n", dest="runs", type=words.count, default=3, metavar="RUNS", help="3 if none is given")
     options = parser.parse_args(given)

@@ -1,12 +1,13 @@
 """Measures how often a verdict that `precopy-view predict` tells of a sample is that of all pages.
 
-    bench/verdicts [--traces DIR] [--samples N] [--sampled M] [--program PATH] [NAME..]
+    bench/verdicts [--traces DIR] [--samples N] [--sampled M] [--clark] [--program PATH] [NAME..]
 
-For each trace it finds the link at which the plan of all pages turns: the last at which it converges, going down by
-hundredths from four times what the guest writes. Over links of 0.7 to 1.3 times that it draws M pages many times and
-asks what `converges` is. A line for each link has how many answers are yes, no, uncertain and unknown, and how many
-are wrong: a yes where the plan of all pages does not converge within the trace, or a no where it does. The limit of the
-downtime is what a twentieth of the guest's pages take.
+Plans are those of precopy-view, by a hypervisor's looks or with --clark by Clark's rounds. For each trace it finds the
+link at which the plan of all pages turns: the last at which it converges, going down by hundredths from four times what
+the guest writes. Over links of 0.7 to 1.3 times that it draws M pages many times and asks what `converges` is. A line
+for each link has how many answers are yes, no, uncertain and unknown, and how many are wrong: a yes where the plan of
+all pages does not converge within the trace, or a no where it does. The limit of the downtime is what a twentieth of
+the guest's pages take.
 
 The status is 0 if at most 2 per cent of the answers yes and no are wrong, and at most a third of those outside 0.9 to
 1.1 are uncertain. It makes missing traces by `workloads`; a NAME that is a path is taken as it is.
@@ -61,59 +62,65 @@ def trace_of(guest: list[list[int]]) -> bytes:
     return header + b"".join(RECORD.pack(tick, page, 0, 1) + b"\1" for tick, page in touches)
 
 
-def asked(program: str, trace: bytes, link: int, downtime: int, sampled: int, pages: int) -> dict:
-    """The JSON document of `predict` for a link in bytes a second and a downtime in microseconds."""
-    limits = ["--link", f"{link // 1000}.{link % 1000:03}KB", "--downtime", f"{downtime}us"]
-    words = [program, "json", "predict", *limits, "--sampled", f"{sampled}/{pages}"]
-    done = subprocess.run(words, input=trace, stdout=subprocess.PIPE, check=False)
-    return json.loads(done.stdout)
-
-
 def downtime(pages: int, link: int) -> int:
     """How long a twentieth of the pages takes, in microseconds."""
     return pages * PAGE * 1_000_000 // (20 * link)
 
 
-def settings(pages: int, link: int) -> redrawn.Settings:
-    rate = link // PAGE
-    return redrawn.Settings(rate, rate, 0, rate * (downtime(pages, link) // 1000) // 1000 + 1, 30)
+class Asker(NamedTuple):
+    """What answers: precopy-view, with the words of the plan."""
+
+    program: str
+    plan: list[str]
+
+    def told(self, trace: bytes, link: int, sampled: int, pages: int) -> dict:
+        """The JSON document of `predict` for a link in bytes a second."""
+        limits = ["--link", f"{link // 1000}.{link % 1000:03}KB", "--downtime", f"{downtime(pages, link)}us"]
+        words = [self.program, "json", "predict", *limits, "--sampled", f"{sampled}/{pages}", *self.plan]
+        done = subprocess.run(words, input=trace, stdout=subprocess.PIPE, check=False)
+        return json.loads(done.stdout)
+
+    def whole_answer(self, trace: bytes, link: int, pages: int) -> str:
+        """Whether the plan of all pages converges, by itself."""
+        migration = self.told(trace, link, pages, pages).get("migration")
+        if migration is None:
+            return "unknown"
+        return "yes" if migration["why"] == "few" else "no"
 
 
-def whole_answer(guest: list[list[int]], link: int) -> str:
-    """Whether the plan of all pages converges."""
-    plan = redrawn.planned(guest, settings(len(guest), link))
-    if plan.stop > max(ticks[-1] for ticks in guest if ticks):
-        return "unknown"
-    return "yes" if plan.reason == "few" else "no"
-
-
-def turn_of(guest: list[list[int]], rate: float) -> int:
+def turn_of(asker: Asker, guest: list[list[int]], rate: float) -> int:
     """The last link at which the plan converges, going down."""
-    link = int(4 * rate)
-    while whole_answer(guest, link * 99 // 100) == "yes":
+    trace, link = trace_of(guest), int(4 * rate)
+    while asker.whole_answer(trace, link * 99 // 100, len(guest)) == "yes":
         link = link * 99 // 100
     return link
 
 
-def case_of(path: str, sampled: int) -> Case:
+def case_of(asker: Asker, path: str, sampled: int) -> Case:
     """A guest whose ticks are made longer until a sample's rates are no less than a least one."""
     trace, records = read_file(path)
     guest = redrawn.by_page(trace.pages, [record[:2] for record in records])
     writes = sum(map(len, guest)) / max(ticks[-1] for ticks in guest if ticks)
     factor = int(LEAST_RATE / (700 * writes * sampled / len(guest))) + 1
     guest = [[tick // factor for tick in ticks] for ticks in guest]
-    return Case(os.path.basename(path).partition(".")[0], guest, turn_of(guest, writes * factor * 1000 * PAGE))
+    turn = turn_of(asker, guest, writes * factor * 1000 * PAGE)
+    return Case(os.path.basename(path).partition(".")[0], guest, turn)
 
 
-def answers(job: tuple[Case, str, int, int]) -> list[str]:
+def truths_of(asker: Asker, case: Case) -> list[str]:
+    """The answers of all pages, at each share of the link."""
+    trace = trace_of(case.guest)
+    return [asker.whole_answer(trace, int(case.turn * share), len(case.guest)) for share in SHARES]
+
+
+def answers(job: tuple[Case, Asker, int, int]) -> list[str]:
     """What is told of one sample, at each share of the link."""
-    case, program, sampled, seed = job
+    case, asker, sampled, seed = job
     pages = len(case.guest)
     drawn = sorted(random.Random(f"{seed} {case.name}").sample(range(pages), sampled))
     trace, found = trace_of([case.guest[page] for page in drawn]), []
     for share in SHARES:
-        link = int(case.turn * share)
-        found.append(asked(program, trace, link, downtime(pages, link), sampled, pages)["converges"])
+        found.append(asker.told(trace, int(case.turn * share), sampled, pages)["converges"])
     return found
 
 
@@ -136,19 +143,22 @@ def is_near(share: float) -> bool:
 def main() -> int:
     parser = sampling_parser("verdicts", __doc__, NAMES, "samples", ", or paths")
     parser.add_argument("--program", default=PROGRAM, metavar="PATH", help="the built precopy-view")
+    parser.add_argument("--clark", action="store_true", help="plan by Clark's rounds, in place of a hypervisor's looks")
     options = parser.parse_args()
+    asker = Asker(options.program, ["--clark"] * options.clark)
     traces = made([name for name in options.names if os.sep not in name], options.traces)
-    print(f"{options.samples} samples of {options.sampled} pages; links are shares of that at which the plan turns")
+    plan = "Clark's rounds" if options.clark else "looks"
+    about = f"{options.samples} samples of {options.sampled} pages, by {plan}"
+    print(f"{about}; links are shares of that at which the plan turns")
     print(
         f"{'trace':12}{'link':>6} {'all pages':>10}" + "".join(f"{answer:>11}" for answer in ANSWERS) + f"{'wrong':>8}"
     )
     sure, wrong, far, uncertain = 0, 0, 0, 0
     with multiprocessing.Pool(2) as pool:
         for name in options.names:
-            case = case_of(name if os.sep in name else traces[name].path, options.sampled)
-            jobs = [(case, options.program, options.sampled, seed) for seed in range(options.samples)]
-            truths = [whole_answer(case.guest, int(case.turn * share)) for share in SHARES]
-            for share, it in zip(SHARES, told(truths, pool.map(answers, jobs))):
+            case = case_of(asker, name if os.sep in name else traces[name].path, options.sampled)
+            jobs = [(case, asker, options.sampled, seed) for seed in range(options.samples)]
+            for share, it in zip(SHARES, told(truths_of(asker, case), pool.map(answers, jobs))):
                 counts = "".join(f"{it.answers[answer]:11}" for answer in ANSWERS)
                 print(f"{case.name:12}{share:6.2f} {it.truth:>10}{counts}{it.wrong:8}", flush=True)
                 sure, wrong = sure + it.answers["yes"] + it.answers["no"], wrong + it.wrong

@@ -67,11 +67,16 @@ def shares(word: str) -> tuple[float, float]:
     return low, high
 
 
+def whole_rate(bandwidth: float) -> int:
+    """So many bytes a second; if they are not whole, to the nearest Kbit."""
+    return round(bandwidth / 125) * 125 if bandwidth % 1 else int(bandwidth)
+
+
 def given_rate(bandwidth: float) -> str:
     """A word that `rate` takes for so many bytes a second; if they are not whole, to the nearest Kbit."""
+    size = whole_rate(bandwidth)
     if bandwidth % 1:
-        return f"{bandwidth / 125:.0f}Kbit"
-    size = int(bandwidth)
+        return f"{size // 125}Kbit"
     return f"{size >> 20}MiB" if size % (1 << 20) == 0 else f"{size // 1_000}.{size % 1_000:03}KB"
 
 

@@ -19,10 +19,10 @@ export const ROUND = {
 };
 
 export const QUESTION = {
-  size: 112,
+  size: 120,
   wide: ["link", "first", "downtime", "reserve", "tick", "page", "sampled", "guest", "increment", "rounds", "start",
     "base"],
-  narrow: ["hasFirst", "hasIncrement", "hasBase", "skip"],
+  narrow: ["hasFirst", "hasIncrement", "hasBase", "skip", "clark"],
 };
 
 export const ANSWER = {

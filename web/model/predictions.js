@@ -146,9 +146,9 @@ function optionsOf(settings) {
   return `--rounds ${settings.rounds} --start ${settings.start}${baseWords(settings)}${settings.skip ? " --skip" : ""}`;
 }
 
-/** The limits of a state as options of `precopy-view`. */
+/** The limits of a state as options of `precopy-view`, which plans by Clark's rounds as this page does. */
 function limitWords(state, sizes, { limits, settings, scale }) {
-  const words = [`--link ${commandWord(state.link, RATE_UNITS)}`];
+  const words = [`--clark --link ${commandWord(state.link, RATE_UNITS)}`];
   if (state.first !== 100) {
     words.push(`--first ${limits.first / RATE_UNITS.Kbit}Kbit`);
   }

@@ -23,10 +23,10 @@ function read(view, at, { wide, narrow }) {
   return Object.fromEntries([...words, ...flags]);
 }
 
-/** Writes a question. A first round, an increment or a base of null is not given. */
+/** Writes a question, which goes by Clark's rounds. A first round, an increment or a base of null is not given. */
 export function writeQuestion(view, at, question) {
   const { first, increment, base } = question;
-  const given = { hasFirst: first !== null, hasIncrement: increment !== null, hasBase: base !== null };
+  const given = { hasFirst: first !== null, hasIncrement: increment !== null, hasBase: base !== null, clark: true };
   write(view, at, QUESTION, { ...question, ...given });
 }
 

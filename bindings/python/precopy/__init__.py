@@ -1,4 +1,4 @@
-"""Plans of pre-copy live migrations, memory of recorded guests, and frames of pages: the library libprecopy.so.3.
+"""Plans of pre-copy live migrations, memory of recorded guests, and frames of pages: the library libprecopy.so.4.
 
     import precopy
 

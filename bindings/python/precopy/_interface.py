@@ -3,7 +3,7 @@
 from ctypes import POINTER, Structure, c_size_t, c_uint32, c_uint64, c_void_p
 from enum import IntEnum
 
-ABI, TEXT_BOUND = 3, 320
+ABI, TEXT_BOUND = 4, 320
 REPORT_BOUND = (72, 11, 128, 67)
 
 
@@ -102,7 +102,7 @@ class Question(Structure):
         *_of(c_uint64, "size", "link", "first", "downtime", "reserve", "tick"),
         *_of(c_uint64, "page", "sampled", "guest", "increment", "rounds", "start"),
         *_of(c_uint64, "base"),
-        *_of(c_uint32, "has_first", "has_increment", "has_base", "skip"),
+        *_of(c_uint32, "has_first", "has_increment", "has_base", "skip", "clark"),
     ]
 
 

@@ -14,11 +14,16 @@ from ._refusals import Bytes, check_over
 
 
 class Reason(enum.IntEnum):
-    """Why pre-copying ends."""
+    """Why pre-copying ends. A plan of rounds ends for one of the first three. One of looks ends since few pages are
+    left, since 2,000 looks are done, or since the trace ends first: while the lists of pages get shorter (`CUT`), or
+    not (`LEVEL`)."""
 
     FEW = 0
     FAST = 1
     ROUNDS = 2
+    LOOKS = 3
+    CUT = 4
+    LEVEL = 5
 
 
 class Verdict(enum.IntEnum):
@@ -33,10 +38,11 @@ class Verdict(enum.IntEnum):
 
 @dataclass(frozen=True)
 class Question:
-    """What is asked of a migration: how much it may take, what ticks and pages of the trace stand for, and where it
-    begins. Rates are in bytes a second, times in microseconds. `page` is the bytes of a page, and `sampled` of the
-    `guest`'s pages were recorded; if all were, any equal numbers do. Without `first` the first round uses the whole
-    link, without `increment` a tenth of what the link has above it is added to a rate."""
+    """What is asked of a migration: how much it may take, what ticks and pages of the trace stand for, where it begins,
+    and by whose plan it goes: by a hypervisor's looks, or with `clark` by Clark's rounds. Rates are in bytes a second,
+    times in microseconds. `page` is the bytes of a page, and `sampled` of the `guest`'s pages were recorded; if all
+    were, any equal numbers do. `first`, `increment`, `rounds` and `skip` are of rounds alone. Without `first` the first
+    round uses the whole link, without `increment` a tenth of what the link has above it is added to a rate."""
 
     link: int
     downtime: int
@@ -51,18 +57,19 @@ class Question:
     start: int = 0
     base: Optional[int] = None
     skip: bool = False
+    clark: bool = False
 
     def __post_init__(self) -> None:
         self._as_c()
 
     def _as_c(self) -> _interface.Question:
-        asked = _interface.Question(size=ctypes.sizeof(_interface.Question), skip=_number("skip", self.skip, 1))
-        for name in (it.name for it in fields(self) if it.name != "skip"):
+        asked, flags = _interface.Question(size=ctypes.sizeof(_interface.Question)), ("skip", "clark")
+        for name in (it.name for it in fields(self)):
             value = getattr(self, name)
             if name in ("first", "increment", "base"):
                 setattr(asked, f"has_{name}", value is not None)
                 value = 0 if value is None else value
-            setattr(asked, name, _number(name, value, 64))
+            setattr(asked, name, _number(name, value, 1 if name in flags else 64))
         return asked
 
 
@@ -81,9 +88,10 @@ def _errors(found: _interface.Errors) -> Optional[Errors]:
 
 @dataclass(frozen=True)
 class Prediction:
-    """What a migration will be: the sums of its plan in ticks and pages of the trace, `left` pages after the stop, and
-    times in microseconds. If the verdicts are unknown, only `recorded` tells something: how long the trace goes on
-    after the start. There are `errors` if a part of the guest's pages was sampled, of two pages or more."""
+    """What a migration will be: the sums of its plan in ticks and pages of the trace, with so many `rounds` or looks,
+    and `left` pages after the stop, and times in microseconds. If the verdicts are unknown, only `recorded` tells
+    something: how long the trace goes on after the start. There are `errors` if a part of the guest's pages was
+    sampled, of two pages or more."""
 
     rounds: int
     reason: Reason
@@ -213,7 +221,7 @@ def link_shares(trace: Bytes, question: Question) -> LinkShares:
 @dataclass(frozen=True)
 class BestStart:
     """The best start of a migration, and what it costs from there, with times in microseconds. It is likely to keep its
-    limit if the downtime and two standard errors are within it; there are `errors` as of a prediction."""
+    limit if it keeps it, and by rounds with two standard errors; there are `errors` as of a prediction."""
 
     start: int
     rounds: int

@@ -205,7 +205,9 @@ fn print_plan(trace: &[u8], settings: &Settings) -> Result<(), Refused> {
     let memory = precopy::memory_before(trace, sums.stop)?;
     println!("before {}", hex(&memory));
     print_findings(trace, precopy::writes_before(trace, sums.stop)?, &memory)?;
-    print_prediction(trace, &question(&sizes, settings))
+    let asked = question(&sizes, settings);
+    print_prediction(trace, &asked)?;
+    print_prediction(trace, &Question { clark: true, ..asked })
 }
 
 fn main() -> Result<(), Box<dyn Error>> {

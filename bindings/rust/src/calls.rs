@@ -61,6 +61,7 @@ pub struct Question {
     pub has_increment: u32,
     pub has_base: u32,
     pub skip: u32,
+    pub clark: u32,
 }
 
 #[repr(C)]

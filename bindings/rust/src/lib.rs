@@ -44,7 +44,7 @@ pub fn version() -> &'static str {
 }
 
 /// The number of the interface that this crate was written for.
-pub const ABI: u32 = 3;
+pub const ABI: u32 = 4;
 
 /// Returns the number of the library's interface. If it is not [`ABI`], call nothing else.
 pub fn abi() -> u32 {
@@ -179,15 +179,21 @@ impl Settings {
     }
 }
 
-/// Why pre-copying ends.
+/// Why pre-copying ends. A plan of rounds ends for one of the first three; the others are of predictions by looks.
 #[derive(Clone, Copy, Debug, PartialEq, Eq)]
 pub enum Reason {
-    /// Fewer pages than the threshold were dirtied.
+    /// Few pages are left: by rounds, fewer than the threshold were dirtied.
     Few,
     /// The next rate would be above the greatest.
     Fast,
     /// All requested rounds are done.
     Rounds,
+    /// 2,000 looks are done.
+    Looks,
+    /// The trace ends first, while the lists of pages get shorter.
+    Cut,
+    /// The trace ends first, and the lists of pages do not get shorter.
+    Level,
 }
 
 impl Reason {
@@ -195,7 +201,10 @@ impl Reason {
         match number {
             0 => Reason::Few,
             1 => Reason::Fast,
-            _ => Reason::Rounds,
+            2 => Reason::Rounds,
+            3 => Reason::Looks,
+            4 => Reason::Cut,
+            _ => Reason::Level,
         }
     }
 }

@@ -3,9 +3,10 @@
 use crate::refusals::{checked, with_record, Refused, NO_RECORD};
 use crate::{calls, Reason};
 
-/// What is asked of a migration: how much it may take, what ticks and pages of the trace stand for, and where it
-/// begins. Rates are in bytes a second, times in microseconds. The default is what `precopy-view predict` asks if no
-/// option is given, with pages of 4,096 bytes, of which all were recorded; its link and its downtime are 0.
+/// What is asked of a migration: how much it may take, what ticks and pages of the trace stand for, where it begins,
+/// and by whose plan it goes. Rates are in bytes a second, times in microseconds. `first`, `increment`, `rounds` and
+/// `skip` are of Clark's rounds alone. The default is what `precopy-view predict` asks if no option is given, with
+/// pages of 4,096 bytes, of which all were recorded; its link and its downtime are 0.
 #[derive(Clone, Copy, Debug, PartialEq, Eq)]
 pub struct Question {
     /// What the migration may use of the link.
@@ -29,12 +30,14 @@ pub struct Question {
     pub increment: Option<u64>,
     /// The most rounds.
     pub rounds: u64,
-    /// The tick at which the first round begins.
+    /// The tick at which it begins.
     pub start: u64,
     /// The destination begins with the memory before this tick, if there is one.
     pub base: Option<u64>,
     /// Whether a round leaves out pages that are written again before they are sent.
     pub skip: bool,
+    /// Whether it goes by Clark's rounds, and not by a hypervisor's looks.
+    pub clark: bool,
 }
 
 impl Default for Question {
@@ -53,6 +56,7 @@ impl Default for Question {
             start: 0,
             base: None,
             skip: false,
+            clark: false,
         }
     }
 }
@@ -77,6 +81,7 @@ impl Question {
             has_increment: self.increment.is_some().into(),
             has_base: self.base.is_some().into(),
             skip: self.skip.into(),
+            clark: self.clark.into(),
         }
     }
 }
@@ -129,7 +134,7 @@ impl Errors {
 /// What a migration will be. If the verdicts are unknown, only `recorded` tells something.
 #[derive(Clone, Copy, Debug, PartialEq, Eq)]
 pub struct Prediction {
-    /// How many rounds there are.
+    /// How many rounds or looks there are.
     pub rounds: u64,
     /// Why they end.
     pub reason: Reason,
@@ -137,11 +142,11 @@ pub struct Prediction {
     pub stop: u64,
     /// How long the pages that are left take, in ticks.
     pub down: u64,
-    /// The pages of the trace that are sent, over all rounds and after the stop.
+    /// The pages of the trace that are sent, before the stop and after it.
     pub total: u64,
     /// How many of them are sent after the stop.
     pub left: u64,
-    /// From the start of the first round until the guest runs again, in microseconds.
+    /// From the start until the guest runs again, in microseconds.
     pub time: u64,
     /// How many bytes of the guest are sent.
     pub bytes: u64,
@@ -149,9 +154,9 @@ pub struct Prediction {
     pub downtime: u64,
     /// How long the trace goes on after the start, in microseconds.
     pub recorded: u64,
-    /// Whether rounds end since few pages are left.
+    /// Whether it ends since few pages are left.
     pub converges: Verdict,
-    /// Whether the downtime is within its limit.
+    /// Whether the guest is stopped, and for no longer than the limit.
     pub kept: Verdict,
     /// Standard errors, if a part of the guest's pages was sampled, of two pages or more.
     pub errors: Option<Errors>,
@@ -408,7 +413,7 @@ impl Starts {
 pub struct BestStart {
     /// Its tick.
     pub start: u64,
-    /// How many rounds there are.
+    /// How many rounds or looks there are.
     pub rounds: u64,
     /// From the start until the guest runs again, in microseconds.
     pub time: u64,
@@ -418,7 +423,7 @@ pub struct BestStart {
     pub downtime: u64,
     /// Whether the downtime is within its limit.
     pub kept: Verdict,
-    /// Whether the downtime and two standard errors of it are.
+    /// Whether it is, and by rounds with two standard errors more.
     pub is_likely: bool,
     /// Standard errors, if a part of the guest's pages was sampled, of two pages or more.
     pub errors: Option<Errors>,

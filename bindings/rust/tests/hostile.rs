@@ -103,6 +103,7 @@ fn questions() {
             start: drawn(),
             base: (drawn() > 1000).then(&mut drawn),
             skip: drawn() > 1000,
+            clark: drawn() > 1000,
         };
         let predicted = precopy::predict(&trace, &question);
         let enough = precopy::enough(&trace, &question);

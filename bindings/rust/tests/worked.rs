@@ -89,7 +89,7 @@ fn sweeps() {
     assert_eq!(precopy::sweep(&TRACE, &[]).unwrap().sums, []);
 }
 
-/// Rounds of 2 and 4 pages per 1,000 ticks, over a guest of 8 pages, half of which were recorded.
+/// Clark's rounds of 2 and 4 pages per 1,000 ticks, over a guest of 8 pages, half of which were recorded.
 fn half() -> Question {
     Question {
         link: 128,
@@ -101,8 +101,31 @@ fn half() -> Question {
         guest: 8,
         increment: Some(1),
         rounds: 8,
+        clark: true,
         ..Question::default()
     }
+}
+
+#[test]
+fn looks() {
+    let asked = Question { clark: false, ..half() };
+    let told = precopy::predict(&TRACE, &asked).unwrap();
+    let plan = sums(told.rounds, told.reason, told.stop, told.down, told.total);
+    assert_eq!((plan, told.left), (sums(2, Reason::Few, 1000, 500, 6), 2));
+    assert_eq!((told.time, told.bytes, told.downtime), (1_600_000, 192, 600_000));
+    assert_eq!((told.converges, told.kept), (Verdict::Yes, Verdict::Yes));
+    let best = precopy::best_start(&TRACE, &asked, &Starts::default())
+        .unwrap()
+        .unwrap();
+    assert_eq!(
+        (best.start, best.rounds, best.bytes, best.is_likely),
+        (13, 1, 128, true)
+    );
+    let late = precopy::predict(&TRACE, &Question { start: 2400, ..asked }).unwrap();
+    assert_eq!(
+        (late.rounds, late.reason, late.kept),
+        (0, Reason::Cut, Verdict::Unknown)
+    );
 }
 
 #[test]

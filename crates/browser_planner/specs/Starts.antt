@@ -1,5 +1,6 @@
 -- Which of several answers is the best, and which the worst: those of the same question from several starts.
-use Rattle.std.specs.Prelude.{◌≡◌, ℕ, ◌==◌, not, if◌then◌else◌, Bool, List, [], ◌∷◌, length, Option, None, Some}
+use Rattle.std.specs.Prelude.{◌≡◌, ℕ, ◌==◌, not, if◌then◌else◌, Bool, false, List, [], ◌∷◌, length, Option, None}
+use Rattle.std.specs.Prelude.{Some}
 use Rattle.std.specs.List.{IsFirstBest, count_by}
 use Rattle.predictions.specs.Redrawn.Errors.{SampleErrors}
 use Rattle.predictions.specs.Starts.Choices.{is_better_known, is_worse_known}
@@ -10,7 +11,7 @@ use Rattle.predictions.specs.declared.answer.ErrorNumbers.{ErrorNumbers}
 use Rattle.browser_planner.specs.declared.starts.LentChoice.{LentChoice}
 use Rattle.browser_planner.specs.declared.starts.LentStart.{LentStart}
 
--- what a migration costs by an answer: its limit is kept, or not, or nothing is known
+-- what a migration costs by an answer of Clark's rounds: its limit is kept, or not, or nothing is known
 abbrev pub cost_in : Answer → MigrationCost
 cost_in a = record {
   steps = a.rounds;
@@ -18,6 +19,7 @@ cost_in a = record {
   bytes = a.bytes;
   downtime = a.downtime;
   is_kept = a.kept == 0;
+  is_bounded = false;
   is_late = a.kept == 2;
 }
 

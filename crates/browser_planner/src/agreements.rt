@@ -1,18 +1,19 @@
 //! How sure an answer is: in how many draws of a sample, and from how many starts, it is the same.
 
 // `IsAgreement` holds of one value alone: `one_agreement`.
-// `IsPlan` holds of one value alone: `one_plan`.
+// `IsPrediction` holds of one value alone: `one_prediction`.
 // `Spells` holds of one value alone: `one_trace`.
 
 ghost use Rattle.std.specs.Prelude.{◌≡◌, ◌≢◌, ◌≤◌, ◌↔◌, IfErr, IfOk, IsOk, IsTrue, OnErr, length};
 ghost use Rattle.migration_model.specs.Touches.{last_tick_of};
 ghost use Rattle.migration_model.specs.Trace.{GuestTrace, Spells};
 ghost use Rattle.predictions.specs.Agreements.{AreDrawCounts, AreStartCounts};
+ghost use Rattle.predictions.specs.Predictions.Traces.{IsPrediction};
 ghost use Rattle.predictions.specs.Predictions.{prediction_with};
 ghost use Rattle.predictions.specs.Questions.{AcceptsQuestion, Fits, scale_in, terms_of};
 ghost use Rattle.predictions.specs.Redrawn.Errors.{AreErrors};
 ghost use Rattle.predictions.specs.declared.course.Manner.TheVariants as manners;
-ghost use Rattle.browser_planner.specs.Agreements.{HasRoomToAgree, IsAgreementFor, IsPredicted};
+ghost use Rattle.browser_planner.specs.Agreements.{HasRoomToAgree, IsAgreementFor};
 ghost use Rattle.browser_planner.specs.Answers.{IsNumberOf};
 ghost use Rattle.browser_planner.specs.Plans.{room_of};
 ghost use Rattle.browser_planner.specs.Predictions.{OfTrace, RefusesAsked};
@@ -124,6 +125,7 @@ fn prediction_of(log: &LentLog<'_>, terms: &Terms, outcome: &Outcome, left: u64)
         scale,
         limits,
         settings,
+        ..
     } = terms;
     let start = settings.asked().start;
     Prediction::of_outcome(scale, limits, start, outcome, left, last_tick(log))
@@ -140,7 +142,8 @@ fn prediction_over(
     requires marks { 3_072 ≤ length marks.old }
     requires list { 131_072 ≤ length list.old }
     requires rounds { 64 ≤ length rounds.old }
-    ensures { IsPredicted log.now.pages log.now.touches terms.now result }
+    ensures { IsPrediction manners.Rounds log.now.pages log.now.touches terms.now.scale terms.now.limits
+        terms.now.settings result }
 {
     let pages = log.page_count() as usize;
     let _in_range = terms.settings.asked();

@@ -64,6 +64,7 @@ fn forecast_in(
         scale,
         limits,
         settings,
+        ..
     } = terms;
     LookForecast::over(&log, settings, scale, limits, marks, list)
 }

@@ -27,6 +27,7 @@ pub(crate) const ASKED: Question = Question {
     has_increment: 0,
     has_base: 0,
     skip: 0,
+    clark: 1,
 };
 
 const UNANSWERED: Answer = Answer {

@@ -36,7 +36,7 @@ pub struct LentChoice {
     pub worst: u64,
 }
 
-/// Returns what a migration costs by an answer.
+/// Returns what a migration costs by an answer of Clark's rounds.
 fn cost_of(answer: &Answer) -> Cost
     ensures { result ≡ cost_in answer.now }
 {
@@ -46,6 +46,7 @@ fn cost_of(answer: &Answer) -> Cost
         bytes: answer.bytes as u128,
         downtime: answer.downtime as u128,
         is_kept: answer.kept == 0,
+        is_bounded: false,
         is_late: answer.kept == UNKNOWN,
     }
 }

@@ -3,7 +3,7 @@ use Rattle.std.specs.Prelude.{ℕ, List}
 use Rattle.c_layout.specs.Agreements.{IsAgreementOver}
 use Rattle.migration_model.specs.Touches.{touches_in}
 use Rattle.migration_model.specs.Trace.{GuestTrace, Spells}
-use Rattle.predictions.specs.Questions.{Fits, scale_in, terms_of}
+use Rattle.predictions.specs.Questions.{Fits, manner_in, scale_in, terms_of}
 use Rattle.predictions.specs.declared.agreement.numbers.AgreementNumbers.{AgreementNumbers}
 use Rattle.predictions.specs.declared.question.Question.{Question}
 
@@ -13,4 +13,4 @@ pub record IsAgreementOf (bytes : List ℕ) (q : Question) (numbers : AgreementN
   pub trace : GuestTrace
   pub spells : Spells bytes trace
   pub fits : Fits (scale_in q) trace.shift trace.pages
-  pub agrees : IsAgreementOver (terms_of q) (touches_in trace) numbers
+  pub agrees : IsAgreementOver (manner_in q) (terms_of q) (touches_in trace) numbers

@@ -1,20 +1,16 @@
 -- What C sees of predictions, and why there is none.
 use Rattle.std.specs.Prelude.{◌≡◌, ◌≢◌, ℕ, List, Option}
 use Rattle.c_layout.specs.Refusals.{number_of_misfit, number_of_trace, number_of_units, record_after}
-use Rattle.migration_model.specs.Rounds.{IsPlan, MigrationPlan}
-use Rattle.migration_model.specs.Sweeps.{outcome_of}
-use Rattle.migration_model.specs.Touches.{GuestTouches, touches_in, last_tick_of}
+use Rattle.migration_model.specs.Touches.{GuestTouches, touches_in, touches_of}
 use Rattle.migration_model.specs.Trace.{GuestTrace, Spells}
-use Rattle.predictions.specs.Courses.Ends.{course_of_rounds}
-use Rattle.predictions.specs.Predictions.{prediction_of}
-use Rattle.predictions.specs.Questions.{AcceptsQuestion, Fits, IsMisfit, RefusesQuestion, answer_of, error_numbers}
-use Rattle.predictions.specs.Questions.{scale_in, terms_of}
+use Rattle.predictions.specs.Questions.{AcceptsQuestion, Fits, IsMisfit, RefusesQuestion, error_numbers, scale_in}
+use Rattle.predictions.specs.Questions.{terms_of}
+use Rattle.predictions.specs.Questions.Answers.{IsAnswer}
 use Rattle.predictions.specs.declared.answer.Answer.{Answer}
 use Rattle.predictions.specs.declared.answer.ErrorNumbers.{ErrorNumbers}
 use Rattle.predictions.specs.declared.question.Question.{Question}
 use Rattle.predictions.specs.declared.question.Terms.{Terms}
 use Rattle.predictions.specs.Redrawn.Errors.{AreErrors, SampleErrors}
-use Rattle.predictions.specs.declared.course.Manner.TheVariants as manners
 use Rattle.trace_codec.specs.Refusals.{RefusesUnlessMemory}
 use Rattle.c_answers.specs.declared.inquiries.Inquiry.{Inquiry}
 use Rattle.c_answers.specs.declared.questions.QuestionRefusal.{QuestionRefusal}
@@ -42,7 +38,7 @@ IsToldOf number old new Holds = (refusal : QuestionRefusal) × (number ≡ numbe
 
 -- the struct is as long as this library knows it, and the question is not refused
 abbrev pub IsAsked : SizedQuestion → Type 0
-IsAsked asked = (asked.size ≡ 120) × AcceptsQuestion asked.question
+IsAsked asked = (asked.size ≡ 128) × AcceptsQuestion asked.question
 
 -- a question that may be asked, what it comes to, and the touches of the trace that these bytes encode, which has the
 -- question's scale
@@ -54,32 +50,25 @@ pub record IsInquiry (bytes : List ℕ) (asked : SizedQuestion) (inquiry : Inqui
   pub terms_are : inquiry.terms ≡ terms_of asked.question
   pub log_is : inquiry.log ≡ touches_in trace
 
--- the answer to a question over a log of touches, by its plan
-pub record IsAnswerOver (terms : Terms) (log : GuestTouches) (answer : Answer) : Type 0 where
-  pub plan : MigrationPlan
-  pub is_plan : IsPlan log.pages log.touches terms.settings plan
-  pub answer_is : answer ≡ answer_of (course_of_rounds (outcome_of plan))
-      (prediction_of terms.scale terms.limits terms.settings.start plan (last_tick_of log.touches))
-
--- the standard errors of what that plan predicts, if there are any
+-- the standard errors of the answer to a question over a log of touches, if there are any
 pub record AreNumbersOver (terms : Terms) (log : GuestTouches) (numbers : ErrorNumbers) : Type 0 where
   pub errors : Option SampleErrors
-  pub are_errors : AreErrors manners.Rounds log.pages log.touches terms.settings terms.scale errors
+  pub are_errors : AreErrors terms.manner log.pages log.touches terms.settings terms.scale errors
   pub numbers_are : numbers ≡ error_numbers errors
 
--- both, over the trace that these bytes encode, which has the question's scale
+-- the answer and its standard errors, over the trace that these bytes encode, which has the question's scale
 pub record IsPredictionOf (bytes : List ℕ) (q : Question) (answer : Answer) (numbers : ErrorNumbers) : Type 0 where
   pub trace : GuestTrace
   pub spells : Spells bytes trace
   pub fits : Fits (scale_in q) trace.shift trace.pages
-  pub answered : IsAnswerOver (terms_of q) (touches_in trace) answer
+  pub answered : IsAnswer (terms_of q) trace.pages (touches_of trace) answer
   pub numbered : AreNumbersOver (terms_of q) (touches_in trace) numbers
 
 -- There is no answer: the struct is longer or shorter, or else the question is refused, or else the bytes, or else the
 -- trace since it does not have the scale; or memory ran out.
 abbrev pub RefusesPrediction : List ℕ → SizedQuestion → QuestionRefusal → Type 0
-RefusesPrediction bytes asked refusals.Size = asked.size ≢ 120
-RefusesPrediction bytes asked (refusals.Units e) = (asked.size ≡ 120) × RefusesQuestion asked.question e
+RefusesPrediction bytes asked refusals.Size = asked.size ≢ 128
+RefusesPrediction bytes asked (refusals.Units e) = (asked.size ≡ 128) × RefusesQuestion asked.question e
 RefusesPrediction bytes asked (refusals.Trace e) = IsAsked asked × RefusesUnlessMemory bytes e
 RefusesPrediction bytes asked (refusals.Misfit e) = IsAsked asked × (trace : GuestTrace) × Spells bytes trace
     × IsMisfit (scale_in asked.question) trace.shift trace.pages e

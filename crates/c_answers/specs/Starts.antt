@@ -1,18 +1,16 @@
 -- What C sees of the best start of a migration, and why there is none.
-use Rattle.std.specs.Prelude.{◌≡◌, ◌≢◌, ◌≤◌, ℕ, List, Option, length, map}
+use Rattle.std.specs.Prelude.{◌≡◌, ◌≢◌, ◌≤◌, ℕ, List, Option, length}
 use Rattle.c_layout.specs.Refusals.{number_of_settings}
 use Rattle.c_layout.specs.Starts.{best_errors, best_numbers}
 use Rattle.c_layout.specs.declared.starts.BestStartNumbers.{BestStartNumbers}
-use Rattle.migration_model.specs.Sweeps.{AreLines, SweepLine}
 use Rattle.migration_model.specs.Touches.{GuestTouches, last_tick_of, touches_in, touches_of}
 use Rattle.migration_model.specs.Trace.{GuestTrace, Spells}
 use Rattle.predictions.specs.Questions.{Fits, error_numbers, given, scale_in, settings_of, terms_of}
-use Rattle.predictions.specs.Starts.Cases.{case_of_line}
+use Rattle.predictions.specs.Starts.Cases.{AreCases}
 use Rattle.predictions.specs.Starts.Choices.{IsBest}
 use Rattle.predictions.specs.Starts.Costs.{CostAtStart}
 use Rattle.predictions.specs.Starts.{AreAccepted, RefusesStarts, cases_from, count_of}
 use Rattle.predictions.specs.declared.answer.ErrorNumbers.{ErrorNumbers}
-use Rattle.predictions.specs.declared.course.Manner.TheVariants as manners
 use Rattle.predictions.specs.declared.question.Question.{Question}
 use Rattle.predictions.specs.declared.question.Terms.{Terms}
 use Rattle.predictions.specs.declared.starts.cases.Starts.{Starts}
@@ -38,14 +36,13 @@ pub record AreTaken (terms : Terms) (starts : Starts) (log : GuestTouches) : Typ
   pub few : count_of starts (last_tick_of log.touches) ≤ 4_096
   pub accepted : AreAccepted terms.settings starts (last_tick_of log.touches)
 
--- this start is the best over a log of touches, by Clark's plans, or there is none since no migration ends within it
+-- this start is the best over a log of touches, or there is none since no migration ends within it
 pub record IsBestOver (terms : Terms) (starts : Starts) (log : GuestTouches) (best : Option CostAtStart) : Type 0 where
   pub taken : AreTaken terms starts log
-  pub lines : List SweepLine
-  pub are_lines : AreLines log.pages log.touches (cases_from terms.settings starts (last_tick_of log.touches)) lines
   pub cases : List PlannedCase
-  pub cases_are : cases ≡ map case_of_line lines
-  pub is_best : IsBest manners.Rounds log.pages log.touches terms.scale terms.limits cases (length cases) best
+  pub are_cases : AreCases terms.manner log.pages log.touches terms.scale
+      (cases_from terms.settings starts (last_tick_of log.touches)) cases
+  pub is_best : IsBest terms.manner log.pages log.touches terms.scale terms.limits cases (length cases) best
 
 -- these numbers tell the best start of a question over the trace that these bytes encode, which has the question's
 -- scale

@@ -1,12 +1,11 @@
 //! How sure a prediction is: in how many draws of a sample, and from how many starts, its answers are the same.
 
+// `IsPrediction` holds of one value alone: `one_prediction`.
 // `IsAgreement` holds of one value alone: `one_agreement`.
 // `RefusesPrediction` holds of one value alone, but for memory: `one_refused_prediction`.
 
 ghost use Rattle.std.specs.Prelude.{◌≡◌, IfErr, IfOk, OnOk};
-ghost use Rattle.migration_model.specs.Touches.{last_tick_of};
 ghost use Rattle.migration_model.specs.Trace.{GuestTrace, Spells};
-ghost use Rattle.predictions.specs.Predictions.{prediction_of};
 ghost use Rattle.predictions.specs.Questions.{Fits, scale_in};
 ghost use Rattle.c_answers.specs.Agreements.{IsAgreementOf};
 ghost use Rattle.c_layout.specs.Agreements.{IsAgreementOver};
@@ -14,44 +13,33 @@ ghost use Rattle.c_answers.specs.Predictions.{IsAsked, RefusesPrediction, number
 
 use crate::inquiries::{Inquiry, inquiry_of};
 use crate::questions::{QuestionRefusal, SizedQuestion};
-use guest_log::last_tick;
 use predictions::agreement::{Agreement, AgreementNumbers};
 use predictions::redrawn::Errors;
-use predictions::{Manner, Measure, Prediction, Terms};
-use round_planner::{Plan, PlanError, plan};
-use std::alloc::Global;
+use predictions::{Measure, Prediction, Terms};
+use std::alloc::{AllocError, Global};
 use trace_readers::TouchLog;
-
-/// Returns what a plan over a log predicts.
-fn prediction_with(terms: &Terms, log: &TouchLog, plan: &Plan) -> Prediction
-    ensures { result ≡ prediction_of terms.now.scale terms.now.limits terms.now.settings.start plan.now
-        (last_tick_of log.now.touches) }
-{
-    let start = terms.settings.asked().start;
-    Prediction::new(&terms.scale, &terms.limits, start, plan, last_tick(log))
-}
 
 /// Returns how sure the answer to a question is over a log.
 fn agreement_over(
     alloc: Global,
     terms: &Terms,
     log: &TouchLog,
-) -> Result<AgreementNumbers, PlanError>
-    ensures { IfOk result (IsAgreementOver terms.now log.now) }
+) -> Result<AgreementNumbers, AllocError>
+    ensures { IfOk result (IsAgreementOver terms.now.manner terms.now log.now) }
 {
     let Terms {
         scale,
         limits,
+        manner,
         settings,
     } = terms;
-    let plan = plan(alloc, log, settings)?;
-    let prediction = prediction_with(terms, log, &plan);
-    let errors = Errors::of_trace(alloc, log, settings, scale, Manner::Rounds)?;
     let measure = Measure {
         scale: *scale,
         limits: *limits,
-        manner: Manner::Rounds,
+        manner: *manner,
     };
+    let prediction = Prediction::of_trace(alloc, log, settings, &measure)?;
+    let errors = Errors::of_trace(alloc, log, settings, scale, *manner)?;
     let agreement = Agreement::of_trace(alloc, log, settings, &measure)?;
     Ok(AgreementNumbers::new(limits.downtime, &agreement, &prediction, &errors))
 }

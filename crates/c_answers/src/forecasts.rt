@@ -26,6 +26,7 @@ fn forecast_over(alloc: Global, terms: &Terms, log: &TouchLog) -> Result<Forecas
         scale,
         limits,
         settings,
+        ..
     } = terms;
     let forecast = LookForecast::of_trace(alloc, log, settings, scale, limits)?;
     Ok(ForecastNumbers::new(&forecast))

@@ -14,7 +14,7 @@ use std::alloc::AllocError;
 use trace_codec::TraceError;
 
 /// How many bytes the struct of a question has.
-pub(crate) const SIZE: u64 = 120;
+pub(crate) const SIZE: u64 = 128;
 
 /// What is asked of a migration: C's `struct precopy_question`.
 #[derive(Clone, Copy)]

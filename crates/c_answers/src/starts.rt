@@ -1,7 +1,7 @@
 //! The best of the starts from which a migration may begin.
 
 // `IsBest` holds of one value alone: `one_best`.
-// `IsPlan` holds of one value alone: `one_plan`.
+// `AreCases` holds of one value alone: `one_list_of_cases`.
 // `Spells` holds of one value alone: `one_trace`.
 
 ghost use Rattle.std.specs.Prelude.{◌≡◌, ◌≤◌, IfErr, IfOk, OnOk};
@@ -20,10 +20,9 @@ use crate::inquiries::{Inquiry, inquiry_of};
 use crate::questions::{QuestionRefusal, SizedQuestion};
 use c_layout::{BestStartNumbers, best_error_numbers, settings_number};
 use guest_log::last_tick;
-use predictions::starts::{StartCost, Starts, StartsError, best_start, cases_of_lines};
-use predictions::{ErrorNumbers, Manner, Measure, Question, Terms};
+use predictions::starts::{StartCost, Starts, StartsError, best_start, cases_by};
+use predictions::{ErrorNumbers, Measure, Question, Terms};
 use std::alloc::Global;
-use sweep_report::sweep_in_turn;
 use trace_readers::TouchLog;
 
 /// How many bytes the struct of starts has.
@@ -148,13 +147,12 @@ fn best_over(
     ensures only { AreTaken terms.now starts.now log.now → IfErr result (λ e. e ≡ NoMemory) }
 {
     let cases = starts.cases(alloc, &terms.settings, last_tick(log))?;
-    let lines = sweep_in_turn(alloc, log, &cases).or(Err(StartsError::Memory))?;
-    let cases = cases_of_lines(alloc, &lines)?;
     let measure = Measure {
         scale: terms.scale,
         limits: terms.limits,
-        manner: Manner::Rounds,
+        manner: terms.manner,
     };
+    let cases = cases_by(alloc, log, &cases, &measure)?;
     Ok(best_start(alloc, log, &measure, &cases)?)
 }
 

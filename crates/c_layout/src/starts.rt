@@ -13,9 +13,9 @@ use predictions::starts::{StartCost, is_likely};
 #[derive(Clone, Copy)]
 #[repr(C)]
 pub struct BestStartNumbers {
-    /// The tick at which the first round begins.
+    /// The tick at which it begins.
     pub start: u64,
-    /// How many rounds there are.
+    /// How many rounds or looks there are.
     pub rounds: u64,
     /// From the start until the guest runs again, in microseconds.
     pub time: u64,

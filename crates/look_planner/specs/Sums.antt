@@ -1,19 +1,20 @@
 -- The sums of a hypervisor's plan.
-use Rattle.std.specs.Prelude.{◌≡◌, ℕ, ◌+◌, ◌-◌, nat_lt, Bool, List, length, take}
-use Rattle.std.specs.List.{list_all}
+use Rattle.std.specs.Prelude.{◌≡◌, ℕ, ◌+◌, ◌-◌, nat_lt, Bool, List, length}
+use Rattle.std.specs.List.{list_all, slice_range}
 use Rattle.migration_model.specs.Looks.{HypervisorSettings}
 use Rattle.migration_model.specs.Touches.{GuestTouch}
+use Rattle.migration_model.specs.Trace.{last_by}
 use Rattle.look_planner.specs.Plans.{AreNumbers, PlanNumbers, end_of, looks_in}
 use Rattle.look_planner.specs.declared.parts.ListRow.{ListRow}
 use Rattle.look_planner.specs.declared.sums.LookSums.{LookSums}
 
--- whether fewer pages are left of a list than it had
-abbrev pub is_shorter : ListRow → Bool
-is_shorter row = nat_lt row.left row.pages
+-- whether a list has more than so many pages
+abbrev pub has_more : ℕ → ListRow → Bool
+has_more pages row = nat_lt pages row.pages
 
--- whether each list is shorter than the one before it, which has the pages that are left of that one
+-- whether each list between the first and the last has more pages than the last
 abbrev pub shortens : List ListRow → Bool
-shortens rows = list_all is_shorter (take (length rows - 1) rows)
+shortens rows = list_all (has_more (last_by (λ row. row.pages) rows)) (slice_range rows 1 (length rows - 1))
 
 -- a plan of these numbers has these sums
 pub record HasSums (numbers : PlanNumbers) (sums : LookSums) : Type 0 where

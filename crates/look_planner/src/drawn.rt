@@ -184,9 +184,9 @@ fn sum_drawn<T: Timeline>(
         let sent = send_list(settings, now.from, now.listed);
         let found = look_drawn(timeline, drawn, now, sent, marks, places, room);
         if let Some(end) = end_with(settings, sent, found.pages, sums.lists + 1) {
-            return sums.ended(settings, end, sent, found.pages);
+            return sums.ended(settings, end, now, sent, found.pages);
         }
-        sums = sums.with(now, sent, found.pages);
+        sums = sums.with(now, sent);
         now = ListNumbers {
             from: sent.to,
             next: found.next,

@@ -2,7 +2,7 @@
 
 // `AreSums` holds of one value alone: `one_set_of_sums`.
 
-ghost use Rattle.std.specs.Prelude.{◌≡◌, ◌<◌, ◌+◌, ◌^◌, ◌&&◌, length, nat_lt};
+ghost use Rattle.std.specs.Prelude.{◌≡◌, ◌<◌, ◌≤◌, ◌+◌, ◌^◌, length, min, nat_lt};
 ghost use Rattle.migration_model.specs.Rates.{duration_of};
 ghost use Rattle.page_bitmap.specs.Listing.{word_count};
 ghost use Rattle.look_planner.specs.Bitmaps.{IsFirst, IsReady};
@@ -25,8 +25,8 @@ pub(crate) struct ListSums {
     pub(crate) lists: usize,
     /// How many pages they send.
     pub(crate) sent: u64,
-    /// Whether each leaves fewer pages than it has.
-    pub(crate) shortens: bool,
+    /// The fewest pages of a list after the first, or `u32::MAX` if there is none.
+    pub(crate) fewest: u32,
 }
 
 impl ListSums {
@@ -34,21 +34,27 @@ impl ListSums {
     pub(crate) const NONE: ListSums = ListSums {
         lists: 0,
         sent: 0,
-        shortens: true,
+        fewest: u32::MAX,
     };
 
-    /// Returns the sums with one more list, of which so many pages are sent and are left.
-    pub(crate) fn with(self, now: ListNumbers, sent: Sent, left: u32) -> ListSums
+    /// Returns the sums with one more list, of which so many pages are sent.
+    pub(crate) fn with(self, now: ListNumbers, sent: Sent) -> ListSums
         requires lists { self.lists < 2 ^ 60 }
         requires sent { self.sent < 2 ^ 60 }
         ensures lists { result.lists ≡ self.lists + 1 }
         ensures sent { result.sent ≡ self.sent + sent.count }
-        ensures shortens { result.shortens ≡ (self.shortens && nat_lt left now.listed) }
+        ensures first { self.lists ≡ 0 → result.fewest ≡ self.fewest }
+        ensures later { 1 ≤ self.lists → result.fewest ≡ min self.fewest now.listed }
     {
+        let fewest = if self.lists == 0 {
+            self.fewest
+        } else {
+            self.fewest.min(now.listed)
+        };
         ListSums {
             lists: self.lists + 1,
             sent: self.sent + sent.count as u64,
-            shortens: self.shortens && left < now.listed,
+            fewest,
         }
     }
 
@@ -57,6 +63,7 @@ impl ListSums {
         self,
         settings: &LookSettings,
         end: PlanEnd,
+        now: ListNumbers,
         sent: Sent,
         left: u32,
     ) -> LookSums
@@ -69,7 +76,7 @@ impl ListSums {
         ensures total { result.total ≡ self.sent + sent.count + left }
         ensures left { result.left ≡ left }
         ensures down { result.down ≡ duration_of left settings.now.rate }
-        ensures shortens { result.shortens ≡ self.shortens }
+        ensures shortens { result.shortens ≡ nat_lt now.listed self.fewest }
     {
         LookSums {
             end,
@@ -78,7 +85,7 @@ impl ListSums {
             total: self.sent + sent.count as u64 + left as u64,
             left: left as u64,
             down: duration(left, settings.asked().rate),
-            shortens: self.shortens,
+            shortens: now.listed < self.fewest,
         }
     }
 }
@@ -101,9 +108,9 @@ fn sum_lists<T: Timeline>(
         let sent = send_list(settings, now.from, now.listed);
         let found = look(timeline, now, sent, marks, room);
         if let Some(end) = end_with(settings, sent, found.pages, sums.lists + 1) {
-            return sums.ended(settings, end, sent, found.pages);
+            return sums.ended(settings, end, now, sent, found.pages);
         }
-        sums = sums.with(now, sent, found.pages);
+        sums = sums.with(now, sent);
         now = ListNumbers {
             from: sent.to,
             next: found.next,

@@ -17,6 +17,6 @@ pub struct LookSums {
     pub left: u64,
     /// The downtime: how many ticks it takes to send these.
     pub down: u64,
-    /// Whether each list is shorter than the one before it.
+    /// Whether the last list has fewer pages than each list before it but the first.
     pub shortens: bool,
 }

@@ -1,6 +1,7 @@
 //! Worked examples of settings, working sets, plans, reports, sweeps, times and sizes.
 
 mod agreement;
+mod answer;
 mod course;
 mod links;
 mod look;

@@ -1,11 +1,13 @@
 //! Predictions: what a migration will be, how sure that is, what is enough for its limit, and its best start.
 
-// `IsPlan` holds of one value alone: `one_plan`.
+// `IsAnswer` holds of one value alone: `one_answer`.
 // `RefusesPrediction` holds of one value alone, but for memory: `one_refused_prediction`.
 // `Spells` holds of one value alone: `one_trace`.
+// `IsPrediction` holds of one value alone: `one_prediction`.
 // `IsAgreement` holds of one value alone: `one_agreement`.
 // `IsForecast` holds of one value alone: `one_forecast`.
 // `IsLinkShare` holds of one value alone: `one_link_share`.
+// `AreCases` holds of one value alone: `one_list_of_cases`.
 // `IsBest` holds of one value alone: `one_best`.
 
 ghost use Rattle.std.specs.Prelude.{◌≡◌, ◌≢◌, ◌⊎◌};

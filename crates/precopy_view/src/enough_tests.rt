@@ -37,23 +37,25 @@ const NOTHING_DOCUMENT: &str = "\"enough\":{\"answer\":\"nothing\"},\
 fn a_missed_limit_is_told_what_is_enough(rt: HostRuntime) {
     const CASES: [(&str, u8, &str); 4] = [
         (
-            "predict --link=1KiB --page=16 --sampled=4/16 --first=0.512KB --inc=20 --downtime=100ms --reserve=10ms",
+            "predict --clark --link=1KiB --page=16 --sampled=4/16 --first=0.512KB --inc=20 --downtime=100ms \
+             --reserve=10ms",
             5,
             OTHER,
         ),
         (
-            "json predict --link=1KiB --page=16 --sampled=4/16 --first=0.512KB --inc=20 --downtime=100ms \
+            "json predict --clark --link=1KiB --page=16 --sampled=4/16 --first=0.512KB --inc=20 --downtime=100ms \
              --reserve=10ms",
             5,
             OTHER_DOCUMENT,
         ),
         (
-            "predict --link=1KiB --page=16 --sampled=4/16 --first=0.128KB --rounds=1 --downtime=1ms --reserve=0us",
+            "predict --clark --link=1KiB --page=16 --sampled=4/16 --first=0.128KB --rounds=1 --downtime=1ms \
+             --reserve=0us",
             3,
             NOTHING,
         ),
         (
-            "json predict --link=1KiB --page=16 --sampled=4/16 --first=0.128KB --rounds=1 --downtime=1ms \
+            "json predict --clark --link=1KiB --page=16 --sampled=4/16 --first=0.128KB --rounds=1 --downtime=1ms \
              --reserve=0us",
             3,
             NOTHING_DOCUMENT,

@@ -7,6 +7,8 @@ mod advice_tests;
 mod enough_tests;
 mod faults;
 #[cfg(test)]
+mod looks_tests;
+#[cfg(test)]
 mod nearest_tests;
 #[cfg(test)]
 mod range_tests;

@@ -29,7 +29,7 @@ libvirt: virsh migrate-setmaxdowntime DOMAIN 190
 #[test]
 fn starts_of_a_warm_start_come_after_its_copy(rt: HostRuntime) {
     let line =
-        "predict --link=1KiB --downtime=200ms --reserve=10ms --page=16 --sampled=4/16 --base=1200 --start=1250";
+        "predict --clark --link=1KiB --downtime=200ms --reserve=10ms --page=16 --sampled=4/16 --base=1200 --start=1250";
     assert!(rt; writes(&rt, rt.alloc(), line, 0, WARM));
 }
 
@@ -51,7 +51,8 @@ libvirt: virsh migrate-setmaxdowntime DOMAIN 190
 
 #[test]
 fn no_range_is_told_of_no_known_start(rt: HostRuntime) {
-    let line = "predict --link=1Kbit --downtime=200ms --reserve=10ms --page=16 --sampled=4/16";
+    let line =
+        "predict --clark --link=1Kbit --downtime=200ms --reserve=10ms --page=16 --sampled=4/16";
     assert!(rt; writes(&rt, rt.alloc(), line, 4, NONE_KNOWN));
 }
 
@@ -83,6 +84,6 @@ libvirt: virsh migrate-setmaxdowntime DOMAIN 50
 #[test]
 fn starts_that_miss_the_limit_are_counted(rt: HostRuntime) {
     let line =
-        "predict --link=1KiB --downtime=200ms --reserve=150ms --page=16 --sampled=4/16 --rounds=1";
+        "predict --clark --link=1KiB --downtime=200ms --reserve=150ms --page=16 --sampled=4/16 --rounds=1";
     assert!(rt; writes(&rt, rt.alloc(), line, 5, MISSED));
 }

@@ -215,7 +215,16 @@ fn says_why_it_ends(rt: HostRuntime) {
 
 #[test]
 fn unknown_words_are_told(rt: HostRuntime) {
-    const LINES: [&str; 5] = ["", "json", "advise", "report", "show --width=71"];
+    const LINES: [&str; 8] = [
+        "",
+        "json",
+        "advise",
+        "report",
+        "show --width=71",
+        "show --clark",
+        "advise --down=0 --clark",
+        "json report --clark",
+    ];
     for line in LINES {
         assert!(rt; is_not_taken(&rt, rt.alloc(), line), "{line}");
     }
@@ -247,7 +256,8 @@ libvirt: virsh migrate-setmaxdowntime DOMAIN 190
 
 #[test]
 fn predicts_a_migration(rt: HostRuntime) {
-    let line = "predict --link=1KiB --downtime=200ms --reserve=10ms --page=16 --sampled=4/16";
+    let line =
+        "predict --clark --link=1KiB --downtime=200ms --reserve=10ms --page=16 --sampled=4/16";
     assert!(rt; writes(&rt, rt.alloc(), line, 5, PREDICTION));
 }
 
@@ -272,7 +282,7 @@ libvirt: virsh migrate-setmaxdowntime DOMAIN 190
 #[test]
 fn a_trace_that_ends_first_has_a_status(rt: HostRuntime) {
     let line =
-        "predict --link=1.0249KB --downtime=0.2s --reserve=0.01s --page=16 --sampled=4/16 --start=2400";
+        "predict --clark --link=1.0249KB --downtime=0.2s --reserve=0.01s --page=16 --sampled=4/16 --start=2400";
     assert!(rt; writes(&rt, rt.alloc(), line, 4, UNKNOWN));
 }
 
@@ -308,6 +318,47 @@ fn refuses_limits(rt: HostRuntime) {
     ];
     for &(line, fault) in &CASES {
         assert!(rt; fails(&rt, rt.alloc(), 102, line, 2, fault), "{fault}");
+    }
+}
+
+/// The line on options of Clark's rounds without the flag for these.
+const NEEDS_CLARK: &str =
+    "precopy-view: --first, --inc, --rounds and --skip are of Clark's rounds, and need --clark\n";
+
+#[test]
+fn options_of_rounds_need_their_flag(rt: HostRuntime) {
+    const CASES: [(&str, &str); 7] = [
+        (
+            "predict --link=1KiB --downtime=1s --page=16 --first=1KiB",
+            NEEDS_CLARK,
+        ),
+        (
+            "json predict --link=1KiB --downtime=1s --page=16 --inc=0",
+            NEEDS_CLARK,
+        ),
+        (
+            "json when --link=1KiB --downtime=1s --page=16 --rounds=30",
+            NEEDS_CLARK,
+        ),
+        (
+            "when --link=1KiB --downtime=1s --page=16 --skip --every=0",
+            NEEDS_CLARK,
+        ),
+        (
+            "predict --skip",
+            "precopy-view: --link and --downtime are needed, as in --link 10Gbit --downtime 300ms\n",
+        ),
+        (
+            "when --link=1KiB --downtime=1s --page=16 --rounds=0",
+            "precopy-view: settings S5\n",
+        ),
+        (
+            "predict --clark",
+            "precopy-view: --link and --downtime are needed, as in --link 10Gbit --downtime 300ms\n",
+        ),
+    ];
+    for &(line, fault) in &CASES {
+        assert!(rt; fails(&rt, rt.alloc(), 102, line, 2, fault), "{line}");
     }
 }
 

@@ -113,7 +113,7 @@ static PREDICTED: &str =
     "{\"units\":{\"tick_seconds\":0.001000,\"page_bytes\":16,\"sampled_pages\":4,\
 \"guest_pages\":16},\"limits\":{\"link_bytes\":1024,\"down_seconds\":0.200000,\"reserve_seconds\":0.010000},\
 \"settings\":{\"min\":16,\"max\":16,\"inc\":0,\"threshold\":4,\"limit\":30,\"skip\":false,\"start\":0},\
-\"converges\":\"yes\",\"kept\":\"uncertain\",\"recorded_seconds\":2.500000,\
+\"plan\":\"rounds\",\"converges\":\"yes\",\"kept\":\"uncertain\",\"recorded_seconds\":2.500000,\
 \"migration\":{\"why\":\"few\",\"rounds\":1,\"time_seconds\":0.385000,\"sent_bytes\":384,\
 \"down_seconds\":0.135000,\"left_pages\":2,\"errors\":{\"sent_bytes\":64,\
 \"time_seconds\":0.054082,\"down_seconds\":0.060686}},\
@@ -131,7 +131,7 @@ static UNKNOWN: &str =
     "{\"units\":{\"tick_seconds\":0.001000,\"page_bytes\":16,\"sampled_pages\":4,\
 \"guest_pages\":16},\"limits\":{\"link_bytes\":1024,\"down_seconds\":0.200000,\"reserve_seconds\":0.010000},\
 \"settings\":{\"min\":16,\"max\":16,\"inc\":0,\"threshold\":4,\"limit\":30,\"skip\":false,\"start\":2400},\
-\"converges\":\"unknown\",\"kept\":\"unknown\",\"recorded_seconds\":0.100000,\
+\"plan\":\"rounds\",\"converges\":\"unknown\",\"kept\":\"unknown\",\"recorded_seconds\":0.100000,\
 \"like_qemu\":{\"looks\":1,\"time_seconds\":0.298000,\"sent_bytes\":256,\"down_seconds\":0.198000,\"kept\":true},\
 \"redraws\":{\"count\":20,\"known\":0,\"converging\":0,\"kept\":0},\
 \"starts\":{\"count\":21,\"known\":19,\"converging\":19,\"kept\":19,\
@@ -144,10 +144,10 @@ static UNKNOWN: &str =
 #[test]
 fn predicts_as_a_document(rt: HostRuntime) {
     let line =
-        "json predict --link=1KiB --downtime=200ms --reserve=10ms --page=16 --sampled=4/16 --start=0";
+        "json predict --clark --link=1KiB --downtime=200ms --reserve=10ms --page=16 --sampled=4/16 --start=0";
     assert!(rt; writes(&rt, rt.alloc(), line, 5, PREDICTED));
     let line =
-        "json predict --link=1KiB --downtime=200ms --reserve=10ms --page=16 --sampled=4/16 --start=2400";
+        "json predict --clark --link=1KiB --downtime=200ms --reserve=10ms --page=16 --sampled=4/16 --start=2400";
     assert!(rt; writes(&rt, rt.alloc(), line, 4, UNKNOWN));
 }
 
@@ -166,12 +166,12 @@ worst: 0.000 s, --start 0: time 385 ms, sent 384 bytes, downtime 135 ms, kept
 #[test]
 fn tells_when_to_migrate(rt: HostRuntime) {
     let line =
-        "when --link=1KiB --downtime=200ms --reserve=10ms --page=16 --sampled=4/16 --every=800 --to=2400";
+        "when --clark --link=1KiB --downtime=200ms --reserve=10ms --page=16 --sampled=4/16 --every=800 --to=2400";
     assert!(rt; writes(&rt, rt.alloc(), line, 0, STARTS));
 }
 
 /// Two starts as a document.
-static DOCUMENT: &str = "{\"limit_seconds\":0.100000,\"starts\":[\
+static DOCUMENT: &str = "{\"limit_seconds\":0.100000,\"plan\":\"rounds\",\"starts\":[\
 {\"start\":0,\"start_seconds\":0.000000,\"rounds\":1,\"time_seconds\":0.385000,\"sent_bytes\":384,\
 \"down_seconds\":0.135000,\"kept\":\"no\"},\
 {\"start\":2400,\"start_seconds\":2.400000,\"rounds\":1,\"time_seconds\":0.385000,\"sent_bytes\":384,\
@@ -185,21 +185,23 @@ static DOCUMENT: &str = "{\"limit_seconds\":0.100000,\"starts\":[\
 #[test]
 fn a_limit_that_no_start_keeps_has_a_status(rt: HostRuntime) {
     let line =
-        "json when --link=1KiB --downtime=100ms --reserve=10ms --page=16 --sampled=4/16 --rounds=1 --every=2400";
+        "json when --clark --link=1KiB --downtime=100ms --reserve=10ms --page=16 --sampled=4/16 --rounds=1 \
+         --every=2400";
     assert!(rt; writes(&rt, rt.alloc(), line, 3, DOCUMENT));
 }
 
 #[test]
 fn no_known_start_has_a_status(rt: HostRuntime) {
     let line =
-        "when --link=1KiB --downtime=200ms --reserve=10ms --page=16 --sampled=4/16 --from=2400";
+        "when --clark --link=1KiB --downtime=200ms --reserve=10ms --page=16 --sampled=4/16 --from=2400";
     let end = "worst: none, since no migration ends within the trace; record longer\n";
     assert!(rt; ends_with(&rt, rt.alloc(), line, 4, end));
 }
 
 #[test]
 fn draws_starts(rt: HostRuntime) {
-    let line = "when --chart --link=1KiB --downtime=200ms --reserve=10ms --page=16 --sampled=4/16";
+    let line =
+        "when --chart --clark --link=1KiB --downtime=200ms --reserve=10ms --page=16 --sampled=4/16";
     assert!(rt; draws(&rt, rt.alloc(), line));
 }
 

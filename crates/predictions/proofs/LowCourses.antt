@@ -12,11 +12,12 @@ use Rattle.predictions.specs.Courses.Ends.{course_of_looks, look_ending, stop_af
 use Rattle.predictions.specs.Units.Scales.{TraceScale}
 use Rattle.predictions.specs.declared.course.Course.{Course}
 use Rattle.predictions.specs.declared.course.CourseEnd.{CourseEnd}
-use Rattle.predictions.specs.declared.course.CourseEnd.TheVariants.{Cut, Fast, Few, Level, Looks, Rounds}
+use Rattle.predictions.specs.declared.course.CourseEnd.TheVariants.{Cut, Fast, Few, Fits, Level, Looks, Rounds}
 
 stop_near : (ending : CourseEnd) (tick : ℕ) → stop_after ending tick ≤ tick + 1
 stop_near Cut tick = omega arith
 stop_near Few tick = omega arith
+stop_near Fits tick = omega arith
 stop_near Fast tick = omega arith
 stop_near Rounds tick = omega arith
 stop_near Looks tick = omega arith

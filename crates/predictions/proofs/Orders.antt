@@ -6,7 +6,7 @@ use Rattle.std.proofs.lemmas.Bool.{cases_lt, cases_eq, or_cases, or_left, or_rig
 use Rattle.std.proofs.lemmas.Bool.{false_from_ne_true, ltb-true, lt-ltb, eq-eqb, eqb-true}
 use Rattle.std.proofs.lemmas.List.MinMax.{IsStrictWeakOrder-by_number}
 use Rattle.predictions.specs.Starts.Costs.{CostAtStart, plain_of}
-use Rattle.predictions.specs.Starts.Choices.{by_then, bytes_at, is_better_known, is_better_start, is_quicker}
+use Rattle.predictions.specs.Starts.Choices.{by_then, bytes_at, is_better_known, is_better_start, is_likely, is_quicker}
 use Rattle.predictions.specs.Starts.Choices.{is_worse_known, is_worse_start, lateness, likely_downtime, overrun}
 
 -- the first of two numbers is less, or they are equal and the rest holds
@@ -80,13 +80,18 @@ better_known_order limit = IsStrictWeakOrder-by_then lateness (is_better_start l
 pub worse_known_order : (limit : ℕ) → IsStrictWeakOrder (is_worse_known limit)
 worse_known_order limit = IsStrictWeakOrder-by_then lateness (is_worse_start limit) (worse_order limit)
 
--- what is above a limit counts no less if it is more
-above : (limit l m : ℕ) → l ≤ m → (if nat_le l limit then 0 else l) ≤ (if nat_le m limit then 0 else m)
-above limit l m less = grind arith
+-- what is above a limit counts no less if it is more, whatever else has to hold or is enough
+above : (must enough : Bool) (limit l m : ℕ) → l ≤ m
+    → (if must && (enough || nat_le l limit) then 0 else l) ≤ (if must && (enough || nat_le m limit) then 0 else m)
+above false enough limit l m less = less
+above true true limit l m less = omega arith
+above true false limit l m less = grind arith
 
 -- errors never make a start better
 overrun_grows : (limit : ℕ) (at : CostAtStart) → overrun limit (plain_of at) ≤ overrun limit at
-overrun_grows limit at = above limit (likely_downtime (plain_of at)) (likely_downtime at) (grind arith)
+unfolding is_likely
+overrun_grows limit at = above at.cost.is_kept at.cost.is_bounded limit (likely_downtime (plain_of at))
+    (likely_downtime at) (grind arith)
 
 pub no_better_with_errors : (limit : ℕ) (a b : CostAtStart) → is_better_start limit (plain_of a) b ≡ false
     → is_better_start limit a b ≡ false

@@ -9,7 +9,7 @@ use Rattle.migration_model.specs.Rates.{MigrationSettings}
 use Rattle.migration_model.specs.Touches.{GuestTouch, last_tick_of}
 use Rattle.predictions.specs.Courses.{IsCourseOver}
 use Rattle.predictions.specs.Courses.Ends.{converges}
-use Rattle.predictions.specs.Predictions.{GuestPrediction, MigrationCost, downtime_of, kept_of, verdict_of}
+use Rattle.predictions.specs.Predictions.{GuestPrediction, MigrationCost, keeps_limit, kept_of, verdict_of}
 use Rattle.predictions.specs.Redrawn.Draws.{draws_of}
 use Rattle.predictions.specs.Redrawn.Errors.{AreRedrawn, HasErrors, SampleErrors}
 use Rattle.predictions.specs.Starts.Choices.{is_likely}
@@ -33,8 +33,7 @@ abbrev pub converges_by : ℕ → Course → Bool
 converges_by last_tick course = stops_by last_tick course && converges course.ending
 
 abbrev pub keeps_by : TraceScale → Limits → ℕ → Course → Bool
-keeps_by scale limits last_tick course =
-    stops_by last_tick course && nat_le (downtime_of scale limits course.down) limits.downtime
+keeps_by scale limits last_tick course = stops_by last_tick course && keeps_limit scale limits course
 
 -- how many plans come to these, how many of them stop by the last tick, converge, and keep their limit
 abbrev pub counts_of : TraceScale → Limits → ℕ → List Course → AnswerCounts
@@ -121,11 +120,11 @@ abbrev pub sure_verdict : Agreement → GuestPrediction → Verdict
 sure_verdict a p =
     if_sure (for_draws (converge_as (verdict_of p)) a.draws && converge_as (verdict_of p) a.starts) (verdict_of p)
 
--- a limit that the plan keeps is kept with two standard errors of the downtime
+-- a limit that the plan keeps is likely to be kept: with two standard errors of the downtime, or by a hypervisor
 abbrev pub withstands : ℕ → MigrationCost → Option SampleErrors → Bool
 withstands limit cost errors = not cost.is_kept || is_likely limit (record { start = 0; cost = cost; errors = errors })
 
--- whether it keeps its limit, in the same way; and if its plan does, then with two standard errors of the downtime
+-- whether it keeps its limit, in the same way; and if its plan does, then likely so
 abbrev pub sure_kept : ℕ → Agreement → MigrationCost → Option SampleErrors → Verdict
 sure_kept limit a cost errors =
     if_sure ((for_draws (keep_as (kept_of cost)) a.draws && keep_as (kept_of cost) a.starts)

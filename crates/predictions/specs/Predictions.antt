@@ -1,8 +1,8 @@
 -- What a migration will be, in time and bytes, by its plan. This project's own.
 pub mod Traces
-use Rattle.std.specs.Prelude.{ℕ, ◌+◌, ◌-◌, nat_le, nat_lt, Bool, if◌then◌else◌, List, length, codes}
+use Rattle.std.specs.Prelude.{ℕ, ◌+◌, ◌-◌, ◌&&◌, nat_le, nat_lt, Bool, if◌then◌else◌, List, length, codes}
 use Rattle.predictions.specs.Units.Scales.{TraceScale, bytes_of, micros_of}
-use Rattle.predictions.specs.Courses.Ends.{converges, course_of_rounds}
+use Rattle.predictions.specs.Courses.Ends.{converges, course_of_rounds, is_bounded, stops_guest}
 use Rattle.predictions.specs.declared.course.Course.{Course}
 use Rattle.predictions.specs.declared.course.CourseEnd.{CourseEnd}
 use Rattle.predictions.specs.declared.course.Manner.{Manner}
@@ -14,14 +14,16 @@ use Rattle.predictions.specs.declared.verdict.Verdict.{Verdict}
 use Rattle.predictions.specs.declared.verdict.Verdict.TheVariants as verdicts
 
 -- What a migration costs, whose plan has so many rounds or looks. Times are in microseconds: from its start until the
--- guest runs again, and without the guest running. Bytes are of the guest. Whether the downtime is within its limit,
--- and whether the stop comes after the trace's last tick.
+-- guest runs again, and without the guest running. Bytes are of the guest. Whether the guest is stopped for no longer
+-- than the limit, whether it is stopped only when what is left fits that, and whether the stop comes after the trace's
+-- last tick.
 pub record MigrationCost : Type 0 where
   pub steps : ℕ
   pub time : ℕ
   pub bytes : ℕ
   pub downtime : ℕ
   pub is_kept : Bool
+  pub is_bounded : Bool
   pub is_late : Bool
 
 -- what a migration will be: by whose plan it goes, why that ends, what it costs, how many pages of the trace are sent
@@ -37,6 +39,11 @@ pub record GuestPrediction : Type 0 where
 abbrev pub downtime_of : TraceScale → Limits → ℕ → ℕ
 downtime_of scale limits ticks = micros_of scale ticks + limits.reserve
 
+-- whether a plan that comes to this keeps its limit: it stops the guest, and for no longer
+abbrev pub keeps_limit : TraceScale → Limits → Course → Bool
+keeps_limit scale limits course =
+    stops_guest course.ending && nat_le (downtime_of scale limits course.down) limits.downtime
+
 -- what a migration costs that begins at a tick and whose plan comes to this, over touches with this last tick
 abbrev pub cost_of : TraceScale → Limits → ℕ → Course → ℕ → MigrationCost
 cost_of scale limits start course last_tick = record {
@@ -44,7 +51,8 @@ cost_of scale limits start course last_tick = record {
   time = micros_of scale (course.stop - start) + downtime_of scale limits course.down;
   bytes = bytes_of scale course.total;
   downtime = downtime_of scale limits course.down;
-  is_kept = nat_le (downtime_of scale limits course.down) limits.downtime;
+  is_kept = keeps_limit scale limits course;
+  is_bounded = is_bounded course.ending;
   is_late = nat_lt last_tick course.stop;
 }
 

@@ -1,4 +1,5 @@
 -- Questions about a migration, and their answers, in the numbers that C and a web page have. This project's own.
+pub mod Answers
 use Rattle.std.specs.Prelude.{◌≡◌, ◌≢◌, ◌⊎◌, ℕ, ◌-◌, ◌^◌, ◌<◌, ◌≤◌, ◌==◌, min, not, if◌then◌else◌, Option, None, Some}
 use Rattle.predictions.specs.Units.Limits.{RefusesLimits, limits_refusal, settings_in}
 use Rattle.predictions.specs.Units.Scales.{TraceScale, scale_refusal, scale_with}
@@ -9,6 +10,8 @@ use Rattle.predictions.specs.Courses.Ends.{end_number}
 use Rattle.predictions.specs.Predictions.{GuestPrediction, kept_of, verdict_of}
 use Rattle.predictions.specs.declared.answer.Answer.{Answer}
 use Rattle.predictions.specs.declared.course.Course.{Course}
+use Rattle.predictions.specs.declared.course.Manner.{Manner}
+use Rattle.predictions.specs.declared.course.Manner.TheVariants as manners
 use Rattle.predictions.specs.declared.answer.ErrorNumbers.{ErrorNumbers}
 use Rattle.predictions.specs.declared.question.Misfit.{Misfit}
 use Rattle.predictions.specs.declared.question.Misfit.TheVariants as misfits
@@ -22,13 +25,16 @@ use Rattle.predictions.specs.Redrawn.Errors.{SampleErrors}
 abbrev pub given : ℕ → ℕ → Option ℕ
 given has number = if has == 0 then None else Some number
 
+-- what the first round may use, if that is given and there are rounds
+abbrev pub first_in : Question → Option ℕ
+first_in q = if q.clark == 0 then None else given q.has_first q.first
+
 -- what ticks and pages of the trace stand for, and what the migration may take
 abbrev pub scale_in : Question → TraceScale
 scale_in q = scale_with q.tick q.page q.sampled q.guest
 
 abbrev pub limits_in : Question → Limits
-limits_in q =
-    record { link = q.link; first = given q.has_first q.first; downtime = q.downtime; reserve = q.reserve }
+limits_in q = record { link = q.link; first = first_in q; downtime = q.downtime; reserve = q.reserve }
 
 -- The settings that limits do not make. A prediction has no windows and no threads: these are those of `precopy-view`
 -- where nothing else is said, and one thread of each kind.
@@ -54,9 +60,13 @@ others_in q = record {
 abbrev pub settings_of : Question → MigrationSettings
 settings_of q = settings_in (scale_in q) (limits_in q) (given q.has_increment q.increment) (others_in q)
 
+-- by whose plan the migration goes
+abbrev pub manner_in : Question → Manner
+manner_in q = if q.clark == 0 then manners.Looks else manners.Rounds
+
 -- what a question comes to
 abbrev pub terms_of : Question → Terms
-terms_of q = record { scale = scale_in q; limits = limits_in q; settings = settings_of q }
+terms_of q = record { scale = scale_in q; limits = limits_in q; manner = manner_in q; settings = settings_of q }
 
 -- a question is refused: for its scale, or else for its limits or another setting
 abbrev pub RefusesQuestion : Question → UnitsError → Type 0

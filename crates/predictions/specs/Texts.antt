@@ -18,6 +18,7 @@ use Rattle.sweep_report.specs.Lines.{field, line}
 -- why the plan ends if more than few pages are left
 abbrev pub ending : CourseEnd → List ℕ
 ending endings.Few = []
+ending endings.Fits = []
 ending endings.Fast = codes "; the guest writes faster than the link sends"
 ending endings.Rounds = codes "; all rounds that are allowed are done"
 ending endings.Looks = codes "; 2,000 looks are done"
@@ -67,6 +68,7 @@ line_if holds words = if holds then words ++ 10 ∷ [] else []
 -- what an end other than `few` says of the downtime
 abbrev pub end_warning : CourseEnd → List ℕ
 end_warning endings.Few = []
+end_warning endings.Fits = []
 end_warning endings.Fast =
     codes "warning: the plan ends with `fast`, so nothing bounds the downtime; give more of the link"
 end_warning endings.Rounds =

@@ -5,10 +5,14 @@ ghost use Rattle.predictions.specs.Questions.{capped, reason_number, verdict_num
 ghost use Rattle.rate_limit.specs.Pacing.{reason_of};
 
 use crate::course::Course;
-use crate::prediction::Prediction;
+use crate::measure::Measure;
+use crate::prediction::{Foretold, Prediction};
+use crate::question::Terms;
 use crate::redrawn::Errors;
 use crate::verdict::Verdict;
+use guest_log::Timeline;
 use rate_limit::Reason;
+use std::alloc::{AllocError, Global};
 
 /// What a migration will be. It is laid out as C's `struct precopy_prediction`.
 #[derive(Clone, Copy, Debug, PartialEq, Eq)]
@@ -17,7 +21,8 @@ pub struct Answer {
     /// How many rounds or looks there are.
     pub rounds: u64,
     /// Why there are no more: 0 if few pages remain, 1 if the next rate is too high, 2 after the last round, 3 after the
-    /// last look, 4 if the trace ends first, 5 if it ends first and the lists did not get shorter.
+    /// last look, 4 if the trace ends first, 5 if it does and a list between the first and the last has no more pages
+    /// than the last.
     pub reason: u64,
     /// The tick at which the guest is stopped.
     pub stop: u64,
@@ -86,8 +91,9 @@ pub(crate) fn number_of_verdict(verdict: Verdict) -> u32
 }
 
 impl Answer {
-    ghost use Rattle.std.specs.Prelude.{◌≡◌};
+    ghost use Rattle.std.specs.Prelude.{◌≡◌, IfOk};
     ghost use Rattle.predictions.specs.Questions.{answer_of};
+    ghost use Rattle.predictions.specs.Questions.Answers.{IsAnswer};
 
     /// Returns the answer of a plan that comes to this and predicts this.
     pub fn new(course: &Course, prediction: &Prediction) -> Answer
@@ -108,6 +114,24 @@ impl Answer {
             converges: number_of_verdict(prediction.verdict()),
             kept: number_of_verdict(cost.kept()),
         }
+    }
+
+    /// Returns the answer to a question over a trace, which is one (`one_answer`). The only error is that memory runs
+    /// out.
+    pub fn of_trace<T: Timeline>(
+        alloc: Global,
+        timeline: &T,
+        terms: &Terms,
+    ) -> Result<Answer, AllocError>
+        ensures { IfOk result (IsAnswer terms.now (T.pages timeline.now) (T.touches timeline.now)) }
+    {
+        let measure = Measure {
+            scale: terms.scale,
+            limits: terms.limits,
+            manner: terms.manner,
+        };
+        let foretold = Foretold::of_trace(alloc, timeline, &terms.settings, &measure)?;
+        Ok(Answer::new(&foretold.course, &foretold.prediction))
     }
 }
 

@@ -18,8 +18,10 @@ pub struct Cost {
     pub bytes: u128,
     /// How long the guest does not run, in microseconds.
     pub downtime: u128,
-    /// Whether the plan's downtime is within its limit.
+    /// Whether the plan stops the guest, and for no longer than the limit.
     pub is_kept: bool,
+    /// Whether the guest is stopped only when what is left fits the limit, so that chance moves the downtime no further.
+    pub is_bounded: bool,
     /// Whether the stop comes after the trace's last tick.
     pub is_late: bool,
 }
@@ -36,6 +38,7 @@ impl Model for Cost {
       bytes = c.bytes;
       downtime = c.downtime;
       is_kept = c.is_kept;
+      is_bounded = c.is_bounded;
       is_late = c.is_late;
     } };
 
@@ -47,6 +50,7 @@ impl Model for Cost {
       bytes = c.bytes;
       downtime = c.downtime;
       is_kept = c.is_kept;
+      is_bounded = c.is_bounded;
       is_late = c.is_late;
     } };
 }
@@ -67,7 +71,8 @@ impl Cost {
             time: scale.micros(course.stop.saturating_sub(start)) + downtime,
             bytes: scale.bytes(course.total),
             downtime,
-            is_kept: downtime <= limits.downtime as u128,
+            is_kept: course.keeps_limit(scale, limits),
+            is_bounded: course.ending.is_bounded(),
             is_late: last_tick < course.stop,
         }
     }

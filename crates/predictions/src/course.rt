@@ -15,7 +15,7 @@ ghost use Rattle.predictions.specs.declared.course.Manner.TheVariants as manners
 ghost use Rattle.rate_limit.specs.Pacing.{reason_of};
 
 use crate::looks::look_asked;
-use crate::units::Scale;
+use crate::units::{Limits, Scale};
 use crate::verdict::Verdict;
 use guest_log::{Timeline, last_tick};
 use look_planner::{LookAsked, LookSettings, LookSums, PlanEnd, look_sums};
@@ -55,17 +55,19 @@ pub enum Manner {
 /// Why a plan ends.
 #[derive(Clone, Copy, Debug, PartialEq, Eq)]
 pub enum CourseEnd {
-    /// Few pages are left.
+    /// Few pages are left after a round.
     Few,
+    /// What is left at a look fits the limit, so a hypervisor stops the guest.
+    Fits,
     /// A round dirtied more pages in a time than the link sends.
     Fast,
     /// There were as many rounds as there may be.
     Rounds,
     /// There were as many looks as there may be.
     Looks,
-    /// The record ends first, and until then each list was shorter than the one before it.
+    /// The record ends first, and the list under way then is the shortest yet, but perhaps for the first one.
     Cut,
-    /// The record ends first, and its lists did not get shorter.
+    /// The record ends first, and a list between the first one and that under way then is no longer than it.
     Level,
 }
 
@@ -86,7 +88,7 @@ pub struct Course {
 
 impl CourseEnd {
     ghost use Rattle.std.specs.Prelude.{◌≡◌};
-    ghost use Rattle.predictions.specs.Courses.Ends.{end_number, end_word};
+    ghost use Rattle.predictions.specs.Courses.Ends.{converges, end_number, end_word, is_bounded, stops_guest};
 
     /// Returns the end as a word: `few`, `fast`, `rounds`, `looks`, `cut` or `level`.
     pub fn word(&self) -> &'static str
@@ -94,6 +96,7 @@ impl CourseEnd {
     {
         match self {
             CourseEnd::Few => "few",
+            CourseEnd::Fits => "few",
             CourseEnd::Fast => "fast",
             CourseEnd::Rounds => "rounds",
             CourseEnd::Looks => "looks",
@@ -102,12 +105,37 @@ impl CourseEnd {
         }
     }
 
+    /// Returns whether a plan that ends so converges.
+    pub(crate) fn converges(&self) -> bool
+        ensures { result ≡ converges self.now }
+    {
+        matches!(self, CourseEnd::Few | CourseEnd::Fits)
+    }
+
+    /// Returns whether the guest is stopped only when what is left fits the limit.
+    pub(crate) fn is_bounded(&self) -> bool
+        ensures { result ≡ is_bounded self.now }
+    {
+        matches!(self, CourseEnd::Fits)
+    }
+
+    /// Returns whether the guest is stopped: by looks only when what is left fits the limit.
+    pub(crate) fn stops_guest(&self) -> bool
+        ensures { result ≡ stops_guest self.now }
+    {
+        matches!(
+            self,
+            CourseEnd::Few | CourseEnd::Fits | CourseEnd::Fast | CourseEnd::Rounds
+        )
+    }
+
     /// Returns the number of the end: 0 to 5.
     pub fn number(&self) -> u64
         ensures { result ≡ end_number self.now }
     {
         match self {
             CourseEnd::Few => 0,
+            CourseEnd::Fits => 0,
             CourseEnd::Fast => 1,
             CourseEnd::Rounds => 2,
             CourseEnd::Looks => 3,
@@ -153,12 +181,12 @@ fn round_ending(reason: Reason) -> CourseEnd
     }
 }
 
-/// Returns why a plan of looks ends, if its lists get shorter or do not.
+/// Returns why a plan of looks ends, by whether its lists shorten.
 fn look_ending(end: PlanEnd, shortens: bool) -> CourseEnd
     ensures { result ≡ look_ending end shortens }
 {
     match end {
-        PlanEnd::Few => CourseEnd::Few,
+        PlanEnd::Few => CourseEnd::Fits,
         PlanEnd::Looks => CourseEnd::Looks,
         PlanEnd::Record => {
             if shortens {
@@ -178,6 +206,7 @@ fn stop_after(ending: CourseEnd, tick: u64) -> u64
     match ending {
         CourseEnd::Cut => tick + 1,
         CourseEnd::Few => tick,
+        CourseEnd::Fits => tick,
         CourseEnd::Fast => tick,
         CourseEnd::Rounds => tick,
         CourseEnd::Looks => tick,
@@ -189,6 +218,15 @@ impl Course {
     ghost use Rattle.std.specs.Prelude.{◌≡◌, ◌≤◌, ◌^◌, IfOk};
     ghost use Rattle.predictions.specs.Courses.{IsCourseOver, course_verdict};
     ghost use Rattle.predictions.specs.Courses.Ends.{course_of_looks, course_of_rounds};
+    ghost use Rattle.predictions.specs.Predictions.{keeps_limit};
+
+    /// Returns whether it keeps the limit: it stops the guest, and for no longer.
+    pub(crate) fn keeps_limit(&self, scale: &Scale, limits: &Limits) -> bool
+        ensures { result ≡ keeps_limit scale.now limits.now self.now }
+    {
+        let downtime = scale.micros(self.down) + limits.reserve as u128;
+        self.ending.stops_guest() && downtime <= limits.downtime as u128
+    }
 
     /// Returns what a plan of rounds with these sums comes to.
     pub fn of_outcome(outcome: &Outcome) -> Course
@@ -243,7 +281,7 @@ impl Course {
     pub fn verdict(&self, last_tick: u64) -> Verdict
         ensures { result ≡ course_verdict self.now last_tick }
     {
-        Verdict::new(last_tick < self.stop, matches!(self.ending, CourseEnd::Few))
+        Verdict::new(last_tick < self.stop, self.ending.converges())
     }
 }
 

@@ -7,6 +7,7 @@ ghost use Rattle.migration_model.specs.Rates.{MigrationSettings};
 ghost use Rattle.migration_model.specs.Touches.{GuestTouch};
 ghost use Rattle.predictions.specs.Agreements.{IsAgreement};
 ghost use Rattle.predictions.specs.Questions.{RefusesQuestion};
+ghost use Rattle.predictions.specs.Questions.Answers.{IsAnswer};
 ghost use Rattle.predictions.specs.Redrawn.Errors.{AreErrors, SampleErrors};
 ghost use Rattle.predictions.specs.Remedies.{AreRemedies};
 ghost use Rattle.predictions.specs.Remedies.Trials.{MigrationTrial};
@@ -19,8 +20,10 @@ ghost use Rattle.predictions.specs.Starts.Ranges.{AreRanges, RangesOfStarts};
 ghost use Rattle.predictions.specs.Units.Limits.{RefusesLimits};
 ghost use Rattle.predictions.specs.Units.Scales.{TraceScale};
 ghost use Rattle.predictions.specs.declared.agreement.verdicts.Agreement.{Agreement};
+ghost use Rattle.predictions.specs.declared.answer.Answer.{Answer};
 ghost use Rattle.predictions.specs.declared.course.Manner.{Manner};
 ghost use Rattle.predictions.specs.declared.question.Question.{Question};
+ghost use Rattle.predictions.specs.declared.question.Terms.{Terms};
 ghost use Rattle.predictions.specs.declared.remedies.finding.Remedies.{Remedies};
 ghost use Rattle.predictions.specs.declared.shares.share.LinkShare.{LinkShare};
 ghost use Rattle.predictions.specs.declared.starts.cases.Starts.{Starts};
@@ -75,6 +78,12 @@ pub fn one_ranges()
 pub fn one_set_of_remedies()
     ensures { (pages : ℕ) (touches : List GuestTouch) (trial : MigrationTrial) (a b : Remedies)
         → AreRemedies pages touches trial a → AreRemedies pages touches trial b → a ≡ b }
+{}
+
+/// A question has one answer.
+pub fn one_answer()
+    ensures { (terms : Terms) (pages : ℕ) (touches : List GuestTouch) (a b : Answer) → IsAnswer terms pages touches a
+        → IsAnswer terms pages touches b → a ≡ b }
 {}
 
 /// Limits are refused for one thing.

@@ -26,9 +26,9 @@ pub use cost::Cost;
 pub use course::{Course, CourseEnd, Manner, course_in, one_course};
 pub use hosts::{link_in_mib, millis_for_pages, push_hosts};
 pub use laws::{
-    accepted_starts_are_not_refused, one_agreement, one_best, one_errors, one_link_share,
-    one_list_of_cases, one_ranges, one_refused_limit, one_refused_question, one_refused_start,
-    one_set_of_remedies, one_worst,
+    accepted_starts_are_not_refused, one_agreement, one_answer, one_best, one_errors,
+    one_link_share, one_list_of_cases, one_ranges, one_refused_limit, one_refused_question,
+    one_refused_start, one_set_of_remedies, one_worst,
 };
 pub use measure::Measure;
 pub use prediction::{Prediction, one_prediction};

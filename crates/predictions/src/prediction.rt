@@ -6,7 +6,7 @@ ghost use Rattle.std.specs.Prelude.{◌≡◌, ℕ, IfOk, List};
 ghost use Rattle.migration_model.specs.Rates.{MigrationSettings};
 ghost use Rattle.migration_model.specs.Touches.{GuestTouch};
 ghost use Rattle.predictions.specs.Predictions.{GuestPrediction};
-ghost use Rattle.predictions.specs.Predictions.Traces.{IsPrediction};
+ghost use Rattle.predictions.specs.Predictions.Traces.{IsForetold, IsPrediction};
 ghost use Rattle.predictions.specs.Units.Scales.{TraceScale};
 ghost use Rattle.predictions.specs.declared.course.Manner.{Manner};
 ghost use Rattle.predictions.specs.declared.course.Manner.TheVariants as manners;
@@ -157,6 +157,82 @@ impl Prediction {
         ensures { IfOk result (IsPrediction measure.now.manner (T.pages timeline.now) (T.touches timeline.now)
             measure.now.scale measure.now.limits settings.now) }
     {
+        let foretold = Foretold::of_trace(alloc, timeline, settings, measure)?;
+        Ok(foretold.prediction)
+    }
+
+    /// Returns whether the migration converges.
+    pub fn verdict(&self) -> Verdict
+        ensures { result ≡ verdict_of self.now }
+    {
+        Verdict::new(self.cost.is_late, self.ending.converges())
+    }
+}
+
+/// What a plan comes to, and what it predicts.
+#[derive(Debug, Drop)]
+pub(crate) struct Foretold {
+    pub(crate) course: Course,
+    pub(crate) prediction: Prediction,
+}
+
+/// Returns what a hypervisor's plan of a trace comes to and predicts.
+fn by_looks<T: Timeline>(
+    alloc: Global,
+    timeline: &T,
+    settings: &Settings,
+    scale: &Scale,
+    limits: &Limits,
+) -> Result<Foretold, AllocError>
+    ensures { IfOk result (IsForetold manners.Looks (T.pages timeline.now) (T.touches timeline.now) scale.now
+        limits.now settings.now) }
+{
+    let pages = timeline.page_count() as usize;
+    let mut marks = Vec::from_elem(alloc, 0, word_count(pages))?;
+    let mut list = Vec::from_elem(alloc, 0, pages)?;
+    let sums = trace_sums(timeline, settings, scale, &mut marks, &mut list);
+    let start = settings.asked().start;
+    let last = last_tick(timeline);
+    Ok(Foretold {
+        course: Course::of_sums(&sums),
+        prediction: Prediction::of_sums(scale, limits, start, &sums, last),
+    })
+}
+
+/// Returns what Clark's plan of a trace comes to and predicts.
+fn by_rounds<T: Timeline>(
+    alloc: Global,
+    timeline: &T,
+    settings: &Settings,
+    scale: &Scale,
+    limits: &Limits,
+) -> Result<Foretold, AllocError>
+    ensures { IfOk result (IsForetold manners.Rounds (T.pages timeline.now) (T.touches timeline.now) scale.now
+        limits.now settings.now) }
+{
+    let plan = plan(alloc, timeline, settings).or(Err(AllocError))?;
+    let start = settings.asked().start;
+    let last = last_tick(timeline);
+    Ok(Foretold {
+        course: Course::of_outcome(&plan.outcome()),
+        prediction: Prediction::new(scale, limits, start, &plan, last),
+    })
+}
+
+impl Foretold {
+    ghost use Rattle.std.specs.Prelude.{IfOk};
+    ghost use Rattle.predictions.specs.Predictions.Traces.{IsForetold};
+
+    /// Returns what the plan of a trace comes to and predicts, by a manner. The only error is that memory runs out.
+    pub(crate) fn of_trace<T: Timeline>(
+        alloc: Global,
+        timeline: &T,
+        settings: &Settings,
+        measure: &Measure,
+    ) -> Result<Foretold, AllocError>
+        ensures { IfOk result (IsForetold measure.now.manner (T.pages timeline.now) (T.touches timeline.now)
+            measure.now.scale measure.now.limits settings.now) }
+    {
         let Measure {
             scale,
             limits,
@@ -167,50 +243,6 @@ impl Prediction {
             Manner::Rounds => by_rounds(alloc, timeline, settings, scale, limits),
         }
     }
-
-    /// Returns whether the migration converges.
-    pub fn verdict(&self) -> Verdict
-        ensures { result ≡ verdict_of self.now }
-    {
-        Verdict::new(self.cost.is_late, matches!(self.ending, CourseEnd::Few))
-    }
-}
-
-/// Returns what a hypervisor's plan of a trace predicts.
-fn by_looks<T: Timeline>(
-    alloc: Global,
-    timeline: &T,
-    settings: &Settings,
-    scale: &Scale,
-    limits: &Limits,
-) -> Result<Prediction, AllocError>
-    ensures { IfOk result (IsPrediction manners.Looks (T.pages timeline.now) (T.touches timeline.now) scale.now
-        limits.now settings.now) }
-{
-    let pages = timeline.page_count() as usize;
-    let mut marks = Vec::from_elem(alloc, 0, word_count(pages))?;
-    let mut list = Vec::from_elem(alloc, 0, pages)?;
-    let sums = trace_sums(timeline, settings, scale, &mut marks, &mut list);
-    let start = settings.asked().start;
-    let last = last_tick(timeline);
-    Ok(Prediction::of_sums(scale, limits, start, &sums, last))
-}
-
-/// Returns what Clark's plan of a trace predicts.
-fn by_rounds<T: Timeline>(
-    alloc: Global,
-    timeline: &T,
-    settings: &Settings,
-    scale: &Scale,
-    limits: &Limits,
-) -> Result<Prediction, AllocError>
-    ensures { IfOk result (IsPrediction manners.Rounds (T.pages timeline.now) (T.touches timeline.now) scale.now
-        limits.now settings.now) }
-{
-    let plan = plan(alloc, timeline, settings).or(Err(AllocError))?;
-    let start = settings.asked().start;
-    let last = last_tick(timeline);
-    Ok(Prediction::new(scale, limits, start, &plan, last))
 }
 
 /// The plan of a guest by a manner predicts one thing.

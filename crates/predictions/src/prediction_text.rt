@@ -32,6 +32,7 @@ fn ending_of(end: CourseEnd) -> &'static str
 {
     match end {
         CourseEnd::Few => "",
+        CourseEnd::Fits => "",
         CourseEnd::Fast => "; the guest writes faster than the link sends",
         CourseEnd::Rounds => "; all rounds that are allowed are done",
         CourseEnd::Looks => "; 2,000 looks are done",
@@ -194,7 +195,7 @@ fn push_if(text: &mut Vec<u8>, holds: bool, words: &str) -> Result<(), AllocErro
 fn is_early(ending: CourseEnd) -> bool
     ensures { result ≡ not (converges ending) }
 {
-    !matches!(ending, CourseEnd::Few)
+    !ending.converges()
 }
 
 /// Returns what an end other than `few` says of the downtime.
@@ -203,6 +204,7 @@ fn warning_of(ending: CourseEnd) -> &'static str
 {
     match ending {
         CourseEnd::Few => "",
+        CourseEnd::Fits => "",
         CourseEnd::Fast => {
             "warning: the plan ends with `fast`, so nothing bounds the downtime; give more of the link"
         }

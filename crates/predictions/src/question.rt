@@ -6,6 +6,7 @@ ghost use Rattle.std.specs.Prelude.{◌≡◌, ℕ, IfErr, IsOk, OnOk};
 ghost use Rattle.predictions.specs.Questions.{Fits, IsMisfit, given};
 ghost use Rattle.predictions.specs.Units.Scales.{TraceScale};
 
+use crate::course::Manner;
 use crate::units::{Limits, Scale, UnitsError};
 use guest_log::Shape;
 use rate_limit::{Asked, Settings};
@@ -48,6 +49,9 @@ pub struct Question {
     pub has_base: u32,
     /// Whether pages that were written again are skipped: 0 for no.
     pub skip: u32,
+    /// Whether it goes by Clark's rounds: 0 for a hypervisor's looks. Only rounds have a `first`, an `increment`, a number
+    /// and `skip`; the ranges of the increment and of the number are tested always.
+    pub clark: u32,
 }
 
 /// What a question comes to: what ticks and pages stand for, the limits, and the settings of the plan.
@@ -57,6 +61,8 @@ pub struct Terms {
     pub scale: Scale,
     /// What the migration may take.
     pub limits: Limits,
+    /// By whose plan it goes.
+    pub manner: Manner,
     /// The settings of the plan.
     pub settings: Settings,
 }
@@ -82,7 +88,18 @@ fn given(has: u32, number: u64) -> Option<u64>
 
 impl Question {
     ghost use Rattle.std.specs.Prelude.{◌≡◌, IfErr, IfOk, IsOk, OnOk};
-    ghost use Rattle.predictions.specs.Questions.{AcceptsQuestion, RefusesQuestion, limits_in, others_in, terms_of};
+    ghost use Rattle.predictions.specs.Questions.{AcceptsQuestion, RefusesQuestion, first_in, limits_in, manner_in};
+    ghost use Rattle.predictions.specs.Questions.{others_in, terms_of};
+
+    /// Returns what the first round may use, if that is given and there are rounds.
+    fn first(&self) -> Option<u64>
+        ensures { result ≡ first_in self.now }
+    {
+        match self.manner() {
+            Manner::Looks => None,
+            Manner::Rounds => given(self.has_first, self.first),
+        }
+    }
 
     /// Returns the limits that the question gives.
     fn limits(&self) -> Limits
@@ -90,9 +107,20 @@ impl Question {
     {
         Limits {
             link: self.link,
-            first: given(self.has_first, self.first),
+            first: self.first(),
             downtime: self.downtime,
             reserve: self.reserve,
+        }
+    }
+
+    /// Returns by whose plan the migration goes.
+    fn manner(&self) -> Manner
+        ensures { result ≡ manner_in self.now }
+    {
+        if self.clark == 0 {
+            Manner::Looks
+        } else {
+            Manner::Rounds
         }
     }
 
@@ -132,6 +160,7 @@ impl Question {
         Ok(Terms {
             scale,
             limits,
+            manner: self.manner(),
             settings,
         })
     }

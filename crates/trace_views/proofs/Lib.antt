@@ -3,3 +3,4 @@ pub mod LikelyCases
 pub mod Numbered
 pub mod JsonNumbers
 pub mod OneAdvice
+pub mod PlannedParts

@@ -9,6 +9,8 @@ pub mod AgreementJson
 pub mod Enough
 pub mod EnoughJson
 pub mod LooksJson
+pub mod PlanJson
+pub mod CaseParts
 pub mod Outlooks
 pub mod PredictionViews
 pub mod StartsJson

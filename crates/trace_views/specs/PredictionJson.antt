@@ -10,6 +10,7 @@ use Rattle.predictions.specs.Agreements.{sure_kept, sure_verdict}
 use Rattle.predictions.specs.Predictions.{GuestPrediction, verdict_word}
 use Rattle.predictions.specs.Redrawn.Errors.{SampleErrors}
 use Rattle.predictions.specs.declared.agreement.verdicts.Agreement.{Agreement}
+use Rattle.predictions.specs.declared.course.Manner.{Manner}
 use Rattle.predictions.specs.declared.verdict.Verdict.{Verdict}
 use Rattle.trace_views.specs.AgreementJson.{draws_member}
 use Rattle.trace_views.specs.Enough.{is_sure}
@@ -17,6 +18,8 @@ use Rattle.trace_views.specs.EnoughJson.{enough_member}
 use Rattle.trace_views.specs.Json.{member_of, number_member, object_of, scale_object, seconds_member, settings_members}
 use Rattle.trace_views.specs.Json.{text_member}
 use Rattle.trace_views.specs.LooksJson.{looks_member}
+use Rattle.trace_views.specs.Outlooks.{tells_looks}
+use Rattle.trace_views.specs.PlanJson.{plan_member}
 use Rattle.trace_views.specs.RangesJson.{ranges_member}
 use Rattle.trace_views.specs.ShareJson.{share_member}
 use Rattle.trace_views.specs.StartsJson.{cost_numbers, errors_member}
@@ -56,7 +59,7 @@ hosts_object limits =
 -- errors
 abbrev pub migration_object : GuestPrediction → Option SampleErrors → List Token
 migration_object p errors = object_of (text_member (codes "why") (end_word p.ending) ∷
-    (cost_numbers p.cost ++ number_member (codes "left_pages") p.left ∷ errors_member errors ∷ []))
+    (cost_numbers p.manner p.cost ++ number_member (codes "left_pages") p.left ∷ errors_member errors ∷ []))
 
 -- it is left out if the trace ends before it
 abbrev pub migration_member : GuestPrediction → Option SampleErrors → List Token
@@ -73,22 +76,29 @@ answers_with converges kept recorded =
 abbrev pub answer_members : ℕ → Agreement → GuestPrediction → Option SampleErrors → List (List Token)
 answer_members limit a p errors = answers_with (sure_verdict a p) (sure_kept limit a p.cost errors) p.recorded
 
--- what was asked: what ticks and pages stand for, the limits, and the settings that they make
-abbrev pub asked_members : MigrationSettings → TraceScale → Limits → List (List Token)
-asked_members settings scale limits =
+-- what was asked: what ticks and pages stand for, the limits, the settings that they make, and by whose plan the
+-- migration goes
+abbrev pub asked_members : MigrationSettings → TraceScale → Limits → Manner → List (List Token)
+asked_members settings scale limits manner =
     member_of (codes "units") (scale_object scale) ∷ member_of (codes "limits") (limits_object limits) ∷ member_of
     (codes "settings") (settings_object settings)
-    ∷ []
+    ∷ plan_member manner ∷ []
 
--- what is predicted: the answers, the migration if it is known, the answers of draws and the ranges over starts if
--- there are any, the shares of the link, and what is enough for the limit
+-- what comes of it if the hypervisor looks as QEMU does, if that is told
+abbrev pub told_member : Outlook → List Token
+told_member outlook = if tells_looks outlook then looks_member outlook.looks else []
+
+-- what is predicted: the answers, the migration if it is known, what comes of it if the hypervisor looks as QEMU does,
+-- the answers of draws and the ranges over starts if there are any, the shares of the link, and what is enough for the
+-- limit
 abbrev pub outlook_members : ℕ → Outlook → List (List Token)
 outlook_members limit outlook = answer_members limit outlook.agreement outlook.prediction outlook.errors
-    ++ migration_member outlook.prediction outlook.errors ∷ looks_member outlook.looks
+    ++ migration_member outlook.prediction outlook.errors ∷ told_member outlook
     ∷ draws_member outlook.agreement.draws ∷ ranges_member outlook.ranges ∷ share_member outlook.share
     ∷ enough_member (is_sure limit outlook) outlook.remedies ∷ []
 
 -- what was asked, what is predicted, and the same limits for others
 abbrev pub prediction_object : MigrationSettings → TraceScale → Limits → Outlook → List Token
-prediction_object settings scale limits outlook = object_of (asked_members settings scale limits
+prediction_object settings scale limits outlook = object_of
+    (asked_members settings scale limits outlook.prediction.manner
     ++ (outlook_members limits.downtime outlook ++ member_of (codes "hosts") (hosts_object limits) ∷ []))

@@ -1,14 +1,13 @@
 -- What the same migration costs from each of some starts.
-use Rattle.std.specs.Prelude.{◌≡◌, ℕ, ◌≤◌, List, length, map, Option, None, Some}
-use Rattle.migration_model.specs.Sweeps.{SweepLine, AreLines}
+use Rattle.std.specs.Prelude.{◌≡◌, ℕ, ◌≤◌, List, length, Option, None, Some}
 use Rattle.migration_model.specs.Touches.{GuestTouches, last_tick_of}
 use Rattle.migration_model.specs.Windows.{working_sets_of}
-use Rattle.predictions.specs.Starts.Cases.{case_of_line}
+use Rattle.predictions.specs.Starts.Cases.{AreCases}
 use Rattle.predictions.specs.Starts.Choices.{IsBest, IsChosen, is_worse_start, known_of}
 use Rattle.predictions.specs.Starts.Costs.{CostAtStart, costs_at_starts}
 use Rattle.predictions.specs.Starts.{RefusesStarts, cases_from, count_of}
 use Rattle.predictions.specs.Starts.Texts.{starts_text_of}
-use Rattle.predictions.specs.declared.course.Manner.TheVariants as manners
+use Rattle.predictions.specs.declared.measure.Measure.{Measure}
 use Rattle.predictions.specs.declared.starts.error.StartsError.TheVariants as refusals
 use Rattle.predictions.specs.declared.starts.planned.PlannedCase.{PlannedCase}
 use Rattle.predictions.specs.Predictions.{kept_of}
@@ -23,18 +22,20 @@ use Rattle.view_kinds.specs.declared.view.AskedStarts.{AskedStarts}
 use Rattle.view_kinds.specs.declared.view.StartsForm.{StartsForm}
 use Rattle.view_kinds.specs.declared.view.StartsForm.TheVariants as forms
 
+-- by what the migrations are judged
+abbrev pub starts_measure : AskedStarts → Measure
+starts_measure asked = record { scale = asked.scale; limits = asked.limits; manner = asked.manner }
+
 -- what a migration over a log costs from each start, by its own plan, and the best and the worst of the known starts;
 -- the best with its standard errors
 pub record AreStartsOf (log : GuestTouches) (asked : AskedStarts) (costs : List CostAtStart)
     (best worst : Option CostAtStart) : Type 0 where
   pub few : count_of asked.starts (last_tick_of log.touches) ≤ 4_096
-  pub lines : List SweepLine
-  pub are_lines : AreLines log.pages log.touches
-      (cases_from asked.settings asked.starts (last_tick_of log.touches)) lines
   pub cases : List PlannedCase
-  pub cases_are : cases ≡ map case_of_line lines
+  pub are_cases : AreCases asked.manner log.pages log.touches asked.scale
+      (cases_from asked.settings asked.starts (last_tick_of log.touches)) cases
   pub costs_are : costs ≡ costs_at_starts asked.scale asked.limits (last_tick_of log.touches) cases
-  pub best_is : IsBest manners.Rounds log.pages log.touches asked.scale asked.limits cases (length cases) best
+  pub best_is : IsBest asked.manner log.pages log.touches asked.scale asked.limits cases (length cases) best
   pub worst_is : IsChosen (is_worse_start asked.limits.downtime) (known_of costs) worst
 
 -- the starts in some form
@@ -43,7 +44,7 @@ abbrev pub IsStartsText : StartsForm → GuestTouches → AskedStarts → List C
 IsStartsText forms.Table log asked costs best worst text =
     text ≡ starts_text_of asked.scale asked.limits.downtime costs best worst
 IsStartsText forms.Json log asked costs best worst text =
-    text ≡ line_of (starts_object asked.scale asked.limits.downtime costs best worst)
+    text ≡ line_of (starts_object (starts_measure asked) costs best worst)
 IsStartsText forms.Chart log asked costs best worst text = IsStartsChart asked.settings asked.scale asked.limits
     (working_sets_of log.pages log.touches asked.settings) costs best worst text
 

@@ -5,6 +5,7 @@
 mod advice;
 mod advice_writing;
 mod agreement_document;
+mod case_planning;
 mod choosing;
 mod document;
 mod enough;
@@ -16,6 +17,7 @@ mod likely;
 mod looks_document;
 mod numbers;
 mod outlook;
+mod plan_document;
 mod predicting;
 mod prediction_document;
 mod ranges_document;

@@ -1,21 +1,21 @@
 //! What is predicted of a migration over a log of touches.
 
-ghost use Rattle.std.specs.Prelude.{◌≡◌, ◌<◌, ◌^◌, IfErr, IfOk};
+ghost use Rattle.std.specs.Prelude.{◌≡◌, IfErr, IfOk};
 ghost use Rattle.predictions.specs.Looks.{IsForecast};
-ghost use Rattle.trace_views.specs.Outlooks.{AreRangesOver, IsOutlook, trial_of};
+ghost use Rattle.trace_views.specs.Outlooks.{AreRangesOver, IsOutlook, is_cut, measure_of, tells_of, trial_of};
 
+use crate::case_planning::cases_over;
 use crate::error::ViewError;
-use crate::sweeping::planned;
 use guest_log::last_tick;
+use look_planner::PlanEnd;
 use predictions::agreement::Agreement;
 use predictions::looks::LookForecast;
 use predictions::redrawn::Errors;
 use predictions::remedies::{Remedies, Trial};
 use predictions::shares::LinkShare;
-use predictions::starts::{StartRanges, cases_of_lines, ranges_over, spread_cases};
+use predictions::starts::{StartRanges, ranges_over, spread_cases};
 use predictions::{Manner, Measure, Prediction};
 use rate_limit::Settings;
-use round_planner::plan;
 use std::alloc::Global;
 use std::thread::Threads;
 use trace_readers::TouchLog;
@@ -24,7 +24,7 @@ use view_kinds::AskedPrediction;
 /// What is predicted of a migration.
 #[derive(Debug, Drop)]
 pub struct Outlook {
-    /// What its plan predicts.
+    /// What its plan predicts, by the manner that is asked for.
     pub prediction: Prediction,
     /// How far chance moves that, if pages were sampled.
     pub errors: Option<Errors>,
@@ -38,6 +38,37 @@ pub struct Outlook {
     pub share: LinkShare,
     /// What is enough for its limit, and to end within the trace.
     pub remedies: Remedies,
+}
+
+/// Returns whether a forecast is told beside a prediction by a manner.
+fn tells_of(manner: Manner, forecast: &Option<LookForecast>) -> bool
+    ensures { result ≡ tells_of manner forecast.now }
+{
+    match (manner, forecast) {
+        (Manner::Rounds, _) => true,
+        (Manner::Looks, Some(forecast)) => is_cut(forecast),
+        (Manner::Looks, None) => false,
+    }
+}
+
+/// Returns whether the trace ends before a hypervisor's migration.
+fn is_cut(forecast: &LookForecast) -> bool
+    ensures { result ≡ is_cut forecast.now.end }
+{
+    matches!(forecast.end, PlanEnd::Record)
+}
+
+impl Outlook {
+    ghost use Rattle.std.specs.Prelude.{◌≡◌};
+    ghost use Rattle.trace_views.specs.Outlooks.{tells_looks};
+
+    /// Returns whether it is told what comes of it if the hypervisor looks as QEMU does. Beside a prediction by looks
+    /// that would say the same twice, unless the trace ends first.
+    pub(crate) fn tells_looks(&self) -> bool
+        ensures { result ≡ tells_looks self.now }
+    {
+        tells_of(self.prediction.manner, &self.looks)
+    }
 }
 
 /// Returns the ranges of what a migration over a log costs from several starts.
@@ -54,8 +85,7 @@ fn ranges_from<R: Threads + Sync>(
     let last = last_tick(log);
     let starts = spread_cases(alloc, settings, last)?;
     let workers = settings.asked().workers as usize;
-    let lines = planned(rt, alloc, &starts, workers, log)?;
-    let cases = cases_of_lines(alloc, &lines)?;
+    let cases = cases_over(rt, alloc, &starts, measure, workers, log)?;
     Ok(ranges_over(alloc, measure, &cases, last)?)
 }
 
@@ -83,7 +113,18 @@ fn trial_of(asked: &AskedPrediction) -> Trial
         limits: asked.limits,
         increment: asked.increment,
         others: *asked.settings.asked(),
-        manner: Manner::Rounds,
+        manner: asked.manner,
+    }
+}
+
+/// Returns by what the migration that is asked for is judged.
+fn measure_of(asked: &AskedPrediction) -> Measure
+    ensures { result ≡ measure_of asked.now }
+{
+    Measure {
+        scale: asked.scale,
+        limits: asked.limits,
+        manner: asked.manner,
     }
 }
 
@@ -97,17 +138,10 @@ pub(crate) fn outlook_over<R: Threads + Sync>(
     ensures made { IfOk result (IsOutlook log.now asked.now) }
     ensures refused { IfErr result (λ e. e ≡ ViewError.Memory) }
 {
-    let (scale, limits) = (&asked.scale, &asked.limits);
-    let plan = plan(alloc, log, &asked.settings).or(Err(ViewError::Memory))?;
-    let start = asked.settings.asked().start;
-    let prediction = Prediction::new(scale, limits, start, &plan, last_tick(log));
-    let errors = Errors::of_trace(alloc, log, &asked.settings, scale, Manner::Rounds)?;
+    let measure = measure_of(asked);
+    let prediction = Prediction::of_trace(alloc, log, &asked.settings, &measure)?;
+    let errors = Errors::of_trace(alloc, log, &asked.settings, &asked.scale, asked.manner)?;
     let looks = looks_over(alloc, asked, log)?;
-    let measure = Measure {
-        scale: *scale,
-        limits: *limits,
-        manner: Manner::Rounds,
-    };
     let ranges = ranges_from(rt, alloc, &asked.settings, &measure, log)?;
     let agreement = Agreement::of_trace(alloc, log, &asked.settings, &measure)?;
     let trial = trial_of(asked);

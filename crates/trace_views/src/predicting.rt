@@ -3,6 +3,7 @@
 ghost use Rattle.std.specs.Prelude.{◌≡◌, ◌++◌, IfErr, IfOk, OnOk};
 ghost use Rattle.predictions.specs.Agreements.{sure_kept};
 ghost use Rattle.trace_views.specs.PredictionViews.{IsPredictionView, outlook_text, predicted_text, prediction_in};
+ghost use Rattle.trace_views.specs.PredictionViews.{run_text, told_text};
 
 use crate::advice_writing::push_live;
 use crate::enough::{is_sure, push_enough};
@@ -14,12 +15,23 @@ use predictions::looks::push_forecast;
 use predictions::shares::push_share;
 use predictions::starts::push_ranges;
 use predictions::units::Limits;
-use predictions::{Verdict, push_hosts, push_prediction};
+use predictions::{Manner, Verdict, push_hosts, push_prediction};
 use rate_limit::Settings;
 use std::alloc::{AllocError, Global};
 use std::thread::Threads;
 use trace_readers::TouchLog;
 use view_kinds::{AskedPrediction, PredictionForm};
+
+/// Appends what comes of the migration if the hypervisor looks as QEMU does, if that is told.
+fn push_told(text: &mut Vec<u8>, outlook: &Outlook) -> Result<(), AllocError>
+    ensures { OnOk result (text.new.items ≡ text.old.items ++ told_text outlook.now) }
+{
+    if outlook.tells_looks() {
+        push_forecast(text, &outlook.looks)
+    } else {
+        Ok(())
+    }
+}
 
 /// Appends what the migration will be, beside the limit of its downtime, what comes of it if the hypervisor looks as
 /// QEMU does, its ranges over starts, the shares of its link, and what is enough for the limit.
@@ -33,11 +45,21 @@ fn push_outlook(text: &mut Vec<u8>, limit: u64, outlook: &Outlook) -> Result<(),
         ..
     } = outlook;
     push_prediction(text, limit, prediction, errors, agreement)?;
-    push_forecast(text, &outlook.looks)?;
+    push_told(text, outlook)?;
     push_ranges(text, &outlook.ranges)?;
     push_share(text, &outlook.share)?;
     push_enough(text, is_sure(limit, outlook), &outlook.remedies)?;
     Ok(())
+}
+
+/// Appends the words that run a live migration with some settings, if the plan goes by rounds as that does.
+fn push_run(text: &mut Vec<u8>, manner: Manner, settings: &Settings) -> Result<(), AllocError>
+    ensures { OnOk result (text.new.items ≡ text.old.items ++ run_text manner settings.now) }
+{
+    match manner {
+        Manner::Looks => Ok(()),
+        Manner::Rounds => push_live(text, settings),
+    }
 }
 
 /// Returns a prediction as a text: what is predicted, and the words that set the same limits.
@@ -51,7 +73,7 @@ fn predicted(
 {
     let mut text = Vec::new(alloc);
     push_outlook(&mut text, limits.downtime, outlook)?;
-    push_live(&mut text, settings)?;
+    push_run(&mut text, outlook.prediction.manner, settings)?;
     push_hosts(&mut text, limits)?;
     Ok(text)
 }

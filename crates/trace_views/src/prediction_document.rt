@@ -6,7 +6,7 @@ ghost use Rattle.trace_views.specs.Json.{line_of, member_of};
 ghost use Rattle.trace_views.specs.PredictionJson.{answer_members, answers_with, asked_members, base_member};
 ghost use Rattle.trace_views.specs.PredictionJson.{first_member, hosts_object, limits_object, mib_member};
 ghost use Rattle.trace_views.specs.PredictionJson.{migration_member, migration_object, outlook_members};
-ghost use Rattle.trace_views.specs.PredictionJson.{prediction_object, settings_object};
+ghost use Rattle.trace_views.specs.PredictionJson.{prediction_object, settings_object, told_member};
 
 use crate::agreement_document::write_draws;
 use crate::document::Document;
@@ -14,13 +14,14 @@ use crate::enough::is_sure;
 use crate::enough_document::write_enough;
 use crate::looks_document::write_looks;
 use crate::outlook::Outlook;
+use crate::plan_document::write_plan;
 use crate::ranges_document::write_ranges;
 use crate::share_document::write_share;
 use crate::starts_document::{write_cost_numbers, write_errors};
 use crate::sweep_document::{write_scale, write_settings};
 use predictions::redrawn::Errors;
 use predictions::units::{Limits, Scale};
-use predictions::{Prediction, Verdict, link_in_mib, millis_for_pages};
+use predictions::{Manner, Prediction, Verdict, link_in_mib, millis_for_pages};
 use rate_limit::Settings;
 use std::alloc::{AllocError, Global};
 
@@ -104,7 +105,7 @@ fn write_foretold(
 {
     out.begin_object()?;
     out.text_member("why", prediction.ending.word())?;
-    write_cost_numbers(alloc, out, &prediction.cost)?;
+    write_cost_numbers(alloc, out, prediction.manner, &prediction.cost)?;
     out.number_member("left_pages", prediction.left)?;
     write_errors(alloc, out, errors)?;
     out.end_object()?;
@@ -177,15 +178,18 @@ fn write_sure(
     Ok(())
 }
 
-/// Writes what was asked of a migration: what ticks and pages stand for, its limits, and the settings that these make.
+/// Writes what was asked of a migration: what ticks and pages stand for, its limits, the settings that these make, and
+/// by whose plan it goes.
 fn write_asked(
     alloc: Global,
     out: &mut Document,
     settings: &Settings,
     scale: &Scale,
     limits: &Limits,
+    manner: Manner,
 ) -> Result<(), AllocError>
-    ensures { OnOk result (out.new ≡ out.old ++ flat_map (λ m. m) (asked_members settings.now scale.now limits.now)) }
+    ensures { OnOk result (out.new ≡ out.old
+        ++ flat_map (λ m. m) (asked_members settings.now scale.now limits.now manner)) }
 {
     out.key("units")?;
     write_scale(alloc, out, scale)?;
@@ -193,12 +197,24 @@ fn write_asked(
     write_limits(alloc, out, limits)?;
     out.key("settings")?;
     write_plan_settings(out, settings)?;
+    write_plan(out, manner)?;
     Ok(())
 }
 
+/// Writes what comes of a migration if the hypervisor looks as QEMU does, if that is told, as a member.
+fn write_told(alloc: Global, out: &mut Document, outlook: &Outlook) -> Result<(), AllocError>
+    ensures { OnOk result (out.new ≡ out.old ++ told_member outlook.now) }
+{
+    if outlook.tells_looks() {
+        write_looks(alloc, out, &outlook.looks)
+    } else {
+        Ok(())
+    }
+}
+
 /// Writes what is predicted: the answers, the migration if the trace does not end before it, what comes of it if the
-/// hypervisor looks as QEMU does, the answers of draws and the ranges over starts if there are any, the shares of the
-/// link, and what is enough for the limit, as members.
+/// hypervisor looks as QEMU does if that is told, the answers of draws and the ranges over starts if there are any, the
+/// shares of the link, and what is enough for the limit, as members.
 fn write_outlook(
     alloc: Global,
     out: &mut Document,
@@ -209,7 +225,7 @@ fn write_outlook(
 {
     write_sure(alloc, out, limit, outlook)?;
     write_migration(alloc, out, &outlook.prediction, &outlook.errors)?;
-    write_looks(alloc, out, &outlook.looks)?;
+    write_told(alloc, out, outlook)?;
     write_draws(out, &outlook.agreement.draws)?;
     write_ranges(alloc, out, &outlook.ranges)?;
     write_share(out, &outlook.share)?;
@@ -231,7 +247,8 @@ fn write_prediction(
         ++ prediction_object settings.now scale.now limits.now outlook.now) }
 {
     out.begin_object()?;
-    write_asked(alloc, out, settings, scale, limits)?;
+    let prediction = &outlook.prediction;
+    write_asked(alloc, out, settings, scale, limits, prediction.manner)?;
     write_outlook(alloc, out, limits.downtime, outlook)?;
     out.key("hosts")?;
     write_hosts(out, limits)?;
@@ -240,8 +257,8 @@ fn write_prediction(
 }
 
 /// Returns a prediction as a JSON document, in one line: what was asked, the answers, the migration if the trace does
-/// not end before it, the answers of draws, the ranges over starts, the shares of the link, what is enough for the
-/// limit, and the same limits for QEMU and libvirt.
+/// not end before it, what comes of it if the hypervisor looks as QEMU does if that is told, the answers of draws, the
+/// ranges over starts, the shares of the link, what is enough for the limit, and the same limits for QEMU and libvirt.
 pub fn json_prediction(
     alloc: Global,
     settings: &Settings,

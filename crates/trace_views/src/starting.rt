@@ -6,17 +6,17 @@ ghost use Rattle.migration_model.specs.Touches.{last_tick_of};
 ghost use Rattle.predictions.specs.Starts.{AreAccepted};
 ghost use Rattle.report_pictures.specs.StartCharts.{IsStartsChart};
 ghost use Rattle.trace_views.specs.StartViews.{AreStartsOf, IsStartsText, IsStartsView, RefusesStartsView};
-ghost use Rattle.trace_views.specs.StartViews.{kept_from};
+ghost use Rattle.trace_views.specs.StartViews.{kept_from, starts_measure};
 
+use crate::case_planning::cases_over;
 use crate::error::ViewError;
 use crate::shown_text::ViewText;
 use crate::starts_document::json_starts;
-use crate::sweeping::planned;
 use guest_log::last_tick;
 use predictions::starts::{
-    StartCost, best_start, cases_of_lines, known_starts, start_costs, starts_text, worst_start,
+    StartCost, best_start, known_starts, start_costs, starts_text, worst_start,
 };
-use predictions::{Manner, Measure, Verdict};
+use predictions::{Measure, Verdict};
 use report_pictures::{Chosen, starts_chart};
 use std::alloc::Global;
 use std::thread::Threads;
@@ -42,6 +42,17 @@ fn kept_by(best: &Option<StartCost>) -> Verdict
     }
 }
 
+/// Returns by what the migrations of some starts are judged.
+fn measure_of(asked: &AskedStarts) -> Measure
+    ensures { result ≡ starts_measure asked.now }
+{
+    Measure {
+        scale: asked.scale,
+        limits: asked.limits,
+        manner: asked.manner,
+    }
+}
+
 /// Returns what a migration over a log costs from each start.
 fn starts_found<R: Threads + Sync>(
     rt: &R,
@@ -56,13 +67,8 @@ fn starts_found<R: Threads + Sync>(
     let last = last_tick(log);
     let starts = asked.starts.cases(alloc, &asked.settings, last)?;
     let workers = asked.settings.asked().workers as usize;
-    let lines = planned(rt, alloc, &starts, workers, log)?;
-    let cases = cases_of_lines(alloc, &lines)?;
-    let measure = Measure {
-        scale: asked.scale,
-        limits: asked.limits,
-        manner: Manner::Rounds,
-    };
+    let measure = measure_of(asked);
+    let cases = cases_over(rt, alloc, &starts, &measure, workers, log)?;
     let costs = start_costs(alloc, &measure, &cases, last)?;
     let known = known_starts(alloc, &costs)?;
     let best = best_start(alloc, log, &measure, &cases)?;
@@ -120,7 +126,7 @@ fn formed(
     let limit = asked.limits.downtime;
     match asked.form {
         StartsForm::Table => Ok(starts_text(alloc, scale, limit, costs, best, worst)?),
-        StartsForm::Json => Ok(json_starts(alloc, scale, limit, costs, best, worst)?),
+        StartsForm::Json => Ok(json_starts(alloc, &measure_of(asked), costs, best, worst)?),
         StartsForm::Chart => chart(alloc, asked, found, log),
     }
 }

@@ -7,21 +7,22 @@ ghost use Rattle.trace_views.specs.StartsJson.{chosen_member, cost_members, cost
 ghost use Rattle.trace_views.specs.StartsJson.{errors_object, start_object, starts_object};
 
 use crate::document::Document;
-use predictions::Cost;
+use crate::plan_document::{write_plan, write_steps};
 use predictions::redrawn::Errors;
 use predictions::starts::StartCost;
-use predictions::units::Scale;
+use predictions::{Cost, Manner, Measure};
 use std::alloc::{AllocError, Global};
 
-/// Writes what a migration costs as members.
+/// Writes what a migration costs by a manner as members.
 pub(crate) fn write_cost_numbers(
     alloc: Global,
     out: &mut Document,
+    manner: Manner,
     cost: &Cost,
 ) -> Result<(), AllocError>
-    ensures { OnOk result (out.new ≡ out.old ++ flat_map (λ m. m) (cost_numbers cost.now)) }
+    ensures { OnOk result (out.new ≡ out.old ++ flat_map (λ m. m) (cost_numbers manner cost.now)) }
 {
-    out.number_member("rounds", cost.steps)?;
+    write_steps(out, manner, cost.steps)?;
     out.seconds_member(alloc, "time_seconds", cost.time)?;
     out.wide_member("sent_bytes", cost.bytes)?;
     out.seconds_member(alloc, "down_seconds", cost.downtime)?;
@@ -29,10 +30,15 @@ pub(crate) fn write_cost_numbers(
 }
 
 /// Writes what a migration costs, and whether the limit is kept, as members.
-fn write_cost(alloc: Global, out: &mut Document, cost: &Cost) -> Result<(), AllocError>
-    ensures { OnOk result (out.new ≡ out.old ++ flat_map (λ m. m) (cost_members cost.now)) }
+fn write_cost(
+    alloc: Global,
+    out: &mut Document,
+    manner: Manner,
+    cost: &Cost,
+) -> Result<(), AllocError>
+    ensures { OnOk result (out.new ≡ out.old ++ flat_map (λ m. m) (cost_members manner cost.now)) }
 {
-    write_cost_numbers(alloc, out, cost)?;
+    write_cost_numbers(alloc, out, manner, cost)?;
     out.text_member("kept", cost.kept().word())?;
     Ok(())
 }
@@ -70,15 +76,15 @@ pub(crate) fn write_errors(
 fn write_start(
     alloc: Global,
     out: &mut Document,
-    scale: &Scale,
+    measure: &Measure,
     at: &StartCost,
 ) -> Result<(), AllocError>
-    ensures { OnOk result (out.new ≡ out.old ++ start_object scale.now at.now) }
+    ensures { OnOk result (out.new ≡ out.old ++ start_object measure.now at.now) }
 {
     out.begin_object()?;
     out.number_member("start", at.start)?;
-    out.seconds_member(alloc, "start_seconds", scale.micros(at.start))?;
-    write_cost(alloc, out, &at.cost)?;
+    out.seconds_member(alloc, "start_seconds", measure.scale.micros(at.start))?;
+    write_cost(alloc, out, measure.manner, &at.cost)?;
     write_errors(alloc, out, &at.errors)?;
     out.end_object()?;
     Ok(())
@@ -88,13 +94,13 @@ fn write_start(
 fn write_starts(
     alloc: Global,
     out: &mut Document,
-    scale: &Scale,
+    measure: &Measure,
     costs: &[StartCost],
 ) -> Result<(), AllocError>
-    ensures { OnOk result (out.new ≡ out.old ++ flat_map (start_object scale.now) costs.now) }
+    ensures { OnOk result (out.new ≡ out.old ++ flat_map (start_object measure.now) costs.now) }
 {
     for at in costs {
-        write_start(alloc, out, scale, at)?;
+        write_start(alloc, out, measure, at)?;
     }
     Ok(())
 }
@@ -103,16 +109,16 @@ fn write_starts(
 fn write_chosen(
     alloc: Global,
     out: &mut Document,
-    scale: &Scale,
+    measure: &Measure,
     name: &str,
     chosen: &Option<StartCost>,
 ) -> Result<(), AllocError>
-    ensures { OnOk result (out.new ≡ out.old ++ chosen_member scale.now name.now chosen.now) }
+    ensures { OnOk result (out.new ≡ out.old ++ chosen_member measure.now name.now chosen.now) }
 {
     match chosen {
         Some(at) => {
             out.key(name)?;
-            write_start(alloc, out, scale, at)
+            write_start(alloc, out, measure, at)
         }
         None => Ok(()),
     }
@@ -122,39 +128,39 @@ fn write_chosen(
 fn write_facts(
     alloc: Global,
     out: &mut Document,
-    scale: &Scale,
-    limit: u64,
+    measure: &Measure,
     costs: &[StartCost],
     best: &Option<StartCost>,
     worst: &Option<StartCost>,
 ) -> Result<(), AllocError>
-    ensures { OnOk result (out.new ≡ out.old ++ starts_object scale.now limit costs.now best.now worst.now) }
+    ensures { OnOk result (out.new ≡ out.old ++ starts_object measure.now costs.now best.now worst.now) }
 {
     out.begin_object()?;
-    out.seconds_member(alloc, "limit_seconds", limit as u128)?;
+    out.seconds_member(alloc, "limit_seconds", measure.limits.downtime as u128)?;
+    write_plan(out, measure.manner)?;
     out.key("starts")?;
     out.begin_array()?;
-    write_starts(alloc, out, scale, costs)?;
+    write_starts(alloc, out, measure, costs)?;
     out.end_array()?;
-    write_chosen(alloc, out, scale, "best", best)?;
-    write_chosen(alloc, out, scale, "worst", worst)?;
+    write_chosen(alloc, out, measure, "best", best)?;
+    write_chosen(alloc, out, measure, "worst", worst)?;
     out.end_object()?;
     Ok(())
 }
 
-/// Returns the costs of starts as a JSON document, in one line: the limit, each start, and the best and the worst.
+/// Returns the costs of starts as a JSON document, in one line: the limit, by whose plan the migrations go, each start,
+/// and the best and the worst.
 pub fn json_starts(
     alloc: Global,
-    scale: &Scale,
-    limit: u64,
+    measure: &Measure,
     costs: &[StartCost],
     best: &Option<StartCost>,
     worst: &Option<StartCost>,
 ) -> Result<Vec<u8>, AllocError>
     ensures { IfOk result (λ text. text.items
-        ≡ line_of (starts_object scale.now limit costs.now best.now worst.now)) }
+        ≡ line_of (starts_object measure.now costs.now best.now worst.now)) }
 {
     let mut out = Document::new(alloc);
-    write_facts(alloc, &mut out, scale, limit, costs, best, worst)?;
+    write_facts(alloc, &mut out, measure, costs, best, worst)?;
     out.into_line()
 }

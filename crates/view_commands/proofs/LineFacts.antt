@@ -9,8 +9,8 @@ use Rattle.clap.specs.declared.builder.command.Command.TheViews.{out-Command as 
 use Rattle.job_commands.specs.Commands.{case_rule, flag_rule, leaf, report_rules, sweep_rules}
 use Rattle.job_commands.proofs.HelpLemmas.{AreNamed}
 use Rattle.view_commands.specs.Units.{scale_rules, unit_rules}
-use Rattle.view_commands.specs.Commands.{IsCommand, IsDocument, budget_rules, json_line, start_rules, style_rules}
-use Rattle.view_commands.specs.Commands.{view_line}
+use Rattle.view_commands.specs.Commands.{IsCommand, IsDocument, budget_rules, json_line, prediction_rules}
+use Rattle.view_commands.specs.Commands.{start_rules, style_rules, view_line}
 
 -- a command line of this name, before it has any command
 abbrev pub bare : Text → App
@@ -36,7 +36,7 @@ after_bin_name old new app name was is = ap app_of_fields is ∙ was
 
 pub view_line_is : with_subcommand (with_subcommand (with_subcommand
     (with_subcommand (with_subcommand (with_subcommand (requiring (versioned (bare (codes "precopy-view"))))
-    (leaf (codes "predict") (report_rules ++ unit_rules))) (leaf (codes "when")
+    (leaf (codes "predict") prediction_rules)) (leaf (codes "when")
     (start_rules ++ flag_rule (codes "chart") ∷ []))) (leaf (codes "json") []))
     (leaf (codes "advise") budget_rules)) (leaf (codes "show") style_rules))
     (leaf (codes "chart") (report_rules ++ unit_rules)) ≡ view_line
@@ -46,7 +46,7 @@ view_line_is = refl
 pub json_line_is : with_subcommand (with_subcommand (with_subcommand
     (with_subcommand (requiring (bare (codes "json"))) (leaf (codes "report") (report_rules ++ unit_rules)))
     (leaf (codes "sweep") ((sweep_rules ++ case_rule ∷ []) ++ scale_rules)))
-    (leaf (codes "predict") (report_rules ++ unit_rules))) (leaf (codes "when") start_rules)
+    (leaf (codes "predict") prediction_rules)) (leaf (codes "when") start_rules)
     ≡ json_line
 unfolding json_line
 json_line_is = refl

@@ -6,6 +6,10 @@ use Rattle.clap.specs.Walk.{Rule, Text}
 use Rattle.job_commands.specs.Commands.{case_rule, flag_rule, leaf, number_rule, report_rules, sweep_rules}
 use Rattle.view_commands.specs.Units.{scale_rules, unit_rules}
 
+-- the options of a prediction: those of a report, and whether it goes by Clark's rounds
+abbrev pub prediction_rules : List Rule
+prediction_rules = report_rules ++ flag_rule (codes "clark") ∷ unit_rules
+
 -- the option of the first start, which replaces `start`
 abbrev pub from_rule : Rule
 from_rule = record (number_rule (codes "start")) { long = Some (codes "from") }
@@ -14,7 +18,7 @@ from_rule = record (number_rule (codes "start")) { long = Some (codes "from") }
 abbrev pub start_rules : List Rule
 start_rules = from_rule ∷ number_rule (codes "to") ∷ number_rule (codes "every") ∷ number_rule (codes "inc")
     ∷ number_rule (codes "rounds") ∷ number_rule (codes "base") ∷ number_rule (codes "window")
-    ∷ number_rule (codes "workers") ∷ flag_rule (codes "skip") ∷ unit_rules
+    ∷ number_rule (codes "workers") ∷ flag_rule (codes "skip") ∷ flag_rule (codes "clark") ∷ unit_rules
 
 -- the options of advice
 abbrev pub budget_rules : List Rule
@@ -29,7 +33,7 @@ style_rules = report_rules ++ number_rule (codes "width") ∷ flag_rule (codes "
 unfoldable pub view_line : App
 view_line = record {
   top = record (new_shape (codes "precopy-view")) { is_leaf = false; has_version = true; subcommand_required = true };
-  subs = leaf (codes "predict") (report_rules ++ unit_rules) ∷ leaf
+  subs = leaf (codes "predict") prediction_rules ∷ leaf
       (codes "when") (start_rules ++ flag_rule (codes "chart") ∷ [])
       ∷ leaf (codes "json") [] ∷ leaf (codes "advise") budget_rules ∷ leaf (codes "show") style_rules ∷ leaf
       (codes "chart") (report_rules ++ unit_rules) ∷ [];
@@ -41,7 +45,7 @@ json_line = record {
   top = record (new_shape (codes "json")) { is_leaf = false; subcommand_required = true };
   subs = leaf (codes "report") (report_rules ++ unit_rules) ∷ leaf
       (codes "sweep") ((sweep_rules ++ case_rule ∷ []) ++ scale_rules)
-      ∷ leaf (codes "predict") (report_rules ++ unit_rules) ∷ leaf (codes "when") start_rules ∷ [];
+      ∷ leaf (codes "predict") prediction_rules ∷ leaf (codes "when") start_rules ∷ [];
 }
 
 -- the words from `json` on, if it follows the program's name

@@ -6,6 +6,7 @@ pub mod Measures
 pub mod Advice
 pub mod Commands
 pub mod Lacks
+pub mod Manners
 pub mod Starts
 pub mod Styles
 pub mod Usage

@@ -11,9 +11,8 @@ use Rattle.predictions.specs.declared.starts.cases.Starts.{Starts}
 use Rattle.view_kinds.specs.declared.view.AskedStarts.{AskedStarts}
 use Rattle.view_kinds.specs.declared.view.StartsForm.{StartsForm}
 use Rattle.view_kinds.specs.declared.view.StartsForm.TheVariants as forms
-use Rattle.view_commands.specs.Measures.{AsksForMeasure, RefusesMeasure}
-use Rattle.view_commands.specs.declared.limits.LimitsRefusal.TheVariants as refused
-use Rattle.view_commands.specs.Lacks.{LacksLimits}
+use Rattle.predictions.specs.declared.course.Manner.{Manner}
+use Rattle.view_commands.specs.Manners.{AsksForMigration, RefusesMigration}
 use Rattle.view_commands.specs.declared.command.ViewWordsError.{ViewWordsError}
 use Rattle.view_commands.specs.declared.command.ViewWordsError.TheVariants as asked
 
@@ -46,26 +45,28 @@ AsksForForm rows forms.Json = ⊥
 
 -- the options ask for starts of a migration with limits, in this form
 pub record AsksForStarts (rows : List Row) (form : StartsForm) (asked : AskedStarts) : Type 0 where
-  pub measured : AsksForMeasure rows asked.settings (Some asked.scale) (Some asked.limits)
+  pub migration : AsksForMigration rows asked.settings asked.scale asked.limits asked.manner
   pub ticks : AsksForTicks rows asked.settings.start asked.starts
   pub form_is : asked.form ≡ form
 
--- the options make settings whose starts are out of range
+-- the options ask for a migration, but for starts that are out of range
 pub record RefusesTicks (rows : List Row) : Type 0 where
   pub settings : MigrationSettings
-  pub scale : Option TraceScale
-  pub limits : Option Limits
-  pub measured : AsksForMeasure rows settings scale limits
+  pub scale : TraceScale
+  pub limits : Limits
+  pub manner : Manner
+  pub migration : AsksForMigration rows settings scale limits manner
   pub refused : AreTicksRefused rows settings.start
 
 -- what is told of starts that are out of range
 abbrev pub ticks_text : List ℕ
 ticks_text = codes "error: --every is at least 1, and --to is not before --from and below 2^40\n"
 
--- The options of starts are refused for this. Memory can run out only for the text on starts that are out of range.
+-- The options of starts are refused for this: first for those of the migration, and then for starts that are out of
+-- range. Memory can run out only for the text on these.
 abbrev pub RefusesStarts : List Row → ViewWordsError → Type 0
 RefusesStarts rows (asked.Words errors.Memory) = RefusesTicks rows
 RefusesStarts rows (asked.Words (errors.Usage text)) = RefusesTicks rows × (string_bytes text ≡ ticks_text)
 RefusesStarts rows (asked.Words (errors.Help text)) = ⊥
 RefusesStarts rows (asked.Words (errors.Refused refusal)) = ⊥
-RefusesStarts rows (asked.Limits e) = RefusesMeasure rows e ⊎ ((e ≡ refused.Missing) × LacksLimits rows)
+RefusesStarts rows (asked.Limits e) = RefusesMigration rows e

@@ -100,6 +100,7 @@ RefusesWord rows refusals.First = IsNo IsRate rows (codes "first")
 RefusesWord rows refusals.Sampled = IsNoSample rows
 RefusesWord rows refusals.Incomplete = ⊥
 RefusesWord rows refusals.Missing = ⊥
+RefusesWord rows refusals.NeedsClark = ⊥
 RefusesWord rows refusals.Mixed = ⊥
 RefusesWord rows refusals.NoBudget = ⊥
 RefusesWord rows refusals.TwoBudgets = ⊥

@@ -18,10 +18,9 @@ use Rattle.view_kinds.specs.declared.view.StartsForm.TheVariants as forms
 use Rattle.view_kinds.specs.declared.view.View.{View}
 use Rattle.view_kinds.specs.declared.view.View.TheVariants as views
 use Rattle.view_commands.specs.Measures.{AsksForMeasure, AsksForScale, RefusesMeasure, RefusesScaleWords}
-use Rattle.view_commands.specs.declared.limits.LimitsRefusal.TheVariants as refused
 use Rattle.view_commands.specs.Advice.{AsksForAdvice, RefusesAdvice}
 use Rattle.view_commands.specs.Commands.{json_line, json_words, view_line}
-use Rattle.view_commands.specs.Lacks.{LacksLimits}
+use Rattle.view_commands.specs.Manners.{AsksForMigration, RefusesMigration}
 use Rattle.view_commands.specs.Starts.{AsksForForm, AsksForStarts, RefusesStarts}
 use Rattle.view_commands.specs.Styles.{AsksForStyle, IsWidthRefused}
 use Rattle.view_commands.specs.Usage.{IsUsage}
@@ -35,7 +34,7 @@ AsksToMeasure rows settings scale = (limits : Option Limits) × AsksForMeasure r
 
 -- the options ask for a prediction of a migration with limits, in this form
 pub record AsksForPrediction (rows : List Row) (form : PredictionForm) (asked : AskedPrediction) : Type 0 where
-  pub measured : AsksForMeasure rows asked.settings (Some asked.scale) (Some asked.limits)
+  pub migration : AsksForMigration rows asked.settings asked.scale asked.limits asked.manner
   pub increment : Says rows (codes "inc") asked.increment
   pub form_is : asked.form ≡ form
 
@@ -81,13 +80,10 @@ abbrev pub RefusesSettings : List Row → ViewWordsError → Type 0
 RefusesSettings rows (asked.Words e) = ⊥
 RefusesSettings rows (asked.Limits e) = RefusesMeasure rows e
 
--- no limits are given, though a prediction needs them
-abbrev pub AreMissing : List Row → ViewWordsError → Type 0
-AreMissing rows e = (e ≡ asked.Limits refused.Missing) × LacksLimits rows
-
 -- the options of a prediction are refused for this
 abbrev pub RefusesPrediction : List Row → ViewWordsError → Type 0
-RefusesPrediction rows e = RefusesSettings rows e ⊎ AreMissing rows e
+RefusesPrediction rows (asked.Words e) = ⊥
+RefusesPrediction rows (asked.Limits e) = RefusesMigration rows e
 
 -- the document of a sweep fails for its cases or its scale
 abbrev pub RefusesSweepWords : List Row → ViewWordsError → Type 0

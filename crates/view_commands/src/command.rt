@@ -9,7 +9,8 @@ ghost use Rattle.view_commands.specs.Units.{scale_rules, unit_rules};
 ghost use Rattle.view_commands.specs.Styles.{IsWidthRefused};
 ghost use Rattle.view_commands.specs.Views.{IsOutOfMemory};
 ghost use Rattle.job_commands.specs.declared.command.WordsError.TheVariants.{Memory};
-ghost use Rattle.view_commands.specs.Commands.{IsCommand, IsDocument, json_line, json_words, start_rules, view_line};
+ghost use Rattle.view_commands.specs.Commands.{IsCommand, IsDocument, json_line, json_words, prediction_rules};
+ghost use Rattle.view_commands.specs.Commands.{start_rules, view_line};
 ghost use Rattle.view_commands.specs.Starts.{RefusesStarts};
 ghost use Rattle.view_commands.specs.Usage.{IsUsage};
 ghost use Rattle.view_commands.specs.Views.{AsksForDocument, AsksForPrediction, AsksForView, FailsOn, Names};
@@ -20,6 +21,7 @@ ghost use Rattle.view_commands.specs.declared.command.ViewWordsError.TheVariants
 
 use crate::advice::advice_of;
 use crate::limits::{LimitsRefusal, with_scale, with_units};
+use crate::manners::{migration_of, with_clark};
 use crate::measures::{Measure, measure_of, scale_said};
 use crate::options::{style_of, with_budget, with_style};
 use crate::starts::{form_of, starts_of, with_chart, with_starts};
@@ -95,6 +97,15 @@ fn with_either<'a>(alloc: Global, command: Command<'a>) -> Result<Command<'a>, A
     with_units(alloc, command)
 }
 
+/// Returns the command with the options of a prediction.
+fn with_prediction<'a>(alloc: Global, command: Command<'a>) -> Result<Command<'a>, AllocError>
+    ensures { IfOk result (λ new. AddsRules command.entry prediction_rules new) }
+{
+    let command = with_report(alloc, command)?;
+    let command = with_clark(alloc, command)?;
+    with_units(alloc, command)
+}
+
 /// Returns the command with the cases of a sweep, and with the options of what ticks and pages stand for.
 fn with_scaled_cases<'a>(alloc: Global, command: Command<'a>) -> Result<Command<'a>, AllocError>
     ensures { IfOk result (λ new. AddsRules command.entry ((sweep_rules ++ case_rule ∷ []) ++ scale_rules) new) }
@@ -120,7 +131,7 @@ fn json_commands<'a>(alloc: Global) -> Result<Command<'a>, AllocError>
     .subcommand_required(true)
     .subcommand(with_either(alloc, leaf_command(alloc, "report", report))?)?
     .subcommand(with_scaled_cases(alloc, leaf_command(alloc, "sweep", sweep))?)?
-    .subcommand(with_either(alloc, leaf_command(alloc, "predict", predict))?)?
+    .subcommand(with_prediction(alloc, leaf_command(alloc, "predict", predict))?)?
     .subcommand(with_starts(alloc, leaf_command(alloc, "when", when))?)
 }
 
@@ -165,7 +176,7 @@ fn commands<'a>(alloc: Global) -> Result<Command<'a>, AllocError>
     .version(VERSION)
     .after_help(PAGE)
     .subcommand_required(true)
-    .subcommand(with_either(alloc, leaf_command(alloc, "predict", predict))?)?
+    .subcommand(with_prediction(alloc, leaf_command(alloc, "predict", predict))?)?
     .subcommand(when_command(alloc)?)?
     .subcommand(json_command(alloc))?
     .subcommand(with_budget(alloc, leaf_command(alloc, "advise", advise))?)?
@@ -285,7 +296,7 @@ pub(crate) fn limited(measure: &Measure) -> Option<(Scale, Limits)>
     Some((scale, limits))
 }
 
-/// Returns the prediction that options ask for, in this form. It needs limits.
+/// Returns the prediction that options ask for, in this form.
 fn prediction_of(
     options: &ArgMatches,
     form: PredictionForm,
@@ -293,17 +304,15 @@ fn prediction_of(
     ensures made { IfOk result (AsksForPrediction (rows_of (found_of options.now)) form) }
     ensures refused { IfErr result (RefusesPrediction (rows_of (found_of options.now))) }
 {
-    let measure = measure_of(options)?;
-    match limited(&measure) {
-        Some((scale, limits)) => Ok(AskedPrediction {
-            settings: measure.settings,
-            increment: number_given(options, "inc"),
-            scale,
-            limits,
-            form,
-        }),
-        None => Err(ViewWordsError::Limits(LimitsRefusal::Missing)),
-    }
+    let migration = migration_of(options)?;
+    Ok(AskedPrediction {
+        settings: migration.settings,
+        increment: number_given(options, "inc"),
+        scale: migration.scale,
+        limits: migration.limits,
+        manner: migration.manner,
+        form,
+    })
 }
 
 /// Returns the view of a prediction.

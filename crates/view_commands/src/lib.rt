@@ -7,6 +7,7 @@ mod advice;
 mod command;
 mod decimals;
 mod limits;
+mod manners;
 mod measures;
 mod nearest;
 mod options;

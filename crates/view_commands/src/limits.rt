@@ -47,6 +47,9 @@ pub enum LimitsRefusal {
     /// There are no limits, though they are needed.
     #[error("--link and --downtime are needed, as in --link 10Gbit --downtime 300ms")]
     Missing,
+    /// There are options of Clark's rounds without the flag for these.
+    #[error("--first, --inc, --rounds and --skip are of Clark's rounds, and need --clark")]
+    NeedsClark,
     /// There are rates or a threshold in both kinds of words.
     #[error("--min, --max and --threshold cannot be used with --link and --downtime")]
     Mixed,
@@ -184,7 +187,7 @@ fn word_of<'a>(options: &ArgMatches<'a>, name: &str) -> Option<&'a str>
 }
 
 /// Returns whether an option has a word.
-fn has_word(options: &ArgMatches, name: &str) -> bool
+pub(crate) fn has_word(options: &ArgMatches, name: &str) -> bool
     ensures none { result ≡ false → first_of name.now (rows_of (found_of options.now)) ≡ None }
     ensures some { result ≡ true → first_of name.now (rows_of (found_of options.now)) ≢ None }
 {

@@ -3,17 +3,16 @@
 ghost use Rattle.std.specs.Prelude.{[], ◌∷◌, ◌≡◌, IfErr, IfNone, IfOk, IfSome, Some, codes, false};
 ghost use Rattle.clap.specs.Words.{found_of, rows_of, rule_of};
 ghost use Rattle.job_commands.specs.Commands.{AddsRules, flag_rule};
-ghost use Rattle.view_commands.specs.Measures.{AsksForMeasure};
+ghost use Rattle.view_commands.specs.Manners.{AsksForMigration};
 ghost use Rattle.view_commands.specs.Commands.{from_rule, start_rules};
 ghost use Rattle.view_commands.specs.Starts.{AreTicksRefused, AsksForForm, AsksForStarts, AsksForTicks, RefusesStarts};
 
-use crate::command::{ViewWordsError, limited, usage};
-use crate::limits::{LimitsRefusal, with_units};
-use crate::measures::{Measure, measure_of};
+use crate::command::{ViewWordsError, usage};
+use crate::limits::with_units;
+use crate::manners::{Migration, migration_of, with_clark};
 use clap::{Arg, ArgAction, ArgMatches, Command};
 use job_commands::{Number, flag, is_flag, number_given, with_numbers};
 use predictions::starts::Starts;
-use predictions::units::{Limits, Scale};
 use std::alloc::{AllocError, Global};
 use view_kinds::{AskedStarts, StartsForm};
 
@@ -70,6 +69,7 @@ pub(crate) fn with_starts<'a>(
         "skip",
         "Skip pages that are written again while a round sends its pages",
     ))?;
+    let command = with_clark(alloc, command)?;
     with_units(alloc, command)
 }
 
@@ -109,24 +109,24 @@ fn ticks_of(options: &ArgMatches, from: u64) -> Option<Starts>
 const OUT_OF_RANGE: &str =
     "error: --every is at least 1, and --to is not before --from and below 2^40\n";
 
-/// Returns the starts that the options ask for, of a migration with these limits.
+/// Returns the starts that the options ask for, of this migration.
 fn starts_with(
     alloc: Global,
     options: &ArgMatches,
-    measure: &Measure,
-    both: (Scale, Limits),
+    migration: &Migration,
     form: StartsForm,
 ) -> Result<AskedStarts, ViewWordsError>
-    requires { AsksForMeasure (rows_of (found_of options.now)) measure.now.settings (Some both.0) (Some both.1) }
+    requires { AsksForMigration (rows_of (found_of options.now)) migration.now.settings migration.now.scale
+        migration.now.limits migration.now.manner }
     ensures made { IfOk result (AsksForStarts (rows_of (found_of options.now)) form) }
     ensures refused { IfErr result (RefusesStarts (rows_of (found_of options.now))) }
 {
-    let (scale, limits) = both;
-    match ticks_of(options, measure.settings.asked().start) {
+    match ticks_of(options, migration.settings.asked().start) {
         Some(starts) => Ok(AskedStarts {
-            settings: measure.settings,
-            scale,
-            limits,
+            settings: migration.settings,
+            scale: migration.scale,
+            limits: migration.limits,
+            manner: migration.manner,
             starts,
             form,
         }),
@@ -134,7 +134,7 @@ fn starts_with(
     }
 }
 
-/// Returns the starts that the options ask for, in this form. They need limits.
+/// Returns the starts that the options ask for, in this form.
 pub(crate) fn starts_of(
     alloc: Global,
     options: &ArgMatches,
@@ -143,9 +143,6 @@ pub(crate) fn starts_of(
     ensures made { IfOk result (AsksForStarts (rows_of (found_of options.now)) form) }
     ensures refused { IfErr result (RefusesStarts (rows_of (found_of options.now))) }
 {
-    let measure = measure_of(options)?;
-    match limited(&measure) {
-        Some(both) => starts_with(alloc, options, &measure, both, form),
-        None => Err(ViewWordsError::Limits(LimitsRefusal::Missing)),
-    }
+    let migration = migration_of(options)?;
+    starts_with(alloc, options, &migration, form)
 }

@@ -2,6 +2,7 @@
 
 use crate::budget::Budget;
 use crate::style::Style;
+use predictions::Manner;
 use predictions::starts::Starts;
 use predictions::units::{Limits, Scale};
 use rate_limit::Settings;
@@ -26,6 +27,8 @@ pub struct AskedStarts {
     pub scale: Scale,
     /// What the migration may take.
     pub limits: Limits,
+    /// By whose plan it goes.
+    pub manner: Manner,
     /// The ticks at which it begins.
     pub starts: Starts,
     /// How the starts are shown.
@@ -52,6 +55,8 @@ pub struct AskedPrediction {
     pub scale: Scale,
     /// What the migration may take.
     pub limits: Limits,
+    /// By whose plan it goes.
+    pub manner: Manner,
     /// How the prediction is written.
     pub form: PredictionForm,
 }

@@ -5,8 +5,8 @@ It shares no code with the crate. The numbers in the crate's tests come from her
 
 from typing import NamedTuple
 
-from precopy_dev.models.courses import Course, Record, errors
-from precopy_dev.models.remedies import Trial, course, downtime, settings
+from precopy_dev.models.courses import Course, Manner, Record, errors
+from precopy_dev.models.remedies import Trial, course, downtime, is_kept, settings
 
 
 class Counts(NamedTuple):
@@ -28,7 +28,7 @@ class Agreement(NamedTuple):
 def counts(record: Record, trial: Trial, plans: list[Course]) -> Counts:
     known = [plan for plan in plans if plan.stop <= record.last]
     converging = [plan for plan in known if plan.ending == "few"]
-    kept = [plan for plan in known if downtime(trial, plan) <= trial.limits.downtime]
+    kept = [plan for plan in known if is_kept(trial, plan)]
     return Counts(len(plans), len(known), len(converging), len(kept))
 
 
@@ -77,13 +77,16 @@ def converges(guest: list[list[int]], trial: Trial, found: Agreement) -> str:
 
 
 def kept(guest: list[list[int]], trial: Trial, found: Agreement) -> str:
-    """A limit is kept for sure with two standard errors of the downtime."""
+    """A limit is kept for sure with two standard errors of the downtime, if the plan goes by rounds. A hypervisor stops
+    the guest only when what is left fits the limit."""
     record = Record(guest)
-    plan, limit = course(record, trial), trial.limits.downtime
+    plan = course(record, trial)
     if plan.stop > record.last:
         return "unknown"
-    down = downtime(trial, plan)
-    error = errors(guest, settings(trial), trial.scale, trial.manner)[2] if is_sampled(trial) else 0
-    if down <= limit < down + 2 * error:
-        return "uncertain"
-    return sure(found, "kept", "yes" if down <= limit else "no")
+    if not is_kept(trial, plan):
+        return sure(found, "kept", "no")
+    if trial.manner is Manner.ROUNDS and is_sampled(trial):
+        error = errors(guest, settings(trial), trial.scale, trial.manner)[2]
+        if downtime(trial, plan) + 2 * error > trial.limits.downtime:
+            return "uncertain"
+    return sure(found, "kept", "yes")

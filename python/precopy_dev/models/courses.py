@@ -25,8 +25,8 @@ class Manner(Enum):
 
 class Course(NamedTuple):
     """Why a plan ends, how many rounds or looks there are, the tick of the stop, the ticks of the downtime, and the
-    pages that are sent. It ends with `few`, `fast` or `most`; or the record ends first: `cut` if until then each list
-    was shorter than the one before it, and else `level`."""
+    pages that are sent. It ends with `few`, `fast` or `most`; or the record ends first: `cut` if the list under way
+    then has fewer pages than each list before it but the first, and else `level`."""
 
     ending: str
     steps: int
@@ -42,7 +42,8 @@ def of_outcome(plan: Outcome) -> Course:
 
 def ending_of(plan: looks.Plan) -> str:
     if plan.reason == "record":
-        shortens = all(len(sent.left) < len(sent.pages) for sent in plan.lists[:-1])
+        under_way = plan.lists[-1]
+        shortens = all(len(under_way.pages) < len(sent.pages) for sent in plan.lists[1:-1])
         return "cut" if shortens else "level"
     return "most" if plan.reason == "looks" else plan.reason
 
@@ -52,6 +53,17 @@ def of_plan(plan: looks.Plan) -> Course:
     ending = ending_of(plan)
     steps = len(plan.lists) - (plan.reason == "record")
     return Course(ending, steps, plan.stop + (ending == "cut"), plan.down, plan.sent() + len(plan.last))
+
+
+def stops(course: Course, manner: Manner) -> bool:
+    """Whether the guest is stopped by a plan that comes to this. A hypervisor that has no look left has not stopped it,
+    nor has one whose plan the record ends: such a plan keeps no limit."""
+    return course.ending in ("few", "fast") or (course.ending == "most" and manner is Manner.ROUNDS)
+
+
+def word_of(course: Course, manner: Manner) -> str:
+    """Why a plan ends, as programs tell it: `most` is `rounds` or `looks`."""
+    return manner.value if course.ending == "most" else course.ending
 
 
 def look_settings(asked: Settings, scale: Scale, last: int) -> looks.Settings:
@@ -81,6 +93,12 @@ class Record:
         if manner is Manner.ROUNDS:
             return of_outcome(redrawn.planned(self.guest, asked))
         return of_plan(looks.plan(len(self.guest), self.touches, look_settings(asked, scale, self.last)))
+
+    def left(self, asked: Settings, scale: Scale, manner: Manner) -> int:
+        """How many pages are left when a plan ends."""
+        if manner is Manner.ROUNDS:
+            return redrawn.planned(self.guest, asked).left
+        return len(looks.plan(len(self.guest), self.touches, look_settings(asked, scale, self.last)).last)
 
     def redrawn(self, asked: Settings, scale: Scale, manner: Manner) -> list[Course]:
         """What the plans of the guests come to whose pages are drawn again."""

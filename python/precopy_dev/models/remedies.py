@@ -6,7 +6,7 @@ It shares no code with the crate. The numbers in the crate's tests come from her
 
 from typing import NamedTuple
 
-from precopy_dev.models.courses import Course, Manner, Record
+from precopy_dev.models.courses import Course, Manner, Record, stops
 from precopy_dev.models.redrawn import Scale, Settings
 
 MOST = 2**64 - 1
@@ -90,12 +90,17 @@ def downtime(trial: Trial, plan: Course) -> int:
     return plan.down * trial.scale.tick + trial.limits.reserve
 
 
+def is_kept(trial: Trial, plan: Course) -> bool:
+    """Whether a plan keeps the limit of a trial: it stops the guest, which then does not stand still for longer."""
+    return stops(plan, trial.manner) and downtime(trial, plan) <= trial.limits.downtime
+
+
 def keeps(record: Record, trial: Trial) -> bool:
-    """Whether a trial keeps its limit."""
+    """Whether a trial converges and keeps its limit, within the trace."""
     plan = course(record, trial)
     if plan is None or plan.stop > record.last:
         return False
-    return plan.ending == "few" and downtime(trial, plan) <= trial.limits.downtime
+    return plan.ending == "few" and is_kept(trial, plan)
 
 
 def ends(record: Record, trial: Trial) -> bool:

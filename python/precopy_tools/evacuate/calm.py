@@ -47,8 +47,10 @@ def cost_at(told: dict, at_once: int, share: float, limits: Wanted, path: str) -
     found = []
     if told["kept"] == "unknown":
         found.append(host_costs.TOO_SHORT)
-    if told["kept"] == "no":
+    if told["kept"] == "no" and told["down_seconds"] > limits.downtime:
         found.append(host_costs.over("downtime", told["down_seconds"], limits.downtime))
+    elif told["kept"] == "no":
+        found.append(host_costs.NO_STOP)
     if limits.time is not None and told["time_seconds"] > limits.time:
         found.append(host_costs.over("time", told["time_seconds"], limits.time))
     why, start = " and ".join(found), told["start_seconds"]

@@ -34,6 +34,8 @@ KEYS = {
     "unknown": ("its record is too short", 155),
     "down": ("downtime, drawn at least two dots wide", 0),
 }
+# Plans of looks have no rounds.
+WITHOUT_ROUNDS = {**KEYS, "moving": ("moves", 75)}
 
 
 def ellipsis(name: str, most: int = 22) -> str:
@@ -167,5 +169,6 @@ def drawn(moves: list[Placed], ends: dict[str, list[int]], title: str, deadline:
     of_guests = [(move, ends.get(move.guest.name, []), rows.y_of(number)) for number, move in enumerate(moves)]
     bars = [bar(move, of_guest, rows, y, opens) for move, of_guest, y in of_guests]
     kinds = {"down", *map(kind_of, moves), *("held" for move in moves if move.cost.hold)}
-    parts = [*keys(kinds, KEYS), *axis(rows, opens), *limit(rows, deadline)]
+    known = KEYS if any(ends.values()) else WITHOUT_ROUNDS
+    parts = [*keys(kinds, known), *axis(rows, opens), *limit(rows, deadline)]
     return page(rows, title, [*parts, *(line for each in bars for line in each)])

@@ -5,14 +5,15 @@
 
 There is one record a guest: a trace that tools/record has made, with NAME.json beside it, a series of these, or a whole
 trace. For each number at once (1, 2, 4 and so on up to all) and each of four orders it prints the time of the whole,
-the bytes and the longest downtime. Each guest has an even share of the link. The best schedule comes last: one that
-keeps all limits, then the one that takes less time, then fewer bytes. Costs are those of precopy-view, and schedules
-those of precopy-schedule. docs/EVACUATION.md says what they leave out.
+the bytes and the longest downtime. Each guest has an even share of the link, which stays; with --fluid those that move
+share the link evenly at each moment. The best schedule comes last: one that keeps all limits, then the one that takes
+less time, then fewer bytes. Costs are those of precopy-view, by a hypervisor's looks or with --clark by Clark's rounds,
+and schedules those of precopy-schedule. docs/EVACUATION.md says what they leave out.
 
 Then comes what performs it: a script of virsh, or with --lines qmp the commands for each guest's monitor. --dry-run
-prints nothing but the script, and --run performs the schedule itself. It shows each guest that moves, begins no other
-one after a failure, and cancels those under way on SIGINT and SIGTERM. It never touches a migration that it did not
-begin.
+prints nothing but the script, and --run performs the schedule itself; only it does with --fluid. It shows each guest
+that moves, begins no other one after a failure, and cancels those under way on SIGINT and SIGTERM. It never touches a
+migration that it did not begin.
 
 --at plans guests of series by their records of an hour, in UTC, and --window also holds them back until a calm: as if
 today is as the day of the records. What each move costs at its hour on each day is told beside it.
@@ -36,7 +37,7 @@ import time
 from precopy_tools import printed, version
 from precopy_tools.evacuate import calm, chart
 from precopy_tools.evacuate import costs as host_costs
-from precopy_tools.evacuate import days, documents, gathering, hours, lines, records, report_chart, run
+from precopy_tools.evacuate import days, documents, fluid, gathering, hours, lines, records, report_chart, run
 from precopy_tools.evacuate import schedules as host_schedules
 from precopy_tools.evacuate import settings as host_settings
 from precopy_tools.evacuate import texts, ways
@@ -68,7 +69,8 @@ def gather(options: argparse.Namespace, settings: Settings, hour: Hour) -> tuple
         chosen = Chosen(paths, {}, {}, told)
     if not (options.costs or options.dry_run or options.json == "-"):
         print("\n".join([*chosen.told, ""]), end="")
-    asked = host_costs.Asked(options.program, options.link - settings.reserve, options.at_once or (), options.tick)
+    link, numbers = options.link - settings.reserve, options.at_once or ()
+    asked = host_costs.Asked(options.program, link, numbers, options.tick, options.pace)
     of_settings = settings.limits_of(options.downtime)
 
     def limits_of(name: str) -> Wanted:
@@ -118,8 +120,9 @@ def draw(options: argparse.Namespace, found: Gathered, answer: Answer, opens: fl
 
 def answered(
     options: argparse.Namespace, settings: Settings, found: Gathered, starts: dict[str, calm.Starts], hour: Hour
-) -> Answer:
-    """All schedules, and the best of them; in a window by the starts of each guest."""
+) -> tuple[Gathered, Answer]:
+    """The guests, with what they cost by their shares if these change; all schedules, and the best of them, in a window
+    by the starts of each guest."""
     gathering.expect_planned(found.guests)
     deadline = micros_of(options.deadline) if options.deadline else 0
     # Of more numbers than guests only those make sense that were asked for.
@@ -129,6 +132,11 @@ def answered(
         deadline = min(deadline or math.inf, micros_of(hour.window.length))
         held = calm.Held(found.guests, starts, settings.groups(), deadline)
         answer = calm.planned(options.scheduler, held, numbers)
+    elif options.fluid:
+        table = fluid.Table(options.scheduler, deadline, settings.groups())
+        numbers = gathering.numbers_of(found.guests, numbers)
+        guests, answer = fluid.answered(table, found.guests, numbers, found.asked, options.jobs)
+        found = found._replace(guests=guests)
     else:
         schedules = gathering.schedules_of(found.guests, numbers)
         answer = host_schedules.answered(options.scheduler, schedules, deadline, settings.groups())
@@ -136,7 +144,7 @@ def answered(
     if deadline and shortest > deadline:
         told = f"no schedule ends within {time_text(deadline)}: the shortest takes {time_text(shortest)}"
         version.complain("evacuate", told)
-    return answer
+    return found, answer
 
 
 def performing(options: argparse.Namespace, settings: Settings, names: list[str], answer: Answer, opens: float):
@@ -164,18 +172,20 @@ def show(
     steps, found_ways = performing(options, settings, names, answer, hour.opens)
     status = 1 if found.refused else texts.status_of(answer.best, limits.deadline)
     spread = days_of(options, found, chosen, answer, hour)
-    told = documents.document(limits, found.guests, answer, found.refused, hour, spread)
+    told = documents.document(limits, found, answer, hour, spread, options.fluid)
     if options.dry_run:
         print(lines.script(options.lines, steps, found_ways), end="")
     elif options.json != "-":
         print("\n".join(texts.of_all(found.guests, answer, found.asked, limits, hour)))
         print("".join(f"{line}\n" for line in days.lines(spread)), end="")
-        print("" if options.run else f"\n{lines.printed(options.lines, steps, found_ways)}".rstrip("\n"), flush=True)
+        below = texts.ONLY_RUN if options.fluid else lines.printed(options.lines, steps, found_ways)
+        print("" if options.run else f"\n{below}".rstrip("\n"), flush=True)
     if options.picture:
         draw(options, found, answer, hour.opens)
     if options.run:
         run.expect_ready(options, steps, found_ways, status)
-        outcome = run.performed(options, steps, found_ways, hour.opens)
+        shared = int(found.asked.link) if options.fluid else 0
+        outcome = run.performed(options, steps, found_ways, hour.opens, shared)
         told["run"], status = outcome.document(), outcome.status()
         if options.picture:
             write(options.picture, report_chart.drawn(outcome, outcome.title(), hour.opens))
@@ -199,7 +209,7 @@ def evacuate(options: argparse.Namespace) -> int:
     if hour.window:
         found, starts = calm.gathered(found, chosen.series, hour.window, options.jobs)
     try:
-        answer = answered(options, settings, found, starts, hour)
+        found, answer = answered(options, settings, found, starts, hour)
     except NoSchedule as fault:
         version.complain("evacuate", fault)
         return 1 if found.refused else 3

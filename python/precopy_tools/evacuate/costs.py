@@ -1,6 +1,7 @@
 """What the migration of each of several guests costs at each share of a link, by the proved `precopy-view`.
 
-It is what `json predict` tells; if a record ends before its migration does, it is the plan of `json report`.
+It is what `json predict` tells, by a hypervisor's looks or by Clark's rounds; if a record ends before its migration
+does, it is the plan of `json report`, which goes by Clark's rounds.
 
 A record is a trace that tools/record has made, with NAME.json beside it, or a whole trace without that, whose guest is
 named by the file. Times are whole microseconds, and sizes bytes.
@@ -20,14 +21,16 @@ from precopy_tools import refusals
 from precopy_tools.evacuate.records import LIGHT, name_of
 from precopy_tools.formats import samples, traces
 from precopy_tools.predict import plans
+from precopy_tools.predict.clark import Pace, plan_of
 from precopy_tools.predict.forecast import Forecast, Link
 from precopy_tools.quantities import micros_of, time_text
 from precopy_tools.refusals import Refused
 
-FORMAT = "precopy costs 1"
+FORMAT = "precopy costs 2"
 MOST_MICROS = 1 << 53
 MOST_TOLD = 1e18
 STOOD, TOO_SHORT = "the guest stood still for", "the recording ends before the migration"
+NO_STOP = "the migration does not end"
 VERDICTS = ("yes", "no", "unknown")
 # What `json predict` tells of a migration like QEMU: what it costs, or what is left when the recording ends before.
 ENDED, CUT = {"looks", "time_seconds", "sent_bytes", "down_seconds", "kept"}, {"looks", "sent_bytes", "left_bytes"}
@@ -55,7 +58,9 @@ class Cost(NamedTuple):
     and `quiet` is the least bytes of them. `converges` is yes, no, or unknown if the recording ends before the
     migration does, or if the guest stood still meanwhile: then the cost is that of a guest that writes no more. It is
     kept if the guest's limits are, and `why` says what is not. `like_qemu` is what `json predict` tells of a hypervisor
-    that goes on as QEMU does: nothing if the guest stood still, or if the start is one of `json when`.
+    that goes on as QEMU does, beside Clark's plan or if the recording ends first: nothing if the guest stood still, or
+    if the start is one of `json when`. If those that move share the link, `share` is the first of its `shares`, and
+    `most_share` the most that it takes.
     """
 
     at_once: int
@@ -73,6 +78,8 @@ class Cost(NamedTuple):
     record: str = ""
     start: float = 0.0
     like_qemu: dict = {}
+    shares: list = []
+    most_share: int = 0
 
 
 class Guest(NamedTuple):
@@ -91,12 +98,13 @@ class Guest(NamedTuple):
 
 
 class Asked(NamedTuple):
-    """What is asked of each record."""
+    """What is asked of each record: by Clark's rounds if these have a pace, and else by a hypervisor's looks."""
 
     program: str
     link: float
     numbers: tuple[int, ...]
     tick: float
+    pace: Pace | None = None
 
 
 def is_name(name: object) -> bool:
@@ -117,7 +125,7 @@ def planner_of(path: str, asked: Asked, limits: Wanted) -> Forecast:
     if base is not None and base > sample.first_tick:
         begins = f"which begins at tick {sample.first_tick:,}"
         raise Refused(f"{path}: a copy of tick {base:,} is newer than the record, {begins}")
-    forecast = Forecast(asked.program, sample, trace.size, written)
+    forecast = Forecast(asked.program, sample, trace.size, written, asked.pace)
     forecast.begin_with(base)
     if limits.age is not None:
         begin_with_old_copy(path, forecast, limits.age)
@@ -149,7 +157,9 @@ def missed(told: dict, limits: Wanted, sample: samples.Sample) -> str:
     if told["converges"] == "unknown":
         return TOO_SHORT
     migration, found = told["migration"], []
-    if migration["down_seconds"] > told["limits"]["down_seconds"]:
+    if migration["why"] not in plans.STOPS:
+        found.append(NO_STOP)
+    elif migration["down_seconds"] > told["limits"]["down_seconds"]:
         found.append(over("downtime", migration["down_seconds"], limits.downtime))
     if limits.time is not None and migration["time_seconds"] > limits.time:
         found.append(over("time", migration["time_seconds"], limits.time))
@@ -245,8 +255,9 @@ def guests_of(paths: list[str], asked: Asked, limits_of, jobs: int) -> list[Gues
 
 
 def rounds_of(path: str, asked: Asked, cost: Cost, limits: Wanted) -> list[int]:
-    """When the rounds of one guest end, in microseconds from its start on. A record that is elsewhere has none."""
-    if not os.path.exists(path):
+    """When the rounds of one guest end, in microseconds from its start on. A record that is elsewhere has none, and a
+    plan of looks has no rounds."""
+    if asked.pace is None or not os.path.exists(path):
         return []
     planner = planner_of(path, asked, limits._replace(start=cost.start))
     rounds = planner.plan(Link(cost.share, limits.downtime))["rounds"]
@@ -258,30 +269,31 @@ def line(guest: Guest, asked: Asked) -> str:
     fields = guest._asdict()
     fields["limits"] = guest.limits._asdict()
     fields["costs"] = [cost._asdict() for cost in guest.costs.values()]
-    return json.dumps({"format": FORMAT, "link": asked.link, **fields})
+    return json.dumps({"format": FORMAT, "link": asked.link, "plan": plan_of(asked.pace), **fields})
 
 
 def lines_of(path: str, asked: Asked, limits_of) -> list[Guest | str]:
-    """The guest of each line of such a file, or why the line is refused. All must be of the same link, limits and
+    """The guest of each line of such a file, or why the line is refused. All must be of the same link, plan, limits and
     numbers at once, or the file is refused."""
     found = []
     with open(path, "rb") as lines:
         for number, text in enumerate(lines, 1):
             where = f"{path}: line {number}"
             try:
-                guest, rate = parsed(refusals.json_of(where, text))
+                guest, rate, plan = parsed(refusals.json_of(where, text))
             except Refused as fault:
                 found.append(str(fault))
             except (ValueError, KeyError, TypeError, AttributeError) as fault:
                 found.append(f"{where} has no costs of a guest: {fault}")
             else:
-                expect_same(where, guest, rate, asked, limits_of)
+                expect_same_plan(where, rate, plan, asked)
+                expect_same(where, guest, asked, limits_of)
                 found.append(guest)
     return found
 
 
-def parsed(fields: dict) -> tuple[Guest, float]:
-    """A guest and the link of its costs; or a ValueError or another one that says what is wrong."""
+def parsed(fields: dict) -> tuple[Guest, float, str]:
+    """A guest, and the link and the plan of its costs; or a ValueError or another one that says what is wrong."""
     if fields["format"] != FORMAT:
         raise ValueError(f"format {fields['format']!r} is not {FORMAT!r}")
     costs = {cost.at_once: cost for cost in (Cost(**each) for each in fields["costs"])}
@@ -291,7 +303,8 @@ def parsed(fields: dict) -> tuple[Guest, float]:
         raise ValueError("a name is none")
     for cost in costs.values():
         expect_kinds(cost)
-    return Guest(*texts, Wanted(**fields["limits"]), costs, unplanned), float(fields["link"])
+    guest = Guest(*texts, Wanted(**fields["limits"]), costs, unplanned)
+    return guest, float(fields["link"]), fields["plan"]
 
 
 def expect_kinds(cost: Cost) -> None:
@@ -310,9 +323,14 @@ def expect_kinds(cost: Cost) -> None:
         raise ValueError(f"like_qemu is {told!r}")
 
 
-def expect_same(where: str, guest: Guest, rate: float, asked: Asked, limits_of) -> None:
+def expect_same_plan(where: str, rate: float, plan: object, asked: Asked) -> None:
     if rate != asked.link:
         raise Refused(f"{where}: its link is {rate:g} bytes a second, and not {asked.link:g}")
+    if plan != plan_of(asked.pace):
+        raise Refused(f"{where}: its plans go by {plan}, and not by {plan_of(asked.pace)}")
+
+
+def expect_same(where: str, guest: Guest, asked: Asked, limits_of) -> None:
     if guest.limits._replace(start=0.0) != limits_of(guest.name)._replace(start=0.0):
         raise Refused(f"{where}: the limits of {guest.name} were other ones")
     left = [at_once for at_once in asked.numbers if at_once not in guest.costs and at_once not in guest.unplanned]

@@ -4,8 +4,8 @@ from collections.abc import Iterable
 from typing import NamedTuple
 
 from precopy_tools.evacuate import costs as host_costs
-from precopy_tools.evacuate import hours
-from precopy_tools.evacuate.costs import Asked, Wanted
+from precopy_tools.evacuate import fluid, hours
+from precopy_tools.evacuate.costs import Asked, Cost, Wanted
 from precopy_tools.evacuate.hours import Fit, Series
 from precopy_tools.evacuate.schedules import Placed
 from precopy_tools.predict import plans
@@ -33,21 +33,25 @@ class Day(NamedTuple):
         }
 
 
-def day_of(fit: Fit, asked: Asked, at_once: int, limits: Wanted) -> Day | None:
-    """What a migration costs on one day; None if its record does not tell."""
+def day_of(fit: Fit, asked: Asked, cost: Cost, limits: Wanted) -> Day | None:
+    """What a migration with the shares of a move costs on one day; None if its record does not tell."""
     limits = limits._replace(start=fit.start)
     try:
-        cost = host_costs.cost_of(host_costs.planner_of(fit.path, asked, limits), asked, limits, at_once)
+        planner = host_costs.planner_of(fit.path, asked, limits)
+        if cost.shares:
+            found = fluid.cost_over(planner, asked, limits, cost.at_once, cost.shares)
+        else:
+            found = host_costs.cost_of(planner, asked, limits, cost.at_once)
     except (OSError, Refused, plans.Failed):
         return None
-    is_known = cost.converges != "unknown"
-    return Day(fit.moment, cost.time, cost.sent, cost.downtime, cost.kept) if is_known else None
+    is_known = found is not None and found.converges != "unknown"
+    return Day(fit.moment, found.time, found.sent, found.downtime, found.kept) if is_known else None
 
 
 def of_moves(moves: Iterable[Placed], fits: dict[str, list[Fit]], asked: Asked, jobs: int) -> dict[str, list[Day]]:
     """The days of each guest that has hours, the newest first."""
     rows = [(move, fit) for move in moves for fit in fits.get(move.guest.name, [])]
-    words = [(fit, asked, move.cost.at_once, move.guest.limits) for move, fit in rows]
+    words = [(fit, asked, move.cost, move.guest.limits) for move, fit in rows]
     found: dict[str, list[Day]] = {}
     for (move, _), day in zip(rows, host_costs.side_by_side(jobs, day_of, words)):
         found.setdefault(move.guest.name, []).extend([day] if day else [])

@@ -1,13 +1,14 @@
 """What tools/evacuate answers as JSON, as docs/evacuation.schema.json has it."""
 
-from precopy_tools.evacuate.costs import Cost, Guest
+from precopy_tools.evacuate.costs import Cost
 from precopy_tools.evacuate.days import Day
+from precopy_tools.evacuate.gathering import Gathered
 from precopy_tools.evacuate.hours import Hour, iso_text
 from precopy_tools.evacuate.schedules import Answer, Limits, Placed, Schedule
 from precopy_tools.evacuate.texts import misses
+from precopy_tools.predict.clark import plan_of
 
 FORMAT = "precopy evacuation 1"
-Refusal = tuple[str, str]  # a file, and why it is refused
 
 
 def cost_document(cost: Cost) -> dict:
@@ -47,6 +48,10 @@ def move_document(move: Placed, hour: Hour, days: dict[str, list[Day]]) -> dict:
         "end_seconds": move.end / 1e6,
         "slot": move.slot,
     }
+    if cost.shares:
+        told["shares"] = [
+            {"after_seconds": share.micros / 1e6, "link_bytes_per_second": share.bandwidth} for share in cost.shares
+        ]
     if hour.opens:
         told |= {
             "begin": iso_text(hour.opens + move.start / 1e6),
@@ -60,12 +65,14 @@ def move_document(move: Placed, hour: Hour, days: dict[str, list[Day]]) -> dict:
 
 
 def document(
-    limits: Limits, guests: list[Guest], answer: Answer, refused: list[Refusal], hour: Hour, days: dict[str, list[Day]]
+    limits: Limits, found: Gathered, answer: Answer, hour: Hour, days: dict[str, list[Day]], is_fluid: bool = False
 ) -> dict:
     """All answers. Of a schedule of an hour there is when it opens, and of each move what it costs on each day."""
     deadline = limits.deadline
     return {
         "format": FORMAT,
+        "plan": plan_of(found.asked.pace),
+        **({"fluid": True} if is_fluid else {}),
         "link_bytes_per_second": limits.link,
         "downtime_seconds": limits.downtime,
         **({"deadline_seconds": deadline} if deadline else {}),
@@ -77,12 +84,12 @@ def document(
                 "downtime_seconds": guest.limits.downtime,
                 "costs": [cost_document(cost) for cost in guest.costs.values()],
             }
-            for guest in guests
+            for guest in found.guests
         ],
         "schedules": [schedule_document(each, deadline) for each in answer.schedules],
         "best": {
             "schedule": answer.schedules.index(answer.best),
             "moves": [move_document(each, hour, days) for each in answer.moves],
         },
-        "refused": [{"record": path, "why": why} for path, why in refused],
+        "refused": [{"record": path, "why": why} for path, why in found.refused],
     }

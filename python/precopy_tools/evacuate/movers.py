@@ -6,6 +6,7 @@ import tempfile
 from typing import NamedTuple
 
 from precopy_tools.evacuate.lines import Step, mebibytes, milliseconds, qmp_commands
+from precopy_tools.evacuate.schedules import Placed
 from precopy_tools.evacuate.ways import Way
 from precopy_tools.qemu import qmp
 from precopy_tools.record import domains
@@ -30,12 +31,17 @@ class Look(NamedTuple):
     why: str = ""
 
 
+def with_share(move: Placed, share: int) -> Placed:
+    """A move that begins with another share of the link."""
+    return move._replace(cost=move.cost._replace(share=share))
+
+
 class QmpMover:
     """A guest of QEMU by its monitor."""
 
     def __init__(self, step: Step, way: Way):
         self.move, self.way, self.client = step.move, way, None
-        self.is_told, self.silent, self.last = False, 0, Look("moving")
+        self.begun, self.is_told, self.silent, self.last = False, False, 0, Look("moving")
 
     def why_not(self) -> str:
         """Why this guest must not be touched; nothing if it may."""
@@ -58,6 +64,19 @@ class QmpMover:
         self.client.ask("migrate-set-capabilities", capabilities=[{"capability": "events", "state": True}])
         for command in qmp_commands(self.move, self.way.to)[1:]:
             self.client.ask(command["execute"], **command["arguments"])
+        self.begun = True
+
+    def take(self, share: int) -> bool:
+        """Goes on with another share of the link, or begins with it. Returns whether the monitor has taken it."""
+        self.move = with_share(self.move, share)
+        if self.begun:
+            try:
+                self.client = self.client or qmp.Client(self.way.monitor, SECONDS_TO_ANSWER)
+                self.client.ask("migrate-set-parameters", **{"max-bandwidth": share})
+            except qmp.Fault:
+                self._close()
+                return False
+        return True
 
     def look(self) -> Look:
         """How far it is. A monitor that answers no more is asked again for a while."""
@@ -144,6 +163,17 @@ class VirshMover:
         command = ["virsh", "--quiet", "migrate", "--live", "--bandwidth", str(speed), "--domain", self.domain]
         how = {"stdin": subprocess.DEVNULL, "stdout": subprocess.DEVNULL, "stderr": self.errors}
         self.process = subprocess.Popen([*command, "--desturi", self.way.to], start_new_session=True, **how)
+
+    def take(self, share: int) -> bool:
+        """The same, by virsh."""
+        self.move = with_share(self.move, share)
+        if self.process:
+            try:
+                speed = str(mebibytes(share))
+                domains.virsh("migrate-setspeed", "--domain", self.domain, "--bandwidth", speed)
+            except qmp.Fault:
+                return False
+        return True
 
     def look(self) -> Look:
         is_over = self.process.poll() is not None

@@ -5,7 +5,9 @@ import os
 
 from precopy_tools import places, version, words
 from precopy_tools.evacuate import hours, ways
+from precopy_tools.evacuate.gathering import OF_COSTS
 from precopy_tools.evacuate.ways import Way
+from precopy_tools.predict import clark
 
 PROGRAM, SCHEDULER = places.program("precopy-view"), places.helper("precopy-schedule")
 PROCESSORS = len(os.sched_getaffinity(0))
@@ -28,6 +30,7 @@ def add_plan(parser: argparse.ArgumentParser) -> None:
     add("--link", metavar="RATE", type=words.link, required=True, help="of all: 25Gbit, 3GB, 128MiB a second")
     add("--downtime", metavar="TIME", type=words.seconds, default=0.3, help="limit of each guest (300ms)")
     add("--at-once", metavar="K", type=numbers, help="how many at once, and no other numbers; several with commas")
+    add("--fluid", action="store_true", help="share the link by those that move, also while fewer do")
     add("--deadline", metavar="TIME", type=words.seconds, help="limit of the whole, as 20m")
     add("--at", metavar="HH:MM", type=hours.clock, help="of series, by the records of this hour in UTC, or of now")
     add("--window", metavar="HH:MM-HH:MM", type=hours.window, help="move within it, and hold guests back until a calm")
@@ -59,9 +62,10 @@ def add_run(parser: argparse.ArgumentParser) -> None:
 
 def options_of(given: list[str], description: str | None) -> argparse.Namespace:
     parser = version.parser("evacuate", description)
-    for add in (add_plan, add_answers, add_run):
+    for add in (add_plan, clark.add_to, add_answers, add_run):
         add(parser)
     options = parser.parse_args(given)
+    options.pace = clark.pace_of(parser, options)
     expect_fitting(parser, options)
     for name, path in (("precopy-view", options.program), ("precopy-schedule", options.scheduler)):
         if not os.access(path, os.X_OK):
@@ -78,6 +82,8 @@ def expect_fitting(parser: argparse.ArgumentParser, options: argparse.Namespace)
         parser.error("--at and --window are two things: take one")
     if options.costs and options.window:
         parser.error("--costs goes without --window: what is held back is not known of costs alone")
+    if options.fluid:
+        expect_fluid(parser, options)
     if options.costs + options.dry_run + options.run > 1:
         parser.error("--costs, --dry-run and --run are three things: take one")
     if options.run and options.json == "-":
@@ -86,6 +92,20 @@ def expect_fitting(parser: argparse.ArgumentParser, options: argparse.Namespace)
         parser.error("--force and --patience go with --run")
     if options.monitor and options.lines != "qmp":
         parser.error("--monitor goes with --lines qmp: libvirt has the monitors of its guests")
+
+
+def expect_fluid(parser: argparse.ArgumentParser, options: argparse.Namespace) -> None:
+    """Refuses words that do not go with shares that change."""
+    for name, why in (
+        ("clark", "rounds go over a link that does not change"),
+        ("window", "waits are planned by shares that stay"),
+        ("costs", "a share hangs on all guests, and costs are of one"),
+        ("dry_run", "a script does not change shares; --run does"),
+    ):
+        if getattr(options, name):
+            parser.error(f"--fluid goes without --{name.replace('_', '-')}: {why}")
+    if files := [path for path in options.records if path.endswith(OF_COSTS)]:
+        parser.error(f"--fluid needs records, and {files[0]} has costs of shares that stay")
 
 
 def whence(name: str) -> str:

@@ -10,9 +10,11 @@ import time
 
 from precopy_tools import version
 from precopy_tools.evacuate import movers as host_movers
+from precopy_tools.evacuate import sharing
 from precopy_tools.evacuate.lines import Step
 from precopy_tools.evacuate.movers import Look
 from precopy_tools.evacuate.outcome import Moved, Outcome
+from precopy_tools.evacuate.texts import gigabits
 from precopy_tools.evacuate.ways import Way
 from precopy_tools.qemu import qmp
 from precopy_tools.quantities import micros_of, moment_text, size_text, time_text
@@ -44,6 +46,7 @@ class Moving:
         self.seen, self.begun, self.ended = Look("waiting"), 0.0, 0.0
         self.sent: list[tuple[float, int]] = []
         self.is_late = False
+        self.share = self.told = int(step.move.cost.share)  # what it is to have, and what it was told
 
     @property
     def is_under_way(self) -> bool:
@@ -56,6 +59,12 @@ class Moving:
             self.seen = Look("moving")
         except qmp.Fault as fault:
             self.seen, self.ended = Look("failed", why=str(fault)), time.monotonic()
+
+    def take(self) -> bool:
+        """Has it go on with the share that it is to have, or begin with it. Returns whether it does."""
+        is_taken = self.mover.take(self.share)
+        self.told = self.share if is_taken else self.told
+        return is_taken
 
     def look(self) -> None:
         """Looks once. What takes too long is told to stay."""
@@ -100,9 +109,10 @@ class Moving:
 class Run:
     """All moves of a schedule."""
 
-    def __init__(self, moves: list[Moving], stopping: Stopping, opens: float):
-        """Times count from when the schedule opens, in Unix seconds; 0 is now."""
-        self.moves, self.stopping = moves, stopping
+    def __init__(self, moves: list[Moving], stopping: Stopping, opens: float, link: int = 0):
+        """Times count from when the schedule opens, in Unix seconds; 0 is now. Those that move share a link of so many
+        bytes a second; if it is 0, their shares stay."""
+        self.moves, self.stopping, self.link = moves, stopping, link
         self.by_number = {move.step.number: move for move in moves}
         self.begun = time.monotonic() + max(0.0, opens - time.time())
         self.shown, self.lines = 0.0, 0
@@ -141,11 +151,32 @@ class Run:
         """Whether a guest waits for its time alone."""
         return not self.is_stopped and any(self._is_next(move) for move in self.moves)
 
+    def _share(self, due: list[Moving]) -> None:
+        """Makes the shares of those that move, and of those that are due, anew. Lower ones are told first, and greater
+        ones only if all of these are taken: what a monitor does not take is told again with the next look."""
+        moving = [move for move in self.moves if move.is_under_way]
+        most = [move.step.move.cost.most_share for move in (*moving, *due)]
+        for move, share in zip((*moving, *due), sharing.fair(self.link, most)):
+            move.share = share if move in due else sharing.following(move.share, share)
+        are_lower = all([self._has_taken(move) for move in moving if move.share < move.told])
+        for move in (*due, *(each for each in moving if are_lower and each.share > each.told)):
+            self._has_taken(move)
+
+    def _has_taken(self, move: Moving) -> bool:
+        is_taken = move.take()
+        if is_taken and move.is_under_way:
+            self._print(f"{move.name} goes on with {gigabits(move.share)} Gbit/s")
+        return is_taken
+
     def _begin_due(self) -> bool:
-        """Begins what is due. Returns whether something was begun."""
+        """Begins what is due, and shares the link if it is shared. Returns whether something was begun."""
         is_begun = False
-        for move in self.moves:
-            if not self.is_stopped and not self.stopping.by and self._is_due(move):
+        may_begin = not self.is_stopped and not self.stopping.by
+        due = [move for move in self.moves if may_begin and self._is_due(move)]
+        if self.link:
+            self._share(due)
+        for move in due:
+            if not self.is_stopped and not self.stopping.by:
                 self._print(f"{move.name} begins")
                 move.begin()
                 self._tell_end(move)
@@ -208,11 +239,14 @@ def expect_ready(options: argparse.Namespace, steps: list[Step], ways: dict[str,
         raise Unready("\n".join(["nothing was begun", *found]))
 
 
-def performed(options: argparse.Namespace, steps: list[Step], ways: dict[str, Way], opens: float) -> Outcome:
-    """Performs the schedule, which opens at a time in Unix seconds, and prints what was beside what was planned."""
+def performed(
+    options: argparse.Namespace, steps: list[Step], ways: dict[str, Way], opens: float, link: int = 0
+) -> Outcome:
+    """Performs the schedule, which opens at a time in Unix seconds, and prints what was beside what was planned. Those
+    that move share a link, if there is one."""
     kind = host_movers.MOVERS[options.lines]
     moves = [Moving(step, kind(step, ways[step.move.guest.name]), options.patience) for step in steps]
-    run = Run(moves, Stopping(), opens)
+    run = Run(moves, Stopping(), opens, link)
     for move in moves:
         if move.step.not_before > time.time():
             print(f"{move.name} begins {move.step.when}", flush=True)

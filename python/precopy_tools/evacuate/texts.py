@@ -8,6 +8,11 @@ from precopy_tools.evacuate.hours import Hour, clock_text, day_text
 from precopy_tools.evacuate.schedules import Answer, Limits, Placed, Schedule
 from precopy_tools.quantities import micros_of, moment_text, size_text, time_text
 
+# What stands below the table if shares change.
+ONLY_RUN = "Only --run performs this schedule: it changes shares when guests begin and end."
+# So many changes of a share are told.
+CHANGES = 3
+
 
 def gigabits(rate: float) -> str:
     return f"{rate * 8 / 1e9:.3g}"
@@ -87,18 +92,31 @@ def held(move: Placed, hour: Hour) -> str:
     return f"{at}, held back for {time_text(move.cost.hold)}" if move.cost.hold else at
 
 
+def later_shares(move: Placed) -> str:
+    """A note of the shares that a guest gets later."""
+    later = move.cost.shares[1:]
+    told = [
+        f"{gigabits(share.bandwidth)} after {moment_text(share.micros // 1000 * 1000)}" for share in later[:CHANGES]
+    ]
+    more = [f"{len(later) - CHANGES} more"] if len(later) > CHANGES else []
+    return f"  then {', '.join([*told, *more])}" if told else ""
+
+
 def best(answer: Answer, asked: Asked, hour: Hour) -> list[str]:
     """The best schedule: a line for each guest."""
     width = max(len("guest"), *(len(move.guest.name) for move in answer.moves))
     head = f"{'guest':<{width}}{'start':>15}{'end':>15}{'share, Gbit/s':>15}{'sent':>13}{'downtime':>13}"
-    lines = [f"best: {answer.best.at_once} at once, {answer.best.order}", f"{head}  time by start"]
+    is_fluid = any(move.cost.shares for move in answer.moves)
+    head += "" if is_fluid else "  time by start"
+    lines = [f"best: {answer.best.at_once} at once, {answer.best.order}", head]
     for move in answer.moves:
         cost = move.cost
-        note = held(move, hour) + (f"  {cost.why}" if cost.why else "")
+        range_of_starts = "" if is_fluid else f"  {time_text(cost.least)} to {time_text(cost.most)}"
+        note = later_shares(move) + held(move, hour) + (f"  {cost.why}" if cost.why else "")
         lines.append(
             f"{move.guest.name:<{width}}{moment_text(move.start):>15}{moment_text(move.end):>15}"
             f"{gigabits(cost.share):>15}{size_text(cost.sent):>13}{time_text(cost.downtime):>13}"
-            f"  {time_text(cost.least)} to {time_text(cost.most)}{note}{slowed(move, asked)}"
+            f"{range_of_starts}{note}{slowed(move, asked)}"
         )
     return lines
 
@@ -113,7 +131,8 @@ def like_qemu(cost: Cost) -> str:
 
 
 def of_qemu(answer: Answer) -> list[str]:
-    """A line for each guest of which that is known, in the order of the schedule, which counts plans round by round."""
+    """A line for each guest of which that is known, in the order of the schedule: by Clark's rounds beside each plan,
+    and by looks only if its record ends first."""
     width = max(len("guest"), *(len(move.guest.name) for move in answer.moves))
     known = [move for move in answer.moves if move.cost.like_qemu]
     return [f"{move.guest.name:<{width}}  like QEMU: {like_qemu(move.cost)}" for move in known]
@@ -124,8 +143,10 @@ def of_all(guests: list[Guest], answer: Answer, asked: Asked, limits: Limits, ho
     within = f"; all within {time_text(micros_of(limits.deadline))}" if limits.deadline else ""
     limit = time_text(micros_of(limits.downtime))
     opens = f"; begins at {day_text(hour.opens)} {clock_text(hour.opens)} UTC" if hour.opens else ""
+    plans = "; by Clark's rounds" if asked.pace else ""
+    plans += "; shared by those that move" * any(move.cost.shares for move in answer.moves)
     return [
-        f"{counted(guests)}; link {gigabits(limits.link)} Gbit/s; downtime limit {limit}{within}{opens}",
+        f"{counted(guests)}; link {gigabits(limits.link)} Gbit/s; downtime limit {limit}{within}{opens}{plans}",
         *table(answer, limits.deadline),
         *doubts(guests, dict.fromkeys(each.at_once for each in answer.schedules)),
         "",

@@ -1,7 +1,8 @@
 """Predicts the migration of a guest, from a sample of its pages that tools/record or tools/thin has made.
 
-    tools/predict NAME.light.pcwt --link 10Gbit --downtime 300ms
+    tools/predict NAME.light.pcwt --link 10Gbit --downtime 300ms [--clark]
     tools/predict NAME.light.pcwt .. --link 10Gbit --downtime 300ms [--picture NAME.svg]
+    tools/predict NAME.light.pcwt --link 10Gbit --link 02:00=2Gbit --downtime 300ms
 
 It reads NAME.json beside the trace, or the file of --record, asks `precopy-view predict`, and prints what that answers
 of the whole guest. --when prints what `precopy-view when` answers of many starts.
@@ -9,6 +10,13 @@ of the whole guest. --when prints what `precopy-view when` answers of many start
 and the machine. The lines at half and twice the link show how much all answers depend on it. With --reached 0.85..1 the
 answers are those at both of these shares of it: one that is not the same at both is uncertain. docs/REAL-GUESTS.md says
 where hypervisors differ from a plan.
+
+With --link HH:MM=RATE the link changes then, in UTC, each day again; the plain RATE holds from midnight on. Over a link
+that changes within a recording plans go by looks, without --clark, --when, --reached and --picture. The stop leaves no
+more than the lowest rate sends within the limit.
+
+A migration goes by the plan of a hypervisor that looks at its dirty bitmap as QEMU does, or with --clark by Clark's
+rounds. --first, --inc, --rounds and --skip are of these rounds, as those of precopy-view.
 
 Several traces have a line each, and so have the segments of a series, named as tools/record was told: its best and its
 worst start are those of `precopy-view when`. --picture writes what a migration costs by the time of day at which it
@@ -25,7 +33,8 @@ import sys
 
 from precopy_tools import places, printed, version, words
 from precopy_tools.formats import traces
-from precopy_tools.predict import day_chart, documents, plans, texts
+from precopy_tools.predict import changing, clark, day_chart, day_links, documents, plans, texts
+from precopy_tools.predict.changing import Question, Steps
 from precopy_tools.predict.forecast import Forecast, Link, forecast_of
 from precopy_tools.record import series
 from precopy_tools.refusals import Refused
@@ -39,7 +48,14 @@ def options_of(given: list[str]) -> argparse.Namespace:
     parser = version.parser("predict", __doc__)
     add = parser.add_argument
     add("traces", metavar="TRACE", nargs="+", help="a trace of drawn pages, or the name of a series")
-    add("--link", metavar="RATE", type=words.link, required=True, help="a second: 10Gbit, 1250MB, 128MiB")
+    add(
+        "--link",
+        metavar="RATE",
+        type=day_links.part,
+        action="append",
+        required=True,
+        help="a second: 10Gbit, 1250MB, 128MiB; and from a time of day on, as 02:00=2Gbit",
+    )
     add("--downtime", metavar="TIME", type=words.seconds, default=0.3, help="limit (300ms)")
     add(
         "--reached",
@@ -54,7 +70,10 @@ def options_of(given: list[str]) -> argparse.Namespace:
     add("--picture", metavar="PATH", help="write what a migration costs by time of day, as SVG")
     add("--starts", metavar="N", type=words.count, default=60, help="of each trace, at most 4,096 (60)")
     add("--program", metavar="PATH", default=PROGRAM, help="the built precopy-view")
+    clark.add_to(parser)
     options = parser.parse_args(given)
+    options.link = day_links.link_of(parser, options.link)
+    options.pace = clark.pace_of(parser, options)
     if (options.record or options.when) and len(options.traces) > 1:
         parser.error("--record and --when are of one trace")
     if options.when and (options.json or options.picture):
@@ -68,14 +87,26 @@ def options_of(given: list[str]) -> argparse.Namespace:
     return options
 
 
-def asked(options: argparse.Namespace, path: str) -> tuple[Forecast, Link]:
-    """The question about one recording."""
-    forecast = forecast_of(options.program, path, options.record)
+# What goes without a link that changes.
+OF_ONE_RATE = ("clark", "when", "reached", "picture")
+
+
+def asked(options: argparse.Namespace, path: str) -> tuple[Forecast, Link | Steps]:
+    """The question about one recording, and the link, which may change within it."""
+    forecast = forecast_of(options.program, path, options.record, options.pace)
     if options.start > forecast.seconds():
         after, whole = (texts.time(each) for each in (options.start, forecast.seconds()))
         raise Refused(f"{path}: --start {after} is after the end of the recording, which has {whole}")
     forecast.begin_after(options.start)
-    return forecast, Link(options.link, options.downtime)
+    moments = (forecast.moment(seconds) for seconds in (0.0, options.start, forecast.seconds()))
+    link = changing.link_of(options.link.steps(*moments), options.downtime)
+    given = [name for name in OF_ONE_RATE if isinstance(link, Steps) and getattr(options, name)]
+    if given:
+        at = forecast.moment(link.steps[1].micros / 1e6)
+        raise Refused(
+            f"{path}: the link changes within this record, at {at:%H:%M:%S} UTC: --{given[0]} needs a link that stays"
+        )
+    return forecast, link
 
 
 def status_of(forecast: Forecast, status: int) -> int:
@@ -86,9 +117,11 @@ def status_of(forecast: Forecast, status: int) -> int:
 def show_each(options: argparse.Namespace, path: str) -> tuple[int, list[day_chart.Start]]:
     """Prints the line of one of several traces. Returns its status, and the starts whose migration ends within it."""
     forecast, link = asked(options, path)
+    if isinstance(link, Steps):
+        return show_changing(options, path, forecast, link), []
     told, when = forecast.told(link), forecast.starts(link, options.starts)
     if options.json:
-        print(json.dumps(documents.of_trace(path, forecast, told, when)), flush=True)
+        print(json.dumps(documents.of_trace(path, forecast, told, when=when)), flush=True)
     else:
         moments = {
             name: (forecast.moment(when[name]["start_seconds"]), when[name])
@@ -107,6 +140,30 @@ def show_each(options: argparse.Namespace, path: str) -> tuple[int, list[day_cha
         for it in when["starts"]
         if it["kept"] != "unknown"
     ]
+
+
+def show_changing(options: argparse.Namespace, path: str, forecast: Forecast, link: Steps) -> int:
+    """Prints the line of one of several traces over a link that changes within it. Returns its status."""
+    told = Question(forecast, link).told()
+    if options.json:
+        print(json.dumps(documents.of_trace(path, forecast, told, link=link)), flush=True)
+    else:
+        print(texts.of_several(told, forecast.moment(options.start), {}, forecast.sample), flush=True)
+    return status_of(forecast, STATUSES[told["kept"]])
+
+
+def predict_changing(forecast: Forecast, link: Steps) -> int:
+    """The lines of one trace over a link that changes within it. Returns the status."""
+    told = Question(forecast, link).told()
+    about = [*texts.of_sample(forecast.sample, forecast.page_size), texts.of_steps(forecast, link)]
+    print("\n".join([*about, *texts.uncertain(forecast.sample), *texts.of_told(told)]))
+    for name, times in (("half", 0.5), ("twice", 2.0)):
+        try:
+            print("\n".join(texts.at_link(f"at {name} the link", Question(forecast, link.times(times)).told())))
+        except plans.NoRate as fault:
+            print(f"at {name} the link: no plan, since {fault}")
+    print("".join(f"{line}\n" for line in texts.warnings(forecast.sample)), end="")
+    return status_of(forecast, STATUSES[told["kept"]])
 
 
 def predict_each(options: argparse.Namespace, paths: list[str]) -> int:
@@ -129,7 +186,7 @@ def predict_each(options: argparse.Namespace, paths: list[str]) -> int:
 def write_picture(options: argparse.Namespace, starts: list[day_chart.Start]) -> None:
     if not starts:
         raise plans.Failed("no picture: no migration ends within its trace")
-    link = f"{options.link / (1 << 20):.2f} MiB a second, downtime limit {texts.time(options.downtime)}"
+    link = f"{texts.of_day(options.link)}, downtime limit {texts.time(options.downtime)}"
     with traces.Pending(options.picture) as file:
         file.write(day_chart.drawn(starts, f"What a migration costs at {link}").encode())
         file.finish()
@@ -142,12 +199,14 @@ def predict(options: argparse.Namespace) -> int:
     if len(paths) > 1 or options.picture or options.json:
         return predict_each(options, paths)
     forecast, link = asked(options, paths[0])
+    if isinstance(link, Steps):
+        return predict_changing(forecast, link)
     if options.when:
         status, text = forecast.when_text(link, options.starts)
         print("\n".join([*texts.uncertain(forecast.sample), *texts.warnings(forecast.sample), text]), end="")
         return status_of(forecast, status)
     status, lines = forecast.lines(link)
-    about = [*texts.of_sample(forecast.sample, forecast.page_size), texts.of_link(options.link)]
+    about = [*texts.of_sample(forecast.sample, forecast.page_size), texts.of_link(link.bandwidth)]
     print("\n".join([*about, *texts.uncertain(forecast.sample), *lines]))
     for name, times in (("half", 0.5), ("twice", 2.0)):
         try:

@@ -11,6 +11,7 @@ from typing import NamedTuple
 
 from precopy_tools.formats import samples, traces
 from precopy_tools.predict import plans
+from precopy_tools.predict.clark import Pace
 
 FACTORS = (1, 2, 5, 10, 20)
 LEAST_RATE = 500
@@ -34,10 +35,18 @@ def encoded(pages: int, writes: list[tuple[int, int]], page_size: int) -> bytes:
 
 
 class Forecast:
-    """The question about one recording, whose writes have these ticks and pages."""
+    """The question about one recording, whose writes have these ticks and pages. It goes by Clark's rounds if these
+    have a pace, and else by a hypervisor's looks."""
 
-    def __init__(self, program: str, sample: samples.Sample, page_size: int, records: list[tuple[int, int]]):
-        self.program, self.sample, self.page_size = program, sample, page_size
+    def __init__(
+        self,
+        program: str,
+        sample: samples.Sample,
+        page_size: int,
+        records: list[tuple[int, int]],
+        pace: Pace | None = None,
+    ):
+        self.program, self.sample, self.page_size, self.pace = program, sample, page_size, pace
         self.writes = [(tick - sample.first_tick, page) for tick, page in records if tick >= sample.first_tick]
         self.start, self.base, self.texts = 0, None, {}
 
@@ -71,12 +80,19 @@ class Forecast:
         """The most bytes a second that a plan can have."""
         return float(self.scale(1).most())
 
-    def factor(self, link: Link) -> int:
-        """By how much ticks are made longer: for a rate of 500 or more, if they fit the downtime limit."""
-        downtime, tick = round(1e6 * link.downtime), self.tick()
-        fitting = [each for each in FACTORS if downtime % (tick * each) == 0 and tick * each <= LONGEST_TICK] or [1]
-        rate = self.scale(1).rate(link.bandwidth)
+    def fitting(self, downtime: float) -> list[int]:
+        """By how much ticks may be made longer if a limit of the downtime has whole ones."""
+        limit, tick = round(1e6 * downtime), self.tick()
+        return [each for each in FACTORS if limit % (tick * each) == 0 and tick * each <= LONGEST_TICK] or [1]
+
+    def longer(self, bandwidth: float, fitting: list[int]) -> int:
+        """By how much ticks are made longer: for a rate of 500 or more, if one of these is enough."""
+        rate = self.scale(1).rate(bandwidth)
         return next((factor for factor in fitting if rate * factor >= LEAST_RATE), fitting[-1])
+
+    def factor(self, link: Link) -> int:
+        """By how much ticks are made longer for a link."""
+        return self.longer(link.bandwidth, self.fitting(link.downtime))
 
     def text(self, factor: int) -> bytes:
         """The trace in longer ticks. Of several writes to a page in a tick one stays. A write at the last look, which
@@ -95,10 +111,14 @@ class Forecast:
         warm = [] if self.base is None else ["--base", "0"]
         return factor, [*plans.limits(*link, self.scale(factor)), *warm]
 
+    def manner(self, link: Link, factor: int) -> list[str]:
+        """The words that say by whose plan it goes."""
+        return [] if self.pace is None else ["--clark", *self.pace.words(link.bandwidth, factor)]
+
     def words(self, link: Link) -> tuple[int, list[str]]:
-        """The same, and the words of the start."""
+        """By how much ticks are made longer, and the words of the limits, of the plan and of the start."""
         factor, words = self.limits(link)
-        return factor, [*words, "--start", str(self.start // factor)]
+        return factor, [*words, *self.manner(link, factor), "--start", str(self.start // factor)]
 
     def lines(self, link: Link) -> tuple[int, list[str]]:
         """The status and the lines of `precopy-view predict`, but for the words of a live run. If the downtime limit is
@@ -116,23 +136,27 @@ class Forecast:
         return plans.document(self.program, ["predict", *words], self.text(factor))
 
     def plan(self, link: Link) -> dict:
-        """What `precopy-view json report` tells of the rounds and the stop, also if the recording ends before."""
-        factor, words = self.words(link)
+        """What `precopy-view json report` tells of Clark's rounds and the stop, also if the recording ends before."""
+        factor, words = self.limits(link)
+        words += [*(self.pace or Pace()).words(link.bandwidth, factor), "--start", str(self.start // factor)]
         return plans.document(self.program, ["report", *words, "--window", str(1 << 40)], self.text(factor))
 
-    def starts(self, link: Link, most: int) -> dict:
-        """What `precopy-view json when` tells of at most so many starts, which are evenly apart."""
+    def words_of_starts(self, link: Link, most: int) -> tuple[int, list[str]]:
+        """The words of at most so many starts, which are evenly apart."""
         factor, words = self.limits(link)
         last = self.last(factor)
         places = ["--to", str(last), "--every", str(-(-(last + 1) // most))]
-        return plans.document(self.program, ["when", *words, *places], self.text(factor))
+        return factor, [*words, *self.manner(link, factor), *places]
+
+    def starts(self, link: Link, most: int) -> dict:
+        """What `precopy-view json when` tells of at most so many starts."""
+        factor, words = self.words_of_starts(link, most)
+        return plans.document(self.program, ["when", *words], self.text(factor))
 
     def when_text(self, link: Link, most: int) -> tuple[int, str]:
         """The status and the lines of `precopy-view when`, of the same starts."""
-        factor, words = self.limits(link)
-        last = self.last(factor)
-        places = ["--to", str(last), "--every", str(-(-(last + 1) // most))]
-        return plans.answered(self.program, ["when", *words, *places], self.text(factor))
+        factor, words = self.words_of_starts(link, most)
+        return plans.answered(self.program, ["when", *words], self.text(factor))
 
     def seconds(self) -> float:
         """How long the recording is, from the first look to the last."""
@@ -144,8 +168,8 @@ class Forecast:
         return taken + datetime.timedelta(seconds=seconds)
 
 
-def forecast_of(program: str, path: str, record: str | None = None) -> Forecast:
+def forecast_of(program: str, path: str, record: str | None = None, pace: Pace | None = None) -> Forecast:
     """The question about a recording in a file, with NAME.json beside it, or elsewhere."""
     trace, records = traces.read_file(path)
     written = [record[:2] for record in records]
-    return Forecast(program, samples.read(path, trace, written, record), trace.size, written)
+    return Forecast(program, samples.read(path, trace, written, record), trace.size, written, pace)

@@ -7,12 +7,14 @@ import subprocess
 from typing import NamedTuple
 
 from precopy_tools.record.memory import PAGE
-from precopy_tools.words import given_rate
+from precopy_tools.words import given_rate, whole_rate
 
 # Bytes in the smallest unit of a link, and the most pages in 1,000 ticks.
 LEAST_LINK, MOST_RATE = 125, 1_000_000
 MOST_THRESHOLD = 65_536
 ROUNDS = 64
+# Why plans end that stop the guest. A plan of looks may end since it has no look left, or since its trace ends.
+STOPS = ("few", "fast", "rounds")
 STOP = re.compile(r"^stop (\w+) at (\d+) pages (\d+) down (\d+) total (\d+)$", re.M)
 
 
@@ -79,6 +81,10 @@ class Scale(NamedTuple):
         """Pages of the trace in 1,000 ticks, for bytes a second."""
         return bandwidth * self.tick * self.sampled / (1000 * self.page * self.guest)
 
+    def whole_rate(self, bandwidth: float) -> int:
+        """The same in whole pages, rounded down, as precopy-view has it."""
+        return whole_rate(bandwidth) * self.tick * self.sampled // (1000 * self.page * self.guest)
+
     def most(self) -> int:
         """The most bytes a second that a plan can have, in the unit of a link."""
         return MOST_RATE * 1000 * self.page * self.guest // (self.tick * self.sampled) // LEAST_LINK * LEAST_LINK
@@ -96,8 +102,15 @@ def limits(bandwidth: float, downtime: float, scale: Scale) -> list[str]:
     # A threshold above all pages of a trace is refused, and one of all of them says the same.
     most = (1000 * MOST_THRESHOLD - 1) // rate * scale.tick
     words = ["--link", given_rate(bandwidth), "--downtime", f"{min(round(1e6 * downtime), most)}us"]
-    words += ["--tick", f"{scale.tick}us", "--page", str(scale.page), "--sampled", f"{scale.sampled}/{scale.guest}"]
-    return [*words, "--rounds", str(ROUNDS)]
+    return [
+        *words,
+        "--tick",
+        f"{scale.tick}us",
+        "--page",
+        str(scale.page),
+        "--sampled",
+        f"{scale.sampled}/{scale.guest}",
+    ]
 
 
 def answered(program: str, command: list[str], trace: bytes) -> tuple[int, str]:

@@ -4,6 +4,10 @@ traces."""
 import datetime
 
 from precopy_tools.formats import samples
+from precopy_tools.predict import clark
+from precopy_tools.predict.changing import Steps
+from precopy_tools.predict.day_links import DayLink, clock_text
+from precopy_tools.predict.forecast import Forecast
 from precopy_tools.quantities import error_text, micros_of, size_text, time_text
 
 SHORT = "unknown, the recording ends before the migration does"
@@ -19,9 +23,10 @@ def error(seconds: float) -> str:
 
 
 def like_qemu(told: dict) -> list[str]:
-    """Bytes, time and downtime if the hypervisor goes on as QEMU does; nothing if it begins after the recording."""
+    """Bytes, time and downtime if the hypervisor goes on as QEMU does, beside Clark's plan; nothing if it begins after
+    the recording."""
     found = told.get("like_qemu")
-    if not found:
+    if not found or told["plan"] == clark.LOOKS:
         return []
     if "left_bytes" in found:
         return [SHORT]
@@ -76,6 +81,61 @@ def of_link(bandwidth: float) -> str:
     return f"link: {bandwidth * 8 / 1e9:.3g} Gbit/s, {bandwidth / (1 << 20):,.2f} MiB a second"
 
 
+def gigabits(bandwidth: float) -> str:
+    return f"{bandwidth * 8 / 1e9:.3g} Gbit/s"
+
+
+def of_steps(forecast: Forecast, link: Steps) -> str:
+    """What a link does that changes within a recording."""
+    first, *later = link.steps
+    moments = [(forecast.moment(step.micros / 1e6), gigabits(step.bandwidth)) for step in later]
+    return ", ".join(
+        [f"link: {gigabits(first.bandwidth)}", *(f"from {at:%H:%M:%S} UTC {rate}" for at, rate in moments)]
+    )
+
+
+def of_day(link: DayLink) -> str:
+    """A link by the time of day."""
+    first, *later = link.parts
+    told = [f"from {clock_text(part.second)} UTC {part.bandwidth / (1 << 20):.2f}" for part in later]
+    return ", ".join([f"{first.bandwidth / (1 << 20):.2f} MiB a second", *told])
+
+
+def counts_of(told: dict, name: str) -> str:
+    """In how many redraws and from how many starts something is so, as precopy-view tells it."""
+    parts = [
+        f"{word} {told[what][name]} of {told[what]['count']} {what}"
+        for word, what in (("in", "redraws"), ("from", "starts"))
+        if what in told
+    ]
+    return f", {' and '.join(parts)}" if parts else ""
+
+
+def of_told(told: dict) -> list[str]:
+    """The lines of a migration over a link that changes, like those of `precopy-view predict`."""
+    migration = told.get("migration")
+    if not migration:
+        found = told.get("like_qemu", {})
+        sent, left = (size_text(found.get(name, 0)) for name in ("sent_bytes", "left_bytes"))
+        ends = f"like QEMU: the trace ends first, looks {found.get('looks')}, sent {sent}, left {left}"
+        short = ["converges: unknown, the trace ends before the migration does; record longer"]
+        return [*short, f"total time: more than {time(told['recorded_seconds'])}", *([ends] if found else [])]
+    down, limit = time(migration["down_seconds"]), time(told["limits"]["down_seconds"])
+    lines = [
+        f"converges: {told['converges']}{counts_of(told, 'converging')}; looks: {migration['looks']}",
+        f"total time: {time(migration['time_seconds'])}",
+        f"sent: {size_text(migration['sent_bytes'])}",
+        f"downtime: {down}, limit: {limit}, kept: {told['kept']}{counts_of(told, 'kept')}",
+    ]
+    if errors := migration.get("errors"):
+        times = f"time {error(errors['time_seconds'])}, downtime {error(errors['down_seconds'])}"
+        lines.append(f"standard errors: sent {size_text(errors['sent_bytes'])}, {times}")
+    lines += ["warning: fewer than 100 pages decided the stop; chance moves it"] * (migration["left_pages"] < 100)
+    why = migration["why"]
+    nothing = f"warning: the plan ends with `{why}`, so nothing bounds the downtime; give more of the link"
+    return lines + [nothing] * (why != "few")
+
+
 def uncertain(sample: samples.Sample) -> list[str]:
     """What is said first of a guest that stood still."""
     told = f"uncertain: the guest stood still for {sample.still_text()} of the recording, and wrote nothing then"
@@ -92,7 +152,7 @@ def warnings(sample: samples.Sample) -> list[str]:
 def of_several(told: dict, begun: datetime.datetime, starts: dict, sample: samples.Sample) -> str:
     """The line of one of several traces: when the migration begins, what it costs, the best and the worst start."""
     parts = [f"{begun:%Y-%m-%d %H:%M:%S}", *cost(told)]
-    parts += [f"like QEMU {', '.join(like_qemu(told))}"] * ("like_qemu" in told)
+    parts += [f"like QEMU {', '.join(found)}" for found in [like_qemu(told)] if found]
     parts += [f"{name} {moment:%H:%M:%S} {size_text(start['sent_bytes'])}" for name, (moment, start) in starts.items()]
     parts += [f"{sample.late} of {sample.samples} looks late"] * (sample.late > 0)
     return "  ".join(parts + [f"uncertain: stood still for {sample.still_text()}"] * sample.stood_still)

@@ -4,11 +4,12 @@
     tools/compare-qemu --memory 2G [options] WORKLOAD         a larger one, of which 16,384 pages are recorded
     tools/compare-qemu --memory 2G --workload SCRIPT --add FILE ..         the same with a workload of your own
 
-It boots a guest, records it by tools/record, and plans a migration with a bandwidth and a downtime limit, by `precopy
-report`, or by `precopy-view` for a larger guest. Then QEMU migrates the same guest to a second process of QEMU over a
-local socket, with the same two limits. The memory of both is compared. A larger guest is planned twice: with the
-bandwidth that was asked for, and with the one that QEMU reached. With --hindsight the guest is recorded again while
-QEMU migrates it, and a third plan is made of that: the difference is what the guest itself changed.
+It boots a guest, records it by tools/record, and plans a migration with a bandwidth and a downtime limit: by the rounds
+of `precopy report`, or for a larger guest by a hypervisor's looks, as `precopy-view` does. Then QEMU migrates the same
+guest to a second process of QEMU over a local socket, with the same two limits. The memory of both is compared. A
+larger guest is planned twice: with the bandwidth that was asked for, and with the one that QEMU reached. With
+--hindsight the guest is recorded again while QEMU migrates it, and a third plan is made of that: the difference is what
+the guest itself changed.
 docs/REAL-GUESTS.md says which packages it needs, and where the model and QEMU differ.
 
 Workloads grow with memory and bandwidth:

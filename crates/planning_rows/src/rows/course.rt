@@ -83,20 +83,20 @@ fn courses_of_redrawn_pages(rt: HostRuntime) {
         start: 5000,
         ..ASKED
     };
-    const CASES: [(Manner, Asked, &str, Told); 9] = [
+    const CASES: [(Manner, Asked, &str, Told); 10] = [
         (
             Manner::Looks,
             FAST,
             "012345",
-            (CourseEnd::Few, 4, 500, 0, 10),
+            (CourseEnd::Fits, 4, 500, 0, 10),
         ),
         (
             Manner::Looks,
             FAST,
             "202124",
-            (CourseEnd::Few, 4, 600, 0, 12),
+            (CourseEnd::Fits, 4, 600, 0, 12),
         ),
-        (Manner::Looks, FAST, "", (CourseEnd::Few, 1, 0, 0, 0)),
+        (Manner::Looks, FAST, "", (CourseEnd::Fits, 1, 0, 0, 0)),
         (
             Manner::Looks,
             SLOW,
@@ -107,13 +107,19 @@ fn courses_of_redrawn_pages(rt: HostRuntime) {
             Manner::Looks,
             SLOW,
             "202124",
-            (CourseEnd::Level, 2, 4000, 1667, 17),
+            (CourseEnd::Cut, 2, 4001, 1667, 17),
+        ),
+        (
+            Manner::Looks,
+            SLOW,
+            "000125",
+            (CourseEnd::Level, 2, 4000, 2000, 17),
         ),
         (
             Manner::Looks,
             WARM,
             "202124",
-            (CourseEnd::Few, 4, 1400, 0, 10),
+            (CourseEnd::Fits, 4, 1400, 0, 10),
         ),
         (
             Manner::Looks,
@@ -151,7 +157,7 @@ fn courses_of_a_trace(rt: HostRuntime) {
         (
             Manner::Looks,
             FAST,
-            (CourseEnd::Few, 4, 500, 0, 10),
+            (CourseEnd::Fits, 4, 500, 0, 10),
             Verdict::Yes,
         ),
         (

@@ -75,14 +75,14 @@ fn predictions_of_a_trace(rt: HostRuntime) {
         (
             Manner::Looks,
             (20, 0),
-            (CourseEnd::Few, 4, 550_000, 40_960, 50_000, 0),
+            (CourseEnd::Fits, 4, 550_000, 40_960, 50_000, 0),
             Verdict::Yes,
             Verdict::Yes,
         ),
         (
             Manner::Looks,
             (5, 0),
-            (CourseEnd::Few, 7, 3_650_000, 73_728, 50_000, 0),
+            (CourseEnd::Fits, 7, 3_650_000, 73_728, 50_000, 0),
             Verdict::Yes,
             Verdict::Yes,
         ),
@@ -119,7 +119,7 @@ fn predictions_of_a_trace(rt: HostRuntime) {
     }
 }
 
-/// The record ends first, and its lists did not get shorter.
+/// The record ends first, and the list under way is as long as the one before it.
 static LEVEL: &str =
     "converges: no, from 0 of 4 starts; the trace ends first, and the lists did not get shorter; looks: 3
 total time: 4.350 s
@@ -186,7 +186,7 @@ fn ranges_over_starts_by_looks(rt: HostRuntime) {
         (
             4,
             Some((
-                [21, 4, 0, 0],
+                [21, 3, 0, 0],
                 (3_150_000, 49_152, 550_000),
                 (4_350_000, 69_632, 800_000),
             )),
@@ -215,21 +215,21 @@ fn ranges_over_starts_by_looks(rt: HostRuntime) {
 
 #[test]
 fn the_best_start_by_looks(rt: HostRuntime) {
-    const ROWS: [(u64, Option<(u64, Numbers)>); 3] = [
-        (3, None),
-        (4, Some((800, (3_750_000, 57_344, 550_000)))),
-        (8, Some((2400, (1_175_000, 36_864, 50_000)))),
+    const ROWS: [(u64, u64, Option<(u64, Numbers)>); 3] = [
+        (4, 400, None),
+        (4, 600, Some((600, (4_200_000, 65_536, 800_000)))),
+        (8, 400, Some((2400, (1_175_000, 36_864, 50_000)))),
     ];
     let alloc = rt.alloc();
     let trace = guest(&rt, alloc, 6, &WRITES);
     let measure = measure(&rt, Manner::Looks);
-    let starts = Starts {
-        from: 0,
-        to: None,
-        every: Some(400),
-    };
-    for &(max, expected) in &ROWS {
+    for &(max, every, expected) in &ROWS {
         let settings = settings(&rt, max, 0);
+        let starts = Starts {
+            from: 0,
+            to: None,
+            every: Some(every),
+        };
         let spread = starts.cases(alloc, &settings, LAST).expect(&rt, "starts");
         let cases = cases_by(alloc, &trace, &spread, &measure).expect(&rt, "memory");
         let best = best_start(alloc, &trace, &measure, &cases).expect(&rt, "memory");

@@ -1,20 +1,19 @@
 -- What is enough for a question, in the numbers that C and a web page have. This project's own.
 use Rattle.std.specs.Prelude.{◌-◌, ◌*◌, ◌^◌, is_some, min, unwrap_or, if◌then◌else◌}
 use Rattle.predictions.specs.Remedies.Trials.{MigrationTrial}
-use Rattle.predictions.specs.declared.course.Manner.TheVariants as manners
 use Rattle.predictions.specs.declared.remedies.finding.Remedies.{Remedies}
 use Rattle.predictions.specs.declared.remedies.numbers.RemedyNumbers.{RemedyNumbers}
-use Rattle.predictions.specs.Questions.{given, limits_in, scale_in, settings_of}
+use Rattle.predictions.specs.Questions.{given, limits_in, manner_in, scale_in, settings_of}
 use Rattle.predictions.specs.declared.question.Question.{Question}
 
--- the migration that a question asks for, whose limits are changed to find what keeps them; it goes by Clark's plan
+-- the migration that a question asks for, whose limits are changed to find what keeps them
 abbrev pub trial_in : Question → MigrationTrial
 trial_in q = record {
   scale = scale_in q;
   limits = limits_in q;
   increment = given q.has_increment q.increment;
   others = settings_of q;
-  manner = manners.Rounds;
+  manner = manner_in q;
 }
 
 -- what was found, with links in bytes a second: a Kbit is 125 bytes

@@ -1,7 +1,8 @@
--- Which of some starts is the best, and which the worst. A start that is likely to keep the limit comes first: its
--- downtime and two standard errors are within it. Of such starts the one that sends less is better, since any downtime
--- is allowed there; of others the one whose downtime is likely to be less. Then the quicker one is. Nobody looks for
--- the worst to take it, so it is told by the plans alone. This project's own.
+-- Which of some starts is the best, and which the worst. A start that is likely to keep the limit comes first: it
+-- keeps it, with two standard errors of the downtime or by a hypervisor that stops the guest only when what is left
+-- fits it. Of such starts the one that sends less is better, since any downtime is allowed there; of others the one
+-- whose downtime is likely to be less. Then the quicker one is. Nobody looks for the worst to take it, so it is told by
+-- the plans alone. This project's own.
 use Rattle.std.specs.Prelude.{◌≡◌, ℕ, ◌+◌, ◌*◌, ◌-◌, ◌^◌, ◌<◌, min, nat_le, nat_lt, ◌&&◌, ◌||◌, ◌==◌, not, true, false}
 use Rattle.std.specs.Prelude.{Bool, if◌then◌else◌, List, [], length, slice_index_or, Option, None, Some}
 use Rattle.std.specs.List.{IsFirstBest, filter}
@@ -34,10 +35,10 @@ abbrev pub likely_downtime : CostAtStart → ℕ
 likely_downtime at = min (at.cost.downtime + 2 * down_error at.errors) (2 ^ 128 - 1)
 
 -- whether the limit is likely to be kept
-abbrev pub is_likely : ℕ → CostAtStart → Bool
-is_likely limit at = nat_le (likely_downtime at) limit
+unfoldable pub is_likely : ℕ → CostAtStart → Bool
+is_likely limit at = at.cost.is_kept && (at.cost.is_bounded || nat_le (likely_downtime at) limit)
 
--- what counts first: how long the guest is likely to stand still if that is more than the limit, and else nothing
+-- what counts first: nothing if the limit is likely to be kept, and else how long the guest is likely to stand still
 abbrev pub overrun : ℕ → CostAtStart → ℕ
 overrun limit at = if is_likely limit at then 0 else likely_downtime at
 

@@ -51,7 +51,7 @@ down_spread None = []
 down_spread (Some errors) = codes " +- " ++ error_text errors.downtime
 
 -- a word on a limit that is kept, but not likely so
-abbrev pub doubt_words : ℕ → CostAtStart → List ℕ
+unfoldable pub doubt_words : ℕ → CostAtStart → List ℕ
 doubt_words limit at =
     if at.cost.is_kept && not (is_likely limit at) then codes " by less than two standard errors" else []
 

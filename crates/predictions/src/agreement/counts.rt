@@ -5,7 +5,7 @@ ghost use Rattle.predictions.specs.Agreements.{converge_as, converges_by, counts
 ghost use Rattle.predictions.specs.Agreements.{keeps_by, nearly_all, of_known, stops_by};
 ghost use Rattle.predictions.specs.declared.course.Course.{Course};
 
-use crate::course::{Course, CourseEnd};
+use crate::course::Course;
 use crate::units::{Limits, Scale};
 use crate::verdict::Verdict;
 
@@ -33,15 +33,14 @@ fn stops_by(course: &Course, last_tick: u64) -> bool
 fn converges_by(course: &Course, last_tick: u64) -> bool
     ensures { result ≡ converges_by last_tick course.now }
 {
-    stops_by(course, last_tick) && matches!(course.ending, CourseEnd::Few)
+    stops_by(course, last_tick) && course.ending.converges()
 }
 
 /// Returns whether a plan that comes to this stops by a tick, and keeps its limit.
 fn keeps_by(scale: &Scale, limits: &Limits, course: &Course, last_tick: u64) -> bool
     ensures { result ≡ keeps_by scale.now limits.now last_tick course.now }
 {
-    let downtime = scale.micros(course.down) + limits.reserve as u128;
-    stops_by(course, last_tick) && downtime <= limits.downtime as u128
+    stops_by(course, last_tick) && course.keeps_limit(scale, limits)
 }
 
 /// Returns a number, and one more if something holds.

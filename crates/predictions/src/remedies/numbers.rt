@@ -5,7 +5,6 @@ ghost use Rattle.std.specs.Prelude.{unwrap_or};
 ghost use Rattle.predictions.specs.Remedies.Questions.{remedy_numbers, trial_in};
 ghost use Rattle.predictions.specs.Questions.{AcceptsQuestion, RefusesQuestion, given};
 
-use crate::course::Manner;
 use crate::question::Question;
 use crate::remedies::change::KBIT;
 use crate::remedies::finding::Remedies;
@@ -91,7 +90,7 @@ fn increment_of(question: &Question) -> Option<u64>
 }
 
 impl Trial {
-    /// Returns the migration that a question asks for, by Clark's plan, or the first thing that is out of its range.
+    /// Returns the migration that a question asks for, or the first thing that is out of its range.
     pub fn of_question(question: &Question) -> Result<Trial, UnitsError>
         ensures made { IfOk result (λ trial. trial ≡ trial_in question.now) }
         ensures accepted { OnOk result (AcceptsQuestion question.now) }
@@ -104,7 +103,7 @@ impl Trial {
             limits: terms.limits,
             increment: increment_of(question),
             others: *terms.settings.asked(),
-            manner: Manner::Rounds,
+            manner: terms.manner,
         })
     }
 }

@@ -6,7 +6,7 @@ ghost use Rattle.predictions.specs.Remedies.Trials.{ComesTo, EndsWell, KeepsLimi
 ghost use Rattle.page_bitmap.specs.Listing.{word_count};
 
 use crate::cost::Cost;
-use crate::course::{Course, CourseEnd, Manner, course_in};
+use crate::course::{Course, Manner, course_in};
 use crate::remedies::aim::Aim;
 use crate::units::{Limits, Scale};
 use crate::verdict::Verdict;
@@ -101,7 +101,7 @@ impl Trial {
     {
         let start = self.others.start;
         let cost = Cost::new(&self.scale, &self.limits, start, course, last_tick);
-        matches!(course.ending, CourseEnd::Few) && matches!(cost.kept(), Verdict::Yes)
+        course.ending.converges() && matches!(cost.kept(), Verdict::Yes)
     }
 
     /// Returns whether the trial comes to what is aimed at if its plan comes to this, over a trace with this last tick.

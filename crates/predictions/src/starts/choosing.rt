@@ -51,11 +51,13 @@ fn likely_downtime_of(at: &StartCost) -> u128
     at.cost.downtime.saturating_add(error.saturating_mul(2))
 }
 
-/// Returns whether the limit is likely to be kept from a start: its downtime and two standard errors are within it.
+/// Returns whether the limit is likely to be kept from a start: it is kept, and with two standard errors of the
+/// downtime, unless the guest is stopped only when what is left fits the limit.
+#[tactic(auto, unfolding(crate::specs::Starts::Choices::is_likely))]
 pub fn is_likely(limit: u64, at: &StartCost) -> bool
     ensures { result ≡ is_likely limit at.now }
 {
-    likely_downtime_of(at) <= limit as u128
+    at.cost.is_kept && (at.cost.is_bounded || likely_downtime_of(at) <= limit as u128)
 }
 
 /// Returns what counts first of a start: nothing if the limit is likely to be kept, and else how long the downtime is

@@ -7,7 +7,7 @@ ghost use Rattle.std.specs.List.{count_by};
 ghost use Rattle.predictions.specs.Starts.Ranges.{AreExtremes, AreRanges, converges_by};
 
 use crate::cost::Cost;
-use crate::course::{Course, CourseEnd};
+use crate::course::Course;
 use crate::measure::Measure;
 use crate::starts::choosing::known_starts;
 use crate::starts::planned::PlannedCase;
@@ -143,7 +143,7 @@ fn converges(case: &PlannedCase, last_tick: u64) -> bool
     ensures { result ≡ converges_by last_tick case.now }
 {
     let Course { stop, ending, .. } = case.course;
-    stop <= last_tick && matches!(ending, CourseEnd::Few)
+    stop <= last_tick && ending.converges()
 }
 
 /// Returns how many migrations converge within a trace with this last tick.

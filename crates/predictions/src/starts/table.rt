@@ -156,6 +156,7 @@ fn push_error_of(text: &mut Vec<u8>, error: u128) -> Result<(), AllocError>
 }
 
 /// Returns a word on a limit that is kept, but not likely so.
+#[tactic(auto, unfolding(crate::specs::Starts::Texts::doubt_words))]
 fn doubt(limit: u64, at: &StartCost) -> &'static str
     ensures { result.now ≡ doubt_words limit at.now }
 {

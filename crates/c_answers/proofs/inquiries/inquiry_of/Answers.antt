@@ -9,7 +9,7 @@ use Rattle.c_answers.proofs.inquiries.inquiry_of.Goals as goal
 pub returns-in_err-log-clause-refused : goal.returns-in_err-log-clause-refused
 returns-in_err-log-clause-refused c =
     let p = err_from_is_err_and c.from_residual-in_err-log.result c.from_residual-in_err-log.ensures.1 in
-    let size : c.args.asked.now.size ≡ 120 = search rules in
+    let size : c.args.asked.now.size ≡ 128 = search rules in
     rw p.1 (subst (RefusesPrediction c.args.bytes.now c.args.asked.now) (sym p.2)
     ((size, c.in_ok-terms.ensures.accepted), c.in_err-log.ensures.refused))
 

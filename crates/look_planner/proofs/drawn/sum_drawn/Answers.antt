@@ -11,7 +11,7 @@ pub loop-end-init : goal.loop-end-init
 loop-end-init g c = record {
   way = sums_start (length c.args.drawn.now) (redrawn_touches c.args.drawn.now
       (g.T.Timeline.touches c.args.timeline.now)) c.args.settings.now c.args.first c.args.room.now _ c.requires.first
-      refl refl refl;
+      refl refl (omega arith);
   ready = c.requires.ready;
   places = c.requires.places;
 }
@@ -33,7 +33,7 @@ loop-end-preserved g c =
       way = sums_go_on (length drawn) all s now (record { from = sent.to; next = seen.next; listed = seen.pages })
           sent c.loop-end.room c.look_drawn-found.new.room c.loop-end.sums c.with-sums.result c.loop-end.invariant.way
           so (has_found (length drawn) all now sent c.loop-end.room c.look_drawn-found.new.room seen.pages look.list
-          look.count) none more.lists more.sent more.shortens refl look.listed;
+          look.count) none more.lists more.sent more.first more.later refl look.listed;
       ready = look.ready _ refl refl;
       places = look.places;
     }

@@ -9,7 +9,7 @@ use Rattle.look_planner.proofs.summing.sum_lists.Goals as goal
 pub loop-end-init : goal.loop-end-init
 loop-end-init g c = record {
   way = sums_start (g.T.Timeline.pages c.args.timeline.now) (g.T.Timeline.touches c.args.timeline.now)
-      c.args.settings.now c.args.first c.args.room.now _ c.requires.first refl refl refl;
+      c.args.settings.now c.args.first c.args.room.now _ c.requires.first refl refl (omega arith);
   ready = c.requires.ready;
 }
 
@@ -29,7 +29,7 @@ loop-end-preserved g c =
       way = sums_go_on pages touches s now (record { from = sent.to; next = seen.next; listed = seen.pages }) sent
           c.loop-end.room c.look-found.new.room c.loop-end.sums c.with-sums.result c.loop-end.invariant.way so
           (has_found pages touches now sent c.loop-end.room c.look-found.new.room seen.pages
-          c.look-found.ensures.list c.look-found.ensures.count) none more.lists more.sent more.shortens refl
+          c.look-found.ensures.list c.look-found.ensures.count) none more.lists more.sent more.first more.later refl
           c.look-found.ensures.listed;
       ready = c.look-found.ensures.ready _ refl refl;
     }

@@ -6,8 +6,7 @@ use Rattle.json.specs.Token.{Token}
 use Rattle.trace_views.specs.AgreementJson.{draws_member}
 use Rattle.trace_views.specs.Enough.{is_sure}
 use Rattle.trace_views.specs.EnoughJson.{enough_member}
-use Rattle.trace_views.specs.LooksJson.{looks_member}
-use Rattle.trace_views.specs.PredictionJson.{answer_members, migration_member}
+use Rattle.trace_views.specs.PredictionJson.{answer_members, migration_member, told_member}
 use Rattle.trace_views.specs.RangesJson.{ranges_member}
 use Rattle.trace_views.specs.ShareJson.{share_member}
 use Rattle.trace_views.proofs.prediction_document.write_outlook.Goals as goal
@@ -35,7 +34,7 @@ returns c =
     let outlook = c.args.outlook.now in
     let answers = answer_members c.args.limit outlook.agreement outlook.prediction outlook.errors in
     let migration = migration_member c.args.outlook.now.prediction c.args.outlook.now.errors in
-    let looks = looks_member c.args.outlook.now.looks in
+    let looks = told_member c.args.outlook.now in
     let draws = draws_member c.args.outlook.now.agreement.draws in
     let ranges = ranges_member c.args.outlook.now.ranges in
     let share = share_member c.args.outlook.now.share in
@@ -43,8 +42,8 @@ returns c =
     let written_enough : c.write_enough.new.out ≡ c.write_share.new.out ++ enough = c.in_ok-write_enough.ensures
     ∙ ap (λ sure. c.write_share.new.out ++ enough_member sure outlook.remedies) c.is_sure-sure.ensures in
     written old (joined answers) migration looks draws ranges share enough c.write_sure.new.out
-    c.write_migration.new.out c.write_looks.new.out c.write_draws.new.out c.write_ranges.new.out
+    c.write_migration.new.out c.write_told.new.out c.write_draws.new.out c.write_ranges.new.out
     c.write_share.new.out c.write_enough.new.out
-    c.in_ok-write_sure.ensures c.in_ok-write_migration.ensures c.in_ok-write_looks.ensures
+    c.in_ok-write_sure.ensures c.in_ok-write_migration.ensures c.in_ok-write_told.ensures
     c.in_ok-write_draws.ensures c.in_ok-write_ranges.ensures c.in_ok-write_share.ensures written_enough
     ∙ ap (λ (l : List Token). old ++ l) (sym (in_a_row answers migration looks draws ranges share enough))

@@ -1,4 +1,4 @@
-use Rattle.std.proofs.Common.{ℕ, List, Some, ap, subst, ◌∙◌}
+use Rattle.std.proofs.Common.{ℕ, List, ap, subst, ◌∙◌}
 use Rattle.clap.specs.Walk.{Row}
 use Rattle.clap.specs.Words.{found_of, rows_of}
 use Rattle.job_commands.specs.declared.command.WordsError.TheVariants.{Help, Memory, Refused, Usage}
@@ -20,12 +20,13 @@ refuses rows (Limits refusal) ticks usage = absurd usage
 pub returns-in-None-clause-refused : goal.returns-in-None-clause-refused
 returns-in-None-clause-refused c =
     let rows = rows_of (found_of c.args.options.now) in
-    let start = ap (λ (s : MigrationSettings). s.start) (c.behind-measure.view_is ∙ c.asked.ensures.value) in
+    let start = ap (λ (s : MigrationSettings). s.start) (c.behind-migration.view_is ∙ c.asked.ensures.value) in
     let P : ℕ → Type 0 = λ from. AreTicksRefused rows from in
     refuses rows c.usage.result (record {
-      settings = c.args.measure.now.settings;
-      scale = Some c.args.both.0;
-      limits = Some c.args.both.1;
-      measured = c.requires;
+      settings = c.args.migration.now.settings;
+      scale = c.args.migration.now.scale;
+      limits = c.args.migration.now.limits;
+      manner = c.args.migration.now.manner;
+      migration = c.requires;
       refused = subst P start c.in-None.ensures.refused;
     }) c.usage.ensures

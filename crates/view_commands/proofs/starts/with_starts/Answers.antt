@@ -11,5 +11,7 @@ returns c =
     let three = adds_both c.args.command c.in_ok-command-2.command c.in_ok-command-3.command _ _ two
     (adds_arg c.in_ok-command-2.command c.in_ok-command-3.command c.flag.result _ c.in_ok-command-3.ensures
     c.flag.ensures.local c.flag.ensures.rule) in
-    IfOk-weaker c.with_units.result _ _ (λ new added. adds_both c.args.command c.in_ok-command-3.command new _ _ three
+    let four = adds_both c.args.command c.in_ok-command-3.command c.in_ok-command-4.command _ _ three
+    c.in_ok-command-4.ensures in
+    IfOk-weaker c.with_units.result _ _ (λ new added. adds_both c.args.command c.in_ok-command-4.command new _ _ four
     added) c.with_units.ensures
