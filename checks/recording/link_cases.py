@@ -10,16 +10,16 @@ from checks.lib import link_model
 from checks.lib.harness import cases_of, drawn, expect
 from checks.lib.tally import module
 from checks.lib.view_texts import schema_of
-from checks.recording.forecast_cases import run_predict
+from checks.recording.forecast_cases import VIEW, run_predict
 from precopy_dev.models import courses, redrawn
 from precopy_dev.tree import TOP
 from precopy_tools.formats import samples, traces
-from precopy_tools.predict import link_clock
+from precopy_tools.predict import forecast, link_clock, plans, texts
 
 SQLITE = os.path.join(TOP, "examples", "guests", "sqlite.light.pcwt")
 BEGUN = datetime.datetime(2026, 11, 26, 23, 59, 58, tzinfo=datetime.timezone.utc)
 NOON = BEGUN.replace(hour=12, minute=0, second=0)
-LINKS, RECORDS = 2000, 150
+LINKS, RECORDS, WORDS = 2000, 150, 60
 STATUSES = {"yes": 0, "no": 3, "unknown": 4, "uncertain": 5}
 
 
@@ -273,6 +273,23 @@ def expect_members(prediction):
         part |= {"required": ["count", "known", "converging", "kept"]} if name == "starts" else {}
         fault = next(jsonschema.Draft202012Validator(part).iter_errors(value), None)
         expect(fault is None, f"{name}: {fault and fault.message}")
+
+
+def words_of_answers(_, folder):
+    """Over a link that stays, the lines that the tool makes of a document are those of `precopy-view predict`."""
+    heads, endings = ("converges: ", "total time: ", "sent: ", "downtime: ", "standard errors: ", "like QEMU: "), set()
+    for draw in drawn("words of answers", range(WORDS)):
+        record, rates, _ = drawn_record(draw)
+        asked = forecast.forecast_of(VIEW[0], record.write(folder))
+        link = forecast.Link(rates[0] << 10, draw.choice([0.01, 0.1, 0.3]))
+        try:
+            told, (_, lines) = asked.told(link), asked.lines(link)
+        except plans.NoRate:
+            continue
+        wanted = [line for line in lines if line.startswith((*heads, "warning: "))]
+        expect(texts.of_told(told) == wanted, f"{draw}: {texts.of_told(told)} in place of {wanted}")
+        endings.add(told.get("migration", {"why": "unknown"})["why"])
+    expect({"few", "level", "unknown"} <= endings, f"{endings}")
 
 
 def a_tenth_midway(_, folder):

@@ -12,6 +12,12 @@ from precopy_tools.quantities import error_text, micros_of, size_text, time_text
 
 SHORT = "unknown, the recording ends before the migration does"
 CONVERGES = {"yes": "converges", "no": "does not converge", "uncertain": "uncertain whether it converges"}
+# Why a plan of looks ends, in the words of `precopy-view predict`.
+ENDS = {
+    "few": "",
+    "looks": "; 2,000 looks are done",
+    "level": "; the trace ends first, and the lists did not get shorter",
+}
 
 
 def time(seconds: float) -> str:
@@ -102,27 +108,33 @@ def of_day(link: DayLink) -> str:
 
 
 def counts_of(told: dict, name: str) -> str:
-    """In how many redraws and from how many starts something is so, as precopy-view tells it."""
+    """In how many redraws and from how many known starts something is so, as precopy-view tells it."""
     parts = [
-        f"{word} {told[what][name]} of {told[what]['count']} {what}"
-        for word, what in (("in", "redraws"), ("from", "starts"))
+        f"{word} {told[what][name]} of {told[what][whole]} {what}"
+        for word, what, whole in (("in", "redraws", "count"), ("from", "starts", "known"))
         if what in told
     ]
     return f", {' and '.join(parts)}" if parts else ""
+
+
+def of_record_end(told: dict) -> list[str]:
+    """The line of what is sent and left when the recording ends before the migration does."""
+    found = told.get("like_qemu")
+    if not found:
+        return []
+    sent, left = (size_text(found[name]) for name in ("sent_bytes", "left_bytes"))
+    return [f"like QEMU: the trace ends first, looks {found['looks']}, sent {sent}, left {left}"]
 
 
 def of_told(told: dict) -> list[str]:
     """The lines of a migration over a link that changes, like those of `precopy-view predict`."""
     migration = told.get("migration")
     if not migration:
-        found = told.get("like_qemu", {})
-        sent, left = (size_text(found.get(name, 0)) for name in ("sent_bytes", "left_bytes"))
-        ends = f"like QEMU: the trace ends first, looks {found.get('looks')}, sent {sent}, left {left}"
-        short = ["converges: unknown, the trace ends before the migration does; record longer"]
-        return [*short, f"total time: more than {time(told['recorded_seconds'])}", *([ends] if found else [])]
-    down, limit = time(migration["down_seconds"]), time(told["limits"]["down_seconds"])
+        short = "converges: unknown, the trace ends before the migration does; record longer"
+        return [short, f"total time: more than {time(told['recorded_seconds'])}", *of_record_end(told)]
+    down, limit, why = time(migration["down_seconds"]), time(told["limits"]["down_seconds"]), migration["why"]
     lines = [
-        f"converges: {told['converges']}{counts_of(told, 'converging')}; looks: {migration['looks']}",
+        f"converges: {told['converges']}{counts_of(told, 'converging')}{ENDS[why]}; looks: {migration['looks']}",
         f"total time: {time(migration['time_seconds'])}",
         f"sent: {size_text(migration['sent_bytes'])}",
         f"downtime: {down}, limit: {limit}, kept: {told['kept']}{counts_of(told, 'kept')}",
@@ -131,9 +143,8 @@ def of_told(told: dict) -> list[str]:
         times = f"time {error(errors['time_seconds'])}, downtime {error(errors['down_seconds'])}"
         lines.append(f"standard errors: sent {size_text(errors['sent_bytes'])}, {times}")
     lines += ["warning: fewer than 100 pages decided the stop; chance moves it"] * (migration["left_pages"] < 100)
-    why = migration["why"]
     nothing = f"warning: the plan ends with `{why}`, so nothing bounds the downtime; give more of the link"
-    return lines + [nothing] * (why != "few")
+    return [*lines, *[nothing] * (why != "few"), *of_record_end(told)]
 
 
 def uncertain(sample: samples.Sample) -> list[str]:
