@@ -168,7 +168,7 @@ def nothing_fits(page):
 def old_starts(page):
     """Curves of settings that were changed since."""
     with_starts(page)
-    typed(page, "rounds", "3")
+    typed(page, "downtime", "400")
 
 
 def ended_worker(page):

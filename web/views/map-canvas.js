@@ -48,6 +48,20 @@ function stretchesIn(cells, row, columns) {
   return found;
 }
 
+/** The stretches of a row as one where they are no further apart than this. */
+function mergedStretches(stretches, apart) {
+  const found = [];
+  for (const { from, length, top } of stretches) {
+    const last = found.at(-1);
+    if (last && from - (last.from + last.length) <= apart) {
+      last.length = from + length - last.from;
+    } else {
+      found.push({ from, length, top });
+    }
+  }
+  return found;
+}
+
 /** Paints the turns of pages, with a halo that parts them from the writes below. */
 export function paintTurns(canvas, { columns, rows }, cells, { width, height }) {
   const style = getComputedStyle(canvas.parentElement);
@@ -60,11 +74,17 @@ export function paintTurns(canvas, { columns, rows }, cells, { width, height }) 
   const high = Math.max(LEAST_TURN_HEIGHT, Math.min(MOST_TURN_HEIGHT, step));
   const halo = (HALO * columns) / width;
   const all = Array.from({ length: rows }, (_, row) => stretchesIn(cells, row, columns)
-    .map((stretch) => ({ ...stretch, top: (row + 0.5) * step - high / 2 }))).flat();
+    .map((stretch) => ({ ...stretch, top: (row + 0.5) * step - high / 2 })));
   pen.fillStyle = style.getPropertyValue("--paper");
-  all.forEach(({ from, length, top }) => pen.fillRect(from - halo, top - HALO, length + 2 * halo, high + 2 * HALO));
-  all.forEach(({ kind, from, length, top }) => {
-    pen.fillStyle = colours.get(kind);
-    pen.fillRect(from, top, length, high);
+  all.flatMap((stretches) => mergedStretches(stretches, 2 * halo)).forEach(({ from, length, top }) => {
+    pen.fillRect(from - halo, top - HALO, length + 2 * halo, high + 2 * HALO);
   });
+  for (const [kind, colour] of colours) {
+    pen.fillStyle = colour;
+    all.forEach((stretches) => stretches.forEach((stretch) => {
+      if (stretch.kind === kind) {
+        pen.fillRect(stretch.from, stretch.top, stretch.length, high);
+      }
+    }));
+  }
 }

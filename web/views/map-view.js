@@ -8,7 +8,8 @@ import { Inspector } from "./inspector.js";
 import { paintTurns, paintWrites } from "./map-canvas.js";
 import { counted, countOf, momentText, SIZE_UNITS } from "../model/numbers.js";
 import { AXIS_HEIGHT, axisLabels, axisOf, pictureOf, widthOf } from "./plot.js";
-import { pagesWords, roundsIn, roundsName, sumsOf, sumsWords } from "../model/round-words.js";
+import { nounsOf } from "../model/nouns.js";
+import { pagesWords, roundsIn, sumsOf, sumsWords } from "../model/round-words.js";
 import { mapFile, mapTable } from "./tables.js";
 import { amountOf, microsOf } from "../model/units.js";
 
@@ -34,6 +35,20 @@ const MOST_REST = 100;
 /** By how many rows a key moves, and how many pages it shows beside those that are shown. */
 const ROW_KEYS = new Map([["ArrowUp", -1], ["ArrowDown", 1]]);
 const PAGE_ZOOMS = new Map([["*", 1 / 2], ["/", 2]]);
+
+/** How far marks are apart at least, in pixels. */
+const MARK_ROOM = 4;
+
+/** Of ticks, those that are so far from the one before that a mark of each is seen. */
+function apartOf(axis, ticks) {
+  const found = [];
+  for (const tick of ticks) {
+    if (found.length === 0 || axis.place(tick) - axis.place(found.at(-1)) >= MARK_ROOM) {
+      found.push(tick);
+    }
+  }
+  return found;
+}
 
 /** How many rows some pages have. */
 function rowsOfGrid({ fromPage, endPage }) {
@@ -222,18 +237,27 @@ export class MapView {
     const picture = pictureOf(width, MAP_TOP + MAP_HEIGHT + AXIS_HEIGHT, parts);
     this.plot.replaceChildren(this.canvas, this.turns, picture);
     paintWrites(this.canvas, this.held, steps);
-    this.tellLegend(steps, most);
-    byId("map-most").textContent = this.mostWords(totals.indexOf(Math.max(...totals)));
+    this.heat = { steps, most };
     this.drawRounds();
     this.inspector.hold(this.look(settings));
   }
 
-  tellLegend(steps, most) {
+  /** The plan whose rounds or lists are shown, or are to be. */
+  plan() {
+    return this.wanted?.prediction?.plan ?? this.rounds?.prediction?.plan ?? { isClark: false };
+  }
+
+  tellLegend() {
+    const { steps, most } = this.heat;
+    const { many, begins } = nounsOf(this.plan());
     const item = (name, words) => html("li", {}, html("i", { class: `key ${name}` }), words);
     byId("map-legend").replaceChildren(html("li", {}, steps.length > 0 ? "writes:" : "no writes;"),
       ...heatWords(steps, most).map((words, step) => item(`heat-${step + 1}`, words)),
-      html("li", {}, "rounds:"), item("turn sent", "sent"), item("turn dirtied", "sent, but dirtied"),
-      item("turn skipped", "skipped"), item("edge", "a round begins"), item("stop", "stop"));
+      html("li", {}, `${many}:`), item("turn sent", "sent"), item("turn dirtied", "sent, but dirtied"),
+      ...(this.plan().isClark ? [item("turn skipped", "skipped")] : []), item("edge", begins), item("stop", "stop"));
+    byId("map-summary").textContent = `Table of ${many} by pages`;
+    const { totals } = this.held;
+    byId("map-most").textContent = this.mostWords(totals.indexOf(Math.max(...totals)));
   }
 
   /** The axis of pages, in bytes: the unit that it has, and so many digits that its labels differ. */
@@ -280,7 +304,8 @@ export class MapView {
     const { totals, fromPage, endPage } = this.held;
     const all = totals.reduce((sum, count) => sum + count, 0);
     const inRow = Math.ceil((endPage - fromPage) / totals.length);
-    const many = inRow === 1 ? "" : ` A row has up to ${countOf(inRow, "page")}: it is dirtied or skipped if one is.`;
+    const kinds = this.plan().isClark ? "dirtied or skipped" : "dirtied";
+    const many = inRow === 1 ? "" : ` A row has up to ${countOf(inRow, "page")}: it is ${kinds} if one is.`;
     const densest = `${this.rowWords(row)}: ${counted(totals[row])}`;
     if (all < 2) {
       return all === 0 ? "No page is written in this stretch of time."
@@ -296,15 +321,18 @@ export class MapView {
 
   /** Draws the turns of pages, where the rounds begin, and the stop; and fills the table. */
   drawRounds() {
+    this.tellLegend();
     const { axis, turnGrid } = this.held;
     const isDrawn = this.areRoundsDrawn();
     const cells = isDrawn ? this.rounds.found.cells : new Uint8Array(turnGrid.columns * turnGrid.rows);
     paintTurns(this.turns, turnGrid, cells, { width: axis.room, height: MAP_HEIGHT });
     const plan = this.rounds?.held.trace === this.held.trace ? this.rounds.prediction?.plan : null;
-    const places = plan ? [...plan.rounds.map(({ from }) => ["edge", from]), ["stop", plan.stop]] : [];
-    this.marks.replaceChildren(...places.filter(([, tick]) => tick >= axis.first && tick <= axis.last)
-      .flatMap(([name, tick]) => [area("halo", axis.place(tick) - 1.5, MAP_TOP, 3, MAP_HEIGHT),
-        area(name, axis.place(tick) - 0.5, MAP_TOP, name === "stop" ? 2 : 1, MAP_HEIGHT)]));
+    const isIn = (tick) => tick >= axis.first && tick <= axis.last;
+    const marked = (name, tick) => [area("halo", axis.place(tick) - 1.5, MAP_TOP, 3, MAP_HEIGHT),
+      area(name, axis.place(tick) - 0.5, MAP_TOP, name === "stop" ? 2 : 1, MAP_HEIGHT)];
+    const edges = plan ? apartOf(axis, plan.rounds.map(({ from }) => from).filter(isIn)) : [];
+    this.marks.replaceChildren(...edges.flatMap((tick) => marked("edge", tick)),
+      ...(plan?.isStopped && isIn(plan.stop) ? marked("stop", plan.stop) : []));
     byId("map-details").hidden = !this.rounds?.found;
     this.fill();
   }
@@ -347,7 +375,7 @@ export class MapView {
     const { found, prediction: { plan }, held: { grid: { rows } } } = this.rounds;
     const range = roundsIn(plan, from, to);
     const sums = sumsOf(found, rows, range, this.row === null ? [0, rows] : [this.row, this.row + 1]);
-    return range[1] === 0 ? "" : `; ${sumsWords(roundsName(plan, range), sums, moment)}`;
+    return range[1] === 0 ? "" : `; ${sumsWords(plan, range, sums, moment)}`;
   }
 
   look(settings) {
