@@ -414,10 +414,11 @@ struct precopy_agreement {
 
 /*
  * Sets *agreement to how sure the verdicts of precopy_predict are, as `precopy-view predict` tells it: an answer is
- * uncertain unless 19 of 20 draws, and 19 in 20 of the starts, have it too. By rounds a limit is surely kept if two
- * standard errors more of the downtime are within it; a hypervisor stops the guest only when what is left fits it.
+ * uncertain unless 19 of 20 draws, and 19 in 20 of the starts, have it too. If a hypervisor's plan converges, the draws
+ * have a tenth less of the link. By rounds a limit is surely kept if two standard errors more of the downtime are within
+ * it; a hypervisor stops the guest only when what is left fits it.
  *
- * It tests what precopy_predict does, in the same order. It takes memory as that does, and the time of 62 plans.
+ * It tests what precopy_predict does, in the same order. It takes memory as that does, and the time of 63 plans.
  */
 PRECOPY_ANSWERS PRECOPY_NOT_NULL(3, 4, 5)
 uint32_t precopy_agreement(const uint8_t *trace, size_t trace_length, const struct precopy_question *question,

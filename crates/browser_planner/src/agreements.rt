@@ -7,25 +7,25 @@
 ghost use Rattle.std.specs.Prelude.{◌≡◌, ◌≢◌, ◌≤◌, ◌↔◌, IfErr, IfOk, IsOk, IsTrue, OnErr, length};
 ghost use Rattle.migration_model.specs.Trace.{GuestTrace, Spells};
 ghost use Rattle.predictions.specs.Agreements.{AreDrawCounts, AreStartCounts};
-ghost use Rattle.predictions.specs.Predictions.Traces.{IsPrediction};
+ghost use Rattle.predictions.specs.Courses.{IsCourseOver};
 ghost use Rattle.predictions.specs.Questions.{AcceptsQuestion, Fits, scale_in, terms_of};
 ghost use Rattle.predictions.specs.Redrawn.Errors.{AreErrors};
 ghost use Rattle.browser_planner.specs.Agreements.{HasRoomToAgree, IsAgreementFor};
 ghost use Rattle.browser_planner.specs.Answers.{IsNumberOf};
 ghost use Rattle.browser_planner.specs.Plans.{room_of};
-ghost use Rattle.browser_planner.specs.Predictions.{OfTrace, RefusesAsked};
+ghost use Rattle.browser_planner.specs.Predictions.{IsForetold, OfTrace, RefusesAsked};
 
 use crate::answers::Refusal;
-use crate::foretelling::foretold_over;
+use crate::foretelling::{Foretold, foretold_over};
 use crate::plans::PlanRoom;
 use crate::touches::{LentLog, LentTouch, put_touches};
 use guest_log::{Shape, Timeline};
 use page_bitmap::word_count;
 use predictions::agreement::{
-    Agreement, AgreementNumbers, AnswerCounts, draw_counts, start_counts,
+    Agreement, AgreementNumbers, AnswerCounts, asked_of_draws, draw_counts, start_counts,
 };
 use predictions::redrawn::{Errors, has_errors, sample_errors};
-use predictions::{Measure, Prediction, Question, Terms, check_fit};
+use predictions::{Course, Measure, Question, Terms, check_fit};
 use round_planner::RoundRow;
 use trace_codec::TraceView;
 
@@ -73,14 +73,17 @@ fn errors_over(
     Some(sample_errors(log, settings, scale, *manner, list, marks))
 }
 
-/// Returns the answers of the plans of a sample's draws, if pages were sampled.
+/// Returns the answers of the plans of a sample's draws, if pages were sampled, by what the plan of the sample comes to.
 fn draws_over(
     log: &LentLog<'_>,
     terms: &Terms,
     measure: &Measure,
+    course: &Course,
     marks: &mut [u64],
     list: &mut [u32],
 ) -> Option<AnswerCounts>
+    requires course { IsCourseOver measure.now.manner log.now.pages log.now.touches measure.now.scale
+        terms.now.settings course.now }
     requires marks { 3_072 ≤ length marks.old }
     requires list { 131_072 ≤ length list.old }
     ensures { AreDrawCounts measure.now.manner log.now.pages log.now.touches terms.now.settings measure.now.scale
@@ -90,7 +93,8 @@ fn draws_over(
     if !has_errors(&measure.scale) {
         return None;
     }
-    Some(draw_counts(log, &terms.settings, measure, list, marks))
+    let asked = asked_of_draws(course, &terms.settings);
+    Some(draw_counts(log, &asked, measure, list, marks))
 }
 
 /// Returns the answers of the plans from the starts that a log allows.
@@ -114,24 +118,22 @@ fn starts_over(
     start_counts(log, &terms.settings, measure, marks, list, rounds)
 }
 
-/// Returns what the plan of a log predicts.
-fn prediction_over(
+/// Returns what the plan of a log comes to and predicts.
+fn plan_over(
     log: &LentLog<'_>,
     terms: &Terms,
     marks: &mut [u64],
     list: &mut [u32],
     rounds: &mut [RoundRow],
-) -> Prediction
+) -> Foretold
     requires marks { 3_072 ≤ length marks.old }
     requires list { 131_072 ≤ length list.old }
     requires rounds { 64 ≤ length rounds.old }
-    ensures { IsPrediction terms.now.manner log.now.pages log.now.touches terms.now.scale terms.now.limits
-        terms.now.settings result }
+    ensures { IsForetold terms.now.manner terms.now log.now.pages log.now.touches result }
 {
     let _pages = log.page_count();
     let _in_range = terms.settings.asked();
-    let foretold = foretold_over(log, terms, marks, list, rounds);
-    foretold.prediction
+    foretold_over(log, terms, marks, list, rounds)
 }
 
 /// Returns how sure the answer to a question about a trace is.
@@ -154,10 +156,10 @@ fn agreement_in(
         limits: terms.limits,
         manner: terms.manner,
     };
-    let prediction = prediction_over(&log, terms, marks, list, rounds);
+    let Foretold { course, prediction } = plan_over(&log, terms, marks, list, rounds);
     let errors = errors_over(&log, terms, marks, list);
     let agreement = Agreement {
-        draws: draws_over(&log, terms, &measure, marks, list),
+        draws: draws_over(&log, terms, &measure, &course, marks, list),
         starts: starts_over(&log, terms, &measure, marks, list, rounds),
     };
     AgreementNumbers::new(terms.limits.downtime, &agreement, &prediction, &errors)

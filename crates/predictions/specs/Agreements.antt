@@ -8,7 +8,7 @@ use Rattle.std.specs.List.{AllZip, count_by, range_with_len}
 use Rattle.migration_model.specs.Rates.{MigrationSettings}
 use Rattle.migration_model.specs.Touches.{GuestTouch, last_tick_of}
 use Rattle.predictions.specs.Courses.{IsCourseOver}
-use Rattle.predictions.specs.Courses.Ends.{converges}
+use Rattle.predictions.specs.Courses.Ends.{converges, is_bounded}
 use Rattle.predictions.specs.Predictions.{GuestPrediction, MigrationCost, keeps_limit, kept_of, verdict_of}
 use Rattle.predictions.specs.Redrawn.Draws.{draws_of}
 use Rattle.predictions.specs.Redrawn.Errors.{AreRedrawn, HasErrors, SampleErrors}
@@ -62,11 +62,11 @@ with_less_link s = record s {
   threshold = max 1 (s.threshold * nine_tenths s.max / s.max);
 }
 
--- What is asked of draws: whether a yes holds with a tenth less of the link, and whether a no holds. The lists of a
--- sample are short, so near the link at which a guest's lists just keep their length chance makes them waver, and a
--- plan ends the first time that one fits. Its draws waver about it, and not about the guest.
+-- What is asked of draws: whether the answer holds, and if a hypervisor's plan converges, whether it does with a tenth
+-- less of the link. The lists of a sample are short. Near the link at which a guest's lists just keep their length
+-- chance makes them waver, and the plan ends the first time that one fits. Draws waver about the sample, not the guest.
 abbrev pub asked_of_draws : Course → MigrationSettings → MigrationSettings
-asked_of_draws course s = if converges course.ending then with_less_link s else s
+asked_of_draws course s = if is_bounded course.ending then with_less_link s else s
 
 -- the counts of 20 draws, of which that is asked
 pub record AreAskedCounts (manner : Manner) (pages : ℕ) (touches : List GuestTouch) (s : MigrationSettings)

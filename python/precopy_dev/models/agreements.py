@@ -45,11 +45,11 @@ def with_less_link(asked: Settings) -> Settings:
 
 
 def draw_counts(record: Record, trial: Trial) -> Counts | None:
-    """A yes has to hold in draws with a tenth less of the link."""
+    """A hypervisor's yes has to hold in draws with a tenth less of the link."""
     if not is_sampled(trial):
         return None
     asked = settings(trial)
-    if record.course(asked, trial.scale, trial.manner).ending == "few":
+    if trial.manner is Manner.LOOKS and record.course(asked, trial.scale, trial.manner).ending == "few":
         asked = with_less_link(asked)
     return counts(record, trial, record.redrawn(asked, trial.scale, trial.manner))
 

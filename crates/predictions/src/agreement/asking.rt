@@ -33,11 +33,11 @@ fn with_less_link(settings: &Settings) -> Settings
 }
 
 /// Returns the settings of the plans of draws, by what the plan of the sample comes to: with a tenth less of the link
-/// if that converges.
+/// if that is a hypervisor's and converges.
 pub fn asked_of_draws(course: &Course, settings: &Settings) -> Settings
     ensures { result ≡ asked_of_draws course.now settings.now }
 {
-    if course.ending.converges() {
+    if course.ending.is_bounded() {
         with_less_link(settings)
     } else {
         *settings
