@@ -314,7 +314,7 @@ def check_long(page, folder):
         if "65,280 writes" not in said and "65,281 writes" not in said:
             raise Failure(said)
         page.wait_for_plan()
-        require_free(page, "60 changes", lambda: page.browser.value(CHANGES))
+        require_free(page, "60 changes", lambda: changes(page, 60))
         print(f"  a plan takes {statistics.median(page.browser.value('plans')):.1f} ms in the middle")
         tell_starts(page, more_memory)
     elif "E16" not in said:
