@@ -1,7 +1,7 @@
 // The map of pages over time: which pages are written when, and how often, and over it what the rounds of the plan do
 // with them. The worker counts; the pictures are canvases with an axis, and marks of rounds are drawn over them.
 
-import { area, byId, html, isCommand, keepFocus, label, svg } from "./elements.js";
+import { area, areas, byId, html, isCommand, keepFocus, label, svg } from "./elements.js";
 import { saveButtons } from "./exports.js";
 import { heatSteps, heatWords } from "../model/heat.js";
 import { Inspector } from "./inspector.js";
@@ -230,15 +230,15 @@ export class MapView {
       preserveAspectRatio: "none", "image-rendering": "pixelated" }));
     const parts = [
       ...this.scaleParts(settings.sample ? "Where in the sample" : "Where in memory"),
-      label("title", axis.width + 6, MAP_TOP - 9, "writes"), ...this.images, ...this.hotParts(), this.marks,
+      label("title", axis.width + 6, MAP_TOP - 9, "writes"), ...this.images, this.hotParts(), this.marks,
       ...axisLabels(axis, settings.tick.amount || 1, MAP_TOP + MAP_HEIGHT, "time in the trace"),
     ];
     [this.canvas, this.turns].forEach((canvas) => canvas.style.setProperty("width", `${axis.room}px`));
     const picture = pictureOf(width, MAP_TOP + MAP_HEIGHT + AXIS_HEIGHT, parts);
-    this.plot.replaceChildren(this.canvas, this.turns, picture);
     paintWrites(this.canvas, this.held, steps);
     this.heat = { steps, most };
     this.drawRounds();
+    this.plot.replaceChildren(this.canvas, this.turns, picture);
     this.inspector.hold(this.look(settings));
   }
 
@@ -283,8 +283,9 @@ export class MapView {
     const { axis, grid: { rows }, totals } = this.held;
     const hottest = Math.max(1, ...totals);
     const height = MAP_HEIGHT / rows;
-    return [...totals].flatMap((count, row) => (count === 0 ? []
-      : [area("hot", axis.width + 6, MAP_TOP + row * height, (count / hottest) * HOT_WIDTH, Math.max(1, height))]));
+    const boxOf = (count, row) => [axis.width + 6, MAP_TOP + row * height, (count / hottest) * HOT_WIDTH,
+      Math.max(1, height)];
+    return areas("hot", Array.from(totals, boxOf).filter(([, , wide]) => wide > 0));
   }
 
   /** The first page of each row, and the end of all. */
@@ -321,18 +322,19 @@ export class MapView {
 
   /** Draws the turns of pages, where the rounds begin, and the stop; and fills the table. */
   drawRounds() {
-    this.tellLegend();
     const { axis, turnGrid } = this.held;
     const isDrawn = this.areRoundsDrawn();
     const cells = isDrawn ? this.rounds.found.cells : new Uint8Array(turnGrid.columns * turnGrid.rows);
     paintTurns(this.turns, turnGrid, cells, { width: axis.room, height: MAP_HEIGHT });
+    this.tellLegend();
     const plan = this.rounds?.held.trace === this.held.trace ? this.rounds.prediction?.plan : null;
     const isIn = (tick) => tick >= axis.first && tick <= axis.last;
-    const marked = (name, tick) => [area("halo", axis.place(tick) - 1.5, MAP_TOP, 3, MAP_HEIGHT),
-      area(name, axis.place(tick) - 0.5, MAP_TOP, name === "stop" ? 2 : 1, MAP_HEIGHT)];
+    const boxOf = (tick, left, wide) => [axis.place(tick) - left, MAP_TOP, wide, MAP_HEIGHT];
+    const marked = (name, ticks, wide) => [areas("halo", ticks.map((tick) => boxOf(tick, 1.5, 3))),
+      areas(name, ticks.map((tick) => boxOf(tick, 0.5, wide)))];
     const edges = plan ? apartOf(axis, plan.rounds.map(({ from }) => from).filter(isIn)) : [];
-    this.marks.replaceChildren(...edges.flatMap((tick) => marked("edge", tick)),
-      ...(plan?.isStopped && isIn(plan.stop) ? marked("stop", plan.stop) : []));
+    const stops = plan?.isStopped && isIn(plan.stop) ? [plan.stop] : [];
+    this.marks.replaceChildren(...marked("edge", edges, 1), ...marked("stop", stops, 2));
     byId("map-details").hidden = !this.rounds?.found;
     this.fill();
   }

@@ -1,7 +1,7 @@
 // The picture of a plan: the pages of each round or list and its rate, the stop and the downtime, by the time since the
 // start.
 
-import { area, grounded } from "./elements.js";
+import { area, areas, grounded } from "./elements.js";
 import { nounsOf, stepNumber } from "../model/nouns.js";
 import { counted, momentText, pagesText, timeText } from "../model/numbers.js";
 import { AXIS_HEIGHT, axisOf, axisLabels, barOf, frameOf, panelOf, pictureOf } from "./plot.js";
@@ -57,28 +57,28 @@ export function reachOf(predictions, range) {
   return { ...reach, stretch, unit: { name: unitName(unit, RATE_UNITS), size: RATE_UNITS[unit] } };
 }
 
-/** The pages that are dirtied, as a mark over the bar of the round, with a halo that parts it from what it lies on. */
-function dirtiedParts(pages, round, left, width) {
-  const y = pages.level(round.dirtied);
-  return [area("halo", left, y - 3, Math.max(2, width), 6), area("dirtied", left, y - 1.5, Math.max(2, width), 3)];
-}
-
 /** When something is on the axis of a plan, in microseconds since its start. */
 function sinceStart({ settings, scale }, tick) {
   return (tick - settings.start) * Number(scale.tick);
 }
 
-function roundParts(axis, pages, rates, round, prediction) {
+/**
+ * The rectangles of a round or a list, by what they show. The pages that are dirtied are a mark over the bar, with a
+ * halo that parts it from what it lies on.
+ */
+function boxesOf(axis, pages, rates, round, prediction) {
   const [left, right] = barOf(axis, sinceStart(prediction, round.from), sinceStart(prediction, round.to));
   const width = right - left;
   const skipped = round.pages - round.sent;
   const rate = bytesASecond(prediction.scale, round.rate);
-  return [
-    area("sent", left, pages.level(round.sent), width, pages.rise(round.sent)),
-    area("skipped", left, pages.level(round.pages), width, Math.max(0, pages.rise(skipped) - 1)),
-    ...dirtiedParts(pages, round, left, width),
-    area("rate", left, rates.level(rate), width, rates.rise(rate)),
-  ];
+  const dirtied = pages.level(round.dirtied);
+  return {
+    sent: [left, pages.level(round.sent), width, pages.rise(round.sent)],
+    skipped: [left, pages.level(round.pages), width, pages.rise(skipped) - 1],
+    halo: [left, dirtied - 3, Math.max(2, width), 6],
+    dirtied: [left, dirtied - 1.5, Math.max(2, width), 3],
+    rate: [left, rates.level(rate), width, rates.rise(rate)],
+  };
 }
 
 /** Whether something from one tick to another is seen, at least in part. */
@@ -99,6 +99,12 @@ function drawnSteps(axis, prediction) {
     columns.set(column, other && other.pages >= step.pages ? other : step);
   }
   return [...columns.values()];
+}
+
+/** The rounds or lists of a plan, in the order in which their parts lie over each other. */
+function stepParts(axis, pages, rates, prediction) {
+  const all = drawnSteps(axis, prediction).map((round) => boxesOf(axis, pages, rates, round, prediction));
+  return ["sent", "skipped", "halo", "dirtied", "rate"].map((kind) => areas(kind, all.map((boxes) => boxes[kind])));
 }
 
 function stopParts(axis, panel, prediction) {
@@ -143,7 +149,7 @@ export function roundsPicture(width, prediction, reach) {
   const parts = [
     ...frameOf(axis, pages, `${scale.isSample ? "Sample pages" : "Pages"} of a ${one}`),
     ...frameOf(axis, rates, `Rate of a ${one}, in ${unit.name}`, rateText),
-    ...drawnSteps(axis, prediction).flatMap((round) => roundParts(axis, pages, rates, round, prediction)),
+    ...stepParts(axis, pages, rates, prediction),
     area("link", axis.place(axis.first), rates.level(bytesASecond(scale, settings.max)) - 0.5, axis.room, 1),
     ...stopParts(axis, pages, prediction), ...stopParts(axis, rates, prediction),
     ...laterParts(axis, [pages, rates], prediction),
