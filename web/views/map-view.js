@@ -36,19 +36,8 @@ const MOST_REST = 100;
 const ROW_KEYS = new Map([["ArrowUp", -1], ["ArrowDown", 1]]);
 const PAGE_ZOOMS = new Map([["*", 1 / 2], ["/", 2]]);
 
-/** How far marks are apart at least, in pixels. */
-const MARK_ROOM = 4;
-
-/** Of ticks, those that are so far from the one before that a mark of each is seen. */
-function apartOf(axis, ticks) {
-  const found = [];
-  for (const tick of ticks) {
-    if (found.length === 0 || axis.place(tick) - axis.place(found.at(-1)) >= MARK_ROOM) {
-      found.push(tick);
-    }
-  }
-  return found;
-}
+/** How wide a round or a list is at least whose begin is marked, in pixels: marks of others would hide the turns. */
+const MARK_ROOM = 8;
 
 /** How many rows some pages have. */
 function rowsOfGrid({ fromPage, endPage }) {
@@ -332,7 +321,8 @@ export class MapView {
     const boxOf = (tick, left, wide) => [axis.place(tick) - left, MAP_TOP, wide, MAP_HEIGHT];
     const marked = (name, ticks, wide) => [areas("halo", ticks.map((tick) => boxOf(tick, 1.5, 3))),
       areas(name, ticks.map((tick) => boxOf(tick, 0.5, wide)))];
-    const edges = plan ? apartOf(axis, plan.rounds.map(({ from }) => from).filter(isIn)) : [];
+    const isWide = ({ from, to }, place) => place === 0 || axis.place(to) - axis.place(from) >= MARK_ROOM;
+    const edges = (plan?.rounds ?? []).filter(isWide).map(({ from }) => from).filter(isIn);
     const stops = plan?.isStopped && isIn(plan.stop) ? [plan.stop] : [];
     this.marks.replaceChildren(...marked("edge", edges, 1), ...marked("stop", stops, 2));
     byId("map-details").hidden = !this.rounds?.found;

@@ -15,7 +15,7 @@ const PAGES_HEIGHT = 200;
 const RATES_TOP = 266;
 const RATES_HEIGHT = 84;
 
-/** How wide a list is at least, in pixels, if there are more than so many: others of its pixels are not drawn. */
+/** How wide the pixels are that lists share if there are more than so many. */
 const MANY_STEPS = 64;
 const STEP_ROOM = 4;
 
@@ -86,7 +86,7 @@ function isIn(axis, prediction, from, to) {
   return sinceStart(prediction, from) < axis.last && sinceStart(prediction, to) >= axis.first;
 }
 
-/** The steps of a plan that are drawn: of many that share their pixels the one with the most pages. */
+/** The steps of a plan that are drawn. Of many those that share their pixels are one, as the one with the most pages. */
 function drawnSteps(axis, prediction) {
   const seen = prediction.plan.rounds.filter(({ from, to }) => isIn(axis, prediction, from, to));
   if (seen.length <= MANY_STEPS) {
@@ -95,8 +95,9 @@ function drawnSteps(axis, prediction) {
   const columns = new Map();
   for (const step of seen) {
     const column = Math.floor(axis.place(sinceStart(prediction, step.from)) / STEP_ROOM);
-    const other = columns.get(column);
-    columns.set(column, other && other.pages >= step.pages ? other : step);
+    const others = columns.get(column) ?? step;
+    const fullest = others.pages >= step.pages ? others : step;
+    columns.set(column, { ...fullest, from: others.from, to: step.to });
   }
   return [...columns.values()];
 }
