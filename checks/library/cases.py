@@ -10,7 +10,19 @@ from checks.lib import traces as all_traces
 from checks.lib.harness import drawn, expect
 from checks.lib.library_runs import LIBRARY, is_done, program_says, read, run
 from checks.lib.traces import EXAMPLES, Trace
-from checks.library import beside, header, installs, open_traces, places, python, rust, starts, streams, traces
+from checks.library import (
+    beside,
+    header,
+    installs,
+    open_traces,
+    places,
+    python,
+    recordings,
+    rust,
+    starts,
+    streams,
+    traces,
+)
 from precopy_dev.tree import TOP
 from precopy_tools import version
 
@@ -322,6 +334,7 @@ def check(tally, folder, given):
         "streams": lambda: (check_streams(tally), streams.check(tally)),
         "places": lambda: places.check(tally),
         "opened": lambda: open_traces.check(tally),
+        "recordings": lambda: recordings.check(tally),
         "starts": lambda: starts.check(tally, folder, given.precopy_view),
         "python": lambda: python.check(tally, folder),
         "rust": lambda: check_rust(tally, folder, program),
