@@ -33,7 +33,7 @@ export function roundsIn({ rounds, stop, down, isStopped }, from, to) {
 export function roundsName(plan, [first, last]) {
   const { one, many } = nounsOf(plan);
   const end = Math.min(last, plan.rounds.length);
-  const [from, to] = [first, end - 1].map((place) => stepNumber(plan, place));
+  const [from, to] = [first, end - 1].map((place) => counted(stepNumber(plan, place)));
   const name = end === first + 1 ? `${one} ${from}` : `${many} ${from} to ${to}`;
   return [...(end > first ? [name] : []), ...(last > end ? ["the stop"] : [])].join(" and ");
 }

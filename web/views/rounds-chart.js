@@ -86,7 +86,7 @@ function isIn(axis, prediction, from, to) {
   return sinceStart(prediction, from) < axis.last && sinceStart(prediction, to) >= axis.first;
 }
 
-/** The steps of a plan that are drawn. Of many those that share their pixels are one, as the one with the most pages. */
+/** The steps of a plan that are drawn. Of many those that share pixels are one bar, of the one with most pages. */
 function drawnSteps(axis, prediction) {
   const seen = prediction.plan.rounds.filter(({ from, to }) => isIn(axis, prediction, from, to));
   if (seen.length <= MANY_STEPS) {
@@ -177,8 +177,9 @@ function wordsOf(prediction, unit, at) {
   const { bytes, seconds } = rateIn(scale, round.rate);
   const rate = fewDigitsText(bytes, seconds * unit.size);
   const name = plan.isClark ? "Round" : "List";
-  return `${name} ${stepNumber(plan, at)}, ${since(round.from)} to ${since(round.to)}, at ${rate} ${unit.name}: `
-    + `${pagesText(scale, round.pages)}, ${counted(round.sent)} sent, ${counted(round.dirtied)} dirtied meanwhile`
+  return `${name} ${counted(stepNumber(plan, at))}, ${since(round.from)} to ${since(round.to)}, `
+    + `at ${rate} ${unit.name}: ${pagesText(scale, round.pages)}, ${counted(round.sent)} sent, `
+    + `${counted(round.dirtied)} dirtied meanwhile`
     + (plan.isClark ? "" : `; ${endWords(prediction, at)}`);
 }
 
