@@ -142,7 +142,7 @@ def check_quantities(tally, command, web):
 
 
 def check_modules(tally, command):
-    """Runs the tests of web/model in Node: each of them counts."""
+    """Runs the tests of modules in Node: each of them counts."""
     words = [*command, "--no-warnings", "--test", "--test-reporter=tap", os.path.join(TOP, "checks", "page", "modules")]
     ran = subprocess.run(words, capture_output=True, text=True, check=False)
     results = re.findall(r"^(not ok|ok) \d+ - (.*)$", ran.stdout, re.M)
