@@ -414,9 +414,9 @@ struct precopy_agreement {
 
 /*
  * Sets *agreement to how sure the verdicts of precopy_predict are, as `precopy-view predict` tells it: an answer is
- * uncertain unless 19 of 20 draws, and 19 in 20 of the starts, have it too. If a hypervisor's plan converges, the draws
- * have a tenth less of the link. By rounds a limit is surely kept if two standard errors more of the downtime are within
- * it; a hypervisor stops the guest only when what is left fits it.
+ * uncertain unless 19 of 20 draws, and 19 in 20 of the starts, have it too. If a hypervisor's plan converges, draws
+ * have a tenth less of the link. By rounds a limit is surely kept if two standard errors more of the downtime are
+ * within it; a hypervisor stops the guest only when what is left fits it.
  *
  * It tests what precopy_predict does, in the same order. It takes memory as that does, and the time of 63 plans.
  */
