@@ -85,7 +85,7 @@ fn answers_that_are_sure_or_not(rt: HostRuntime) {
 }
 
 #[test]
-fn answers_by_looks_that_are_sure(rt: HostRuntime) {
+fn answers_by_looks_that_are_sure_or_not(rt: HostRuntime) {
     const SLOTS: usize = 131_072;
     let alloc = rt.alloc();
     let looks = Question { clark: 0, ..ASKED };
@@ -99,7 +99,7 @@ fn answers_by_looks_that_are_sure(rt: HostRuntime) {
         ..looks
     };
     let sure = agreement(&rt, alloc, &tight, SLOTS);
-    assert!(rt; sure == (0, [20, 19, 19, 19, 13, 13, 13], [0, 0]));
+    assert!(rt; sure == (0, [20, 17, 17, 17, 13, 13, 13], [3, 3]));
 }
 
 #[test]
