@@ -319,12 +319,12 @@ static int is_predicted(const struct precopy_question *asked, struct precopy_pre
 static void looks(void) {
     struct precopy_question asked = half;
     struct precopy_starts starts = PRECOPY_STARTS_DEFAULT;
-    uint32_t yes = PRECOPY_YES, unknown = PRECOPY_UNKNOWN;
+    uint32_t yes = PRECOPY_YES, unknown = PRECOPY_UNKNOWN, uncertain = PRECOPY_UNCERTAIN;
     struct precopy_errors far = {32, 135918, 0, 1}, none = {0, 0, 0, 1};
     struct precopy_prediction kept = {2, PRECOPY_FEW, 1000, 500, 6, 2, 1600000, 192, 600000, 2500000, yes, yes};
     asked.clark = 0;
     ROW(is_predicted(&asked, kept, far));
-    ROW(is_sure(&asked, (struct precopy_agreement){20, 20, 20, 20, 17, 17, 17, yes, yes}));
+    ROW(is_sure(&asked, (struct precopy_agreement){20, 18, 18, 18, 17, 17, 17, uncertain, uncertain}));
     ROW(are_shares(&asked, (struct precopy_link_shares){50, yes, yes}));
     ROW(are_enough(&asked, (struct precopy_amounts){125, 100195, 0, 0, 0, 1, 1, 0, 0, 0, 1, 1}));
     ROW(is_best(&asked, &starts, (struct precopy_best_start){13, 1, 1100000, 128, 600000, yes, 1}, none));
