@@ -31,7 +31,7 @@
  * - All memory is the caller's. A function that needs memory of its own gets it from malloc, frees it before it
  *   returns, and returns PRECOPY_NO_MEMORY if there is none. Its comment says whether it takes any.
  * - A buffer that is longer than needed keeps the rest of its contents. One that is too short gets nothing: the
- *   function returns PRECOPY_SHORT_BUFFER, and sets the length that it needs, if that is not a page's.
+ *   function returns PRECOPY_SHORT_BUFFER, and sets the length that it needs, if that is not a page's or a write's.
  *
  * What nothing checks, and a caller must ensure:
  *
@@ -414,10 +414,11 @@ struct precopy_agreement {
 
 /*
  * Sets *agreement to how sure the verdicts of precopy_predict are, as `precopy-view predict` tells it: an answer is
- * uncertain unless 19 of 20 draws, and 19 in 20 of the starts, have it too. By rounds a limit is surely kept if two
- * standard errors more of the downtime are within it; a hypervisor stops the guest only when what is left fits it.
+ * uncertain unless 19 of 20 draws, and 19 in 20 of the starts, have it too. If a hypervisor's plan converges, draws
+ * have a tenth less of the link. By rounds a limit is surely kept if two standard errors more of the downtime are
+ * within it; a hypervisor stops the guest only when what is left fits it.
  *
- * It tests what precopy_predict does, in the same order. It takes memory as that does, and the time of 62 plans.
+ * It tests what precopy_predict does, in the same order. It takes memory as that does, and the time of 63 plans.
  */
 PRECOPY_ANSWERS PRECOPY_NOT_NULL(3, 4, 5)
 uint32_t precopy_agreement(const uint8_t *trace, size_t trace_length, const struct precopy_question *question,
@@ -876,6 +877,50 @@ uint32_t precopy_end_stream(const struct precopy_progress *progress, size_t left
 PRECOPY_ANSWERS PRECOPY_NOT_NULL(1, 2, 5)
 uint32_t precopy_trace_check_pages(const struct precopy_trace *trace, const struct precopy_progress *progress,
                                    const uint32_t *greatest, size_t greatest_length, struct precopy_finding *found);
+
+/* ---- traces that are written */
+
+/*
+ * How far a trace is that is written into lent bytes. After each call the first `length` bytes are a whole trace of
+ * version 2, so nothing ends it, and what was written is not lost.
+ */
+struct precopy_recording {
+    size_t length;      /* how many bytes the trace has */
+    uint64_t last_tick; /* the tick of its last write, or 0 if there is none */
+    uint32_t writes;    /* how many writes it has */
+    uint32_t pages;     /* how many pages its guest has */
+    uint32_t shift;     /* a page has 2^shift bytes */
+};
+
+/*
+ * Begins a trace at the front of some bytes, of a guest that has not written, and sets *recording. It has 16 bytes.
+ *
+ * It returns PRECOPY_BAD_SHIFT or PRECOPY_BAD_PAGES for sizes that no guest has, and PRECOPY_SHORT_BUFFER if there are
+ * fewer bytes. It takes no memory.
+ */
+PRECOPY_ANSWERS PRECOPY_NOT_NULL(5)
+uint32_t precopy_record_begin(uint8_t *trace, size_t trace_length, uint32_t shift, uint32_t pages,
+                              struct precopy_recording *recording);
+
+/*
+ * Appends a write to the trace: at `tick`, some bytes from an offset of a page on. The trace gets 16 bytes more than
+ * the write has. The trace and *recording are as the calls before left them; else any of the lent bytes may change.
+ *
+ * A write of no bytes is PRECOPY_EMPTY_WRITE, before all else: a release has a call of its own. A write after which
+ * the bytes would be no trace is refused: PRECOPY_TOO_LONG, PRECOPY_TOO_MANY_WRITES, and then PRECOPY_TICK_ORDER to
+ * PRECOPY_OUT_OF_PAGE, whose record is the number `writes`. Last comes PRECOPY_SHORT_BUFFER. It takes no memory.
+ */
+PRECOPY_ANSWERS PRECOPY_NOT_NULL(3)
+uint32_t precopy_record_write(uint8_t *trace, size_t trace_length, struct precopy_recording *recording, uint64_t tick,
+                              uint32_t page, uint32_t offset, const uint8_t *bytes, size_t bytes_length);
+
+/*
+ * Appends a write that releases a page: from then on it is zeros. The trace gets 16 bytes more. It is refused as
+ * another write is. It takes no memory.
+ */
+PRECOPY_ANSWERS PRECOPY_NOT_NULL(3)
+uint32_t precopy_record_release(uint8_t *trace, size_t trace_length, struct precopy_recording *recording, uint64_t tick,
+                                uint32_t page);
 
 /* Returns whether each byte is 0; with no bytes it is true. It takes no memory. */
 PRECOPY_ANSWERS

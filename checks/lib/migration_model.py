@@ -15,13 +15,15 @@ from precopy_dev.models import agreements, courses, redrawn, remedies, shares
 from precopy_dev.models.courses import Course, Manner, Record
 
 # Why a plan ends, and what helps if that bounds no downtime.
+UNBOUNDED = ", so nothing bounds the downtime"
+GOES_ON = "; a hypervisor goes on, and takes longer"
 REASONS = {
-    "few": ("", ""),
-    "fast": ("; the guest writes faster than the link sends", "give more of the link"),
-    "rounds": ("; all rounds that are allowed are done", "allow more rounds"),
-    "looks": ("; 2,000 looks are done", "give more of the link"),
-    "cut": ("; the trace ends first", "give more of the link"),
-    "level": ("; the trace ends first, and the lists did not get shorter", "give more of the link"),
+    "few": ("", "", ""),
+    "fast": ("; the guest writes faster than the link sends", UNBOUNDED, "give more of the link"),
+    "rounds": ("; all rounds that are allowed are done", UNBOUNDED, "allow more rounds"),
+    "looks": ("; 2,000 looks are done", GOES_ON, "give more of the link"),
+    "cut": ("; the trace ends first", GOES_ON, "give more of the link"),
+    "level": ("; the trace ends first, and the lists did not get shorter", GOES_ON, "give more of the link"),
 }
 ERRORS = ("sent_bytes", "time_seconds", "down_seconds")
 STATUSES = {"yes": 0, "no": 3, "unknown": 4, "uncertain": 5}
@@ -275,7 +277,7 @@ def lines_of(asked: Question, told: Answer) -> list[str]:
             "converges: unknown, the trace ends before the migration does; record longer",
             f"total time: more than {time_text(told.recorded)}",
         ]
-    ends, help = REASONS[told.why]
+    ends, consequence, help = REASONS[told.why]
     ends = f"{ends}; {asked.manner().value}: {told.rounds}"
     down = f"{time_text(told.downtime)}, limit: {time_text(asked.downtime)}"
     lines = [
@@ -291,7 +293,7 @@ def lines_of(asked: Question, told: Answer) -> list[str]:
         if told.kept == "yes" and is_close:
             lines.append("warning: the limit is kept by less than two standard errors")
     lines += ["warning: fewer than 100 pages decided the stop; chance moves it"] * (told.left < 100)
-    warning = f"warning: the plan ends with `{told.why}`, so nothing bounds the downtime; {help}"
+    warning = f"warning: the plan ends with `{told.why}`{consequence}; {help}"
     return lines + [warning] * (told.why != "few")
 
 

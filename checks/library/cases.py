@@ -10,7 +10,19 @@ from checks.lib import traces as all_traces
 from checks.lib.harness import drawn, expect
 from checks.lib.library_runs import LIBRARY, is_done, program_says, read, run
 from checks.lib.traces import EXAMPLES, Trace
-from checks.library import beside, header, installs, open_traces, places, python, rust, starts, streams, traces
+from checks.library import (
+    beside,
+    header,
+    installs,
+    open_traces,
+    places,
+    python,
+    recordings,
+    rust,
+    starts,
+    streams,
+    traces,
+)
 from precopy_dev.tree import TOP
 from precopy_tools import version
 
@@ -49,7 +61,7 @@ def check_form(tally):
     needed = set(re.findall(r"NEEDED.*\[(.*)\]", told))
     tally.add(needed <= {"libc.so.6"}, f"libprecopy.so.4 needs {sorted(needed)}")
     size = os.path.getsize(shared)
-    tally.add(size < 128 * 1024, f"libprecopy.so.4 has {size} bytes")
+    tally.add(size < 136 * 1024, f"libprecopy.so.4 has {size} bytes")
     print(f"libprecopy.so.4 has {size} bytes, libprecopy.a {os.path.getsize(archive)}", flush=True)
     # The contracts say the same numbers, but for two that no call answers: a failed read, and threads out of range.
     names = ("Answers", "Places", "Predictions", "Starts", "StreamChecks")
@@ -322,6 +334,7 @@ def check(tally, folder, given):
         "streams": lambda: (check_streams(tally), streams.check(tally)),
         "places": lambda: places.check(tally),
         "opened": lambda: open_traces.check(tally),
+        "recordings": lambda: recordings.check(tally),
         "starts": lambda: starts.check(tally, folder, given.precopy_view),
         "python": lambda: python.check(tally, folder),
         "rust": lambda: check_rust(tally, folder, program),

@@ -271,6 +271,22 @@ static void order_of_frames(void) {
     ROW(precopy_accept(&sizes, frame, 24, memory, 16, states, 1, &taken) == PRECOPY_FRAME_SHORT);
 }
 
+static void recordings(void) {
+    struct precopy_recording recording = {9, 9, 9, 9, 9};
+    uint8_t made[32];
+    ROW(precopy_record_begin(NULL, 0, 4, 1, &recording) == PRECOPY_SHORT_BUFFER && recording.length == 9);
+    ROW(precopy_record_begin(NULL, 0, 3, 0, &recording) == PRECOPY_BAD_SHIFT);
+    ROW(precopy_record_begin(NULL, 0, 4, 0, &recording) == PRECOPY_BAD_PAGES);
+    ROW(precopy_record_begin(made, sizeof made, 4, 1, &recording) == PRECOPY_OK && recording.length == 16);
+    ROW(precopy_record_write(made, sizeof made, &recording, 0, 0, 0, NULL, 0) == PRECOPY_EMPTY_WRITE);
+    ROW(precopy_record_write(NULL, 0, &recording, 1ull << 40, 1, 17, page, 16) == PRECOPY_TICK_TOO_LARGE);
+    ROW(precopy_record_write(NULL, 0, &recording, 0, 1, 17, page, 16) == PRECOPY_PAGE_OUT_OF_RANGE);
+    ROW(precopy_record_write(NULL, 0, &recording, 0, 0, 1, page, 16) == PRECOPY_OUT_OF_PAGE);
+    ROW(precopy_record_write(NULL, 0, &recording, 0, 0, 0, page, 16) == PRECOPY_SHORT_BUFFER);
+    ROW(precopy_record_release(NULL, 0, &recording, 0, 1) == PRECOPY_PAGE_OUT_OF_RANGE);
+    ROW(precopy_record_release(NULL, 0, &recording, 0, 0) == PRECOPY_SHORT_BUFFER && recording.length == 16);
+}
+
 int main(void) {
     nulls_of_traces();
     nulls_of_frames();
@@ -283,6 +299,7 @@ int main(void) {
     order_of_starts();
     order_of_places();
     order_of_frames();
+    recordings();
     printf("%d passed, %d failed\n", passed, failed);
     return failed != 0;
 }

@@ -468,6 +468,28 @@ uint32_t __wrap_precopy_check_pages(const uint8_t *trace, size_t length, const s
                                                  states_length, OUT(found, 1), OUT(record, 1)));
 }
 
+FENCED(record_begin);
+uint32_t __wrap_precopy_record_begin(uint8_t *trace, size_t length, uint32_t shift, uint32_t pages,
+                                     struct precopy_recording *recording) {
+    struct fences all = {.count = 0};
+    return given_back(&all, __real_precopy_record_begin(OUT(trace, length), length, shift, pages, OUT(recording, 1)));
+}
+
+FENCED(record_write);
+uint32_t __wrap_precopy_record_write(uint8_t *trace, size_t length, struct precopy_recording *recording, uint64_t tick,
+                                     uint32_t page, uint32_t offset, const uint8_t *bytes, size_t bytes_length) {
+    struct fences all = {.count = 0};
+    return given_back(&all, __real_precopy_record_write(OUT(trace, length), length, OUT(recording, 1), tick, page,
+                                                        offset, IN(bytes, bytes_length), bytes_length));
+}
+
+FENCED(record_release);
+uint32_t __wrap_precopy_record_release(uint8_t *trace, size_t length, struct precopy_recording *recording,
+                                       uint64_t tick, uint32_t page) {
+    struct fences all = {.count = 0};
+    return given_back(&all, __real_precopy_record_release(OUT(trace, length), length, OUT(recording, 1), tick, page));
+}
+
 FENCED(is_zero);
 bool __wrap_precopy_is_zero(const uint8_t *bytes, size_t length) {
     struct fences all = {.count = 0};

@@ -319,12 +319,12 @@ static int is_predicted(const struct precopy_question *asked, struct precopy_pre
 static void looks(void) {
     struct precopy_question asked = half;
     struct precopy_starts starts = PRECOPY_STARTS_DEFAULT;
-    uint32_t yes = PRECOPY_YES, unknown = PRECOPY_UNKNOWN;
+    uint32_t yes = PRECOPY_YES, unknown = PRECOPY_UNKNOWN, uncertain = PRECOPY_UNCERTAIN;
     struct precopy_errors far = {32, 135918, 0, 1}, none = {0, 0, 0, 1};
     struct precopy_prediction kept = {2, PRECOPY_FEW, 1000, 500, 6, 2, 1600000, 192, 600000, 2500000, yes, yes};
     asked.clark = 0;
     ROW(is_predicted(&asked, kept, far));
-    ROW(is_sure(&asked, (struct precopy_agreement){20, 20, 20, 20, 17, 17, 17, yes, yes}));
+    ROW(is_sure(&asked, (struct precopy_agreement){20, 18, 18, 18, 17, 17, 17, uncertain, uncertain}));
     ROW(are_shares(&asked, (struct precopy_link_shares){50, yes, yes}));
     ROW(are_enough(&asked, (struct precopy_amounts){125, 100195, 0, 0, 0, 1, 1, 0, 0, 0, 1, 1}));
     ROW(is_best(&asked, &starts, (struct precopy_best_start){13, 1, 1100000, 128, 600000, yes, 1}, none));
@@ -751,6 +751,41 @@ static void sentences(void) {
     }
 }
 
+/* A trace that is written: of 4 pages of 16 bytes, of which page 1 is written at tick 5 and released at tick 9. */
+static void recordings(void) {
+    static const uint8_t wanted[49] = {'P', 'C', 'W', 'T', 2, 4, 0, 0, 4, 0, 0, 0,  2, 0, 0, 0, 5,
+                                       0,   0,   0,   0,   0, 0, 0, 1, 0, 0, 0, 15, 0, 1, 0, 2, 9,
+                                       0,   0,   0,   0,   0, 0, 0, 1, 0, 0, 0, 0,  0, 0, 0};
+    static const uint8_t two[2] = {2, 2};
+    uint8_t made[50];
+    struct precopy_recording recording = {9, 9, 9, 9, 9};
+    struct precopy_sizes sizes;
+    memset(made, 9, sizeof made);
+    ROW(precopy_record_begin(made, 50, 3, 4, &recording) == PRECOPY_BAD_SHIFT && recording.length == 9);
+    ROW(precopy_record_begin(made, 15, 260, 4, &recording) == PRECOPY_BAD_SHIFT && made[0] == 9);
+    ROW(precopy_record_begin(made, 15, 4, 0, &recording) == PRECOPY_BAD_PAGES && made[0] == 9);
+    ROW(precopy_record_begin(made, 15, 4, 4, &recording) == PRECOPY_SHORT_BUFFER && made[0] == 9);
+    ROW(precopy_record_begin(made, 50, 4, 4, &recording) == PRECOPY_OK && recording.length == 16 && made[16] == 9);
+    ROW(precopy_check_trace(made, recording.length, &sizes, &record) == PRECOPY_OK && sizes.writes == 0);
+    ROW(precopy_record_write(made, 32, &recording, 5, 1, 15, two, 1) == PRECOPY_SHORT_BUFFER && made[16] == 9);
+    ROW(precopy_record_write(made, 50, &recording, 5, 1, 15, two, 2) == PRECOPY_OUT_OF_PAGE && made[16] == 9);
+    ROW(precopy_record_write(made, 50, &recording, 5, 1, 0, two, 0) == PRECOPY_EMPTY_WRITE && made[16] == 9);
+    ROW(precopy_record_write(made, 50, &recording, 5, 4, 65551, two, 1) == PRECOPY_PAGE_OUT_OF_RANGE);
+    ROW(precopy_record_write(made, 50, &recording, 5, 1, 65551, two, 1) == PRECOPY_OUT_OF_PAGE && made[16] == 9);
+    ROW(precopy_record_write(made, 50, &recording, 5, 1, 15, two, 1) == PRECOPY_OK && recording.length == 33);
+    ROW(recording.writes == 1 && recording.last_tick == 5 && recording.pages == 4 && recording.shift == 4);
+    ROW(precopy_check_trace(made, recording.length, &sizes, &record) == PRECOPY_OK && sizes.writes == 1);
+    ROW(precopy_record_release(made, 50, &recording, 4, 1) == PRECOPY_TICK_ORDER && recording.length == 33);
+    ROW(precopy_record_release(made, 50, &recording, 1ull << 40, 1) == PRECOPY_TICK_TOO_LARGE && made[33] == 9);
+    ROW(precopy_record_release(made, 48, &recording, 9, 1) == PRECOPY_SHORT_BUFFER && made[33] == 9);
+    ROW(precopy_record_release(made, 50, &recording, 9, 1) == PRECOPY_OK && recording.length == 49);
+    ROW(!memcmp(made, wanted, 49) && made[49] == 9 && recording.writes == 2 && recording.last_tick == 9);
+    recording.writes = 1 << 20;
+    ROW(precopy_record_release(made, 50, &recording, 4, 1) == PRECOPY_TOO_MANY_WRITES && !memcmp(made, wanted, 49));
+    recording.length = (1 << 28) - 15;
+    ROW(precopy_record_release(made, 50, &recording, 4, 1) == PRECOPY_TOO_LONG && !memcmp(made, wanted, 49));
+}
+
 int main(void) {
     ROW(precopy_abi() == PRECOPY_ABI);
     streams();
@@ -775,6 +810,7 @@ int main(void) {
     traces();
     frames();
     sentences();
+    recordings();
     printf("%d passed, %d failed\n", passed, failed);
     return failed != 0;
 }

@@ -4,15 +4,15 @@
 
 MODULE is the WebAssembly module, by default out/browser_planner.wasm, which `make page` builds; if it is missing,
 dev/page-module builds it. The page is joined from web/. Numbers that it shows for 440 random settings over 20 traces
-must be those of `precopy report`, which are a model's, and of `precopy sweep`; the words that it gives for
-`precopy-view predict` and `when` ask for the same; each verdict is as sure as that tells it; what a click takes as
-enough for the limit keeps it. Each damage of
-the table in docs/FORMATS.md is refused by its name; a trace of `2^28` bytes is planned, or refused in a sentence. Fifty
-traces of all shapes plan at once. No task of the page's own thread works for more than 50 ms, however large the trace.
-The page opens no connection, fits widths from 360 to 1,920 pixels in each state, has contrasts of 4.5 for text and 3
-for marks in light and in dark, and a name of its own for each control. In tables points are below each other, and no
-plan has a gap beside it, on paper neither. If Node is there, web/engine/planner.js plans the same in it, and the tests
-of checks/page/modules pass. Without Chromium all but sizes and Node are left out.
+must be those of `precopy report`, which are a model's, and of `precopy sweep`, and by looks those of a model; the words
+that it gives for `precopy-view predict` and `when` ask for the same; each verdict is as sure as that tells it; what a
+click takes as enough for the limit keeps it. Each damage of the table in docs/FORMATS.md is refused by its name; a
+trace of `2^28` bytes is planned, or refused in a sentence. Fifty traces of all shapes plan at once. No task of the
+page's own thread works for more than 50 ms, however large the trace. The page opens no connection, fits widths from 360
+to 1,920 pixels in each state, has contrasts of 4.5 for text and 3 for marks in light and in dark, and a name of its own
+for each control. In tables points are below each other, and no plan has a gap beside it, on paper neither. If Node is
+there, web/engine/planner.js plans the same in it, and the tests of checks/page/modules pass. Without Chromium all but
+sizes and Node are left out.
 
 With --pictures only looks are tried, and FOLDER gets them for a reader's eye: in Chromium a PNG of each state of the
 page at each width, in light and in dark, PDFs of what is printed, and the files that the page saves; in Firefox too the
@@ -21,43 +21,39 @@ part is tried: `node`, `firefox`, or in Chromium `numbers`, `starts`, `damages`,
 `loads` or `silence`; or one trial of these by the name of its function, as `check_told`.
 """
 
-import copy
-import functools
 import html
 import json
 import os
 import re
 import subprocess
 import tempfile
+from dataclasses import replace
 
-from checks.lib.amount_texts import error_text, moment_text, size_text, time_text
 from checks.lib.harness import drawn, run_main
 from checks.lib.tally import drawn_from, has, left_out
 from checks.lib.traces import Trace
-from checks.lib.view_texts import TOP, Failure, ran, sweep_facts, told
+from checks.lib.view_texts import TOP, Failure
 from checks.lib.worked import damaged
 from checks.page import addresses, cases, enough, forecasts, loads
 from checks.page import looks as page_looks
 from checks.page import pictures, records, states, sure, uses, worker
-from checks.page.acts import plan_starts
 from checks.page.browser import Browser
 from checks.page.firefox import Firefox
 from checks.page.node import node_command, put_web
 from checks.page.shown import COLLECTOR, Page, tried
-from checks.view.limit_cases import Known
+from checks.page.starts import VIEW, check_looked_starts, check_starts, has_view
 from checks.view.quantity_cases import amounts, quantities, texts_of
+from precopy_dev import join_page
 from precopy_dev.packaging import notices
+from precopy_tools.refusals import Refused
 
 MOST_MODULE, MOST_PAGE = 65_536, 400_000
-VIEW = os.path.join(TOP, "crates", "precopy_view", "out", "precopy_view")
 IN_CHROMIUM = ["numbers", "starts", "damages", "addresses", "uses", "states", "looks", "loads", "silence"]
 # The trials of a page that need nothing else, by their functions' names.
 TRIALS = {
     act.__name__: (words, act)
     for words, act in [*uses.USES.items(), *records.RECORDS.items(), *page_looks.LOOKS.items()]
 }
-# The standard error of a start's downtime.
-ERROR = re.compile(" \u00b1 ([^,]+)")
 # For how many of the random settings it must be compared what is enough for the limit.
 LEAST_COMPARED = 60
 STARTS_OF, STARTS_TIMES = ["gzip.pcwt", "guests/sqlite.light.pcwt"], 4
@@ -90,6 +86,23 @@ def check_sizes(tally, folder, module, page):
     tally.add(told and html.unescape(told[1]) == wanted, "the page has not the notices of its libraries")
 
 
+def check_tabs(tally):
+    """A line of the page's script is as deep as it was, and no literal is changed."""
+    rows = [
+        ("  a\n    b\nc  d\n", "\ta\n\t\tb\nc  d\n"),
+        ("   a;\n\n  \n", "\t a;\n\n\t\n"),
+        ("  a(`b`);\n  `c${`d`}`", "\ta(`b`);\n\t`c${`d`}`"),
+    ]
+    for text, wanted in rows:
+        found = join_page.tabbed("a.js", text)
+        tally.add(found == wanted, f"{text!r} is joined as {found!r}, not {wanted!r}")
+    for text in ("a = `b\n  c`;", "a(`b`, `c\n  ${d}`)"):
+        try:
+            tally.add(False, f"{text!r} is joined as {join_page.tabbed('a.js', text)!r}")
+        except Refused as error:
+            tally.add("web/a.js has a template literal of several lines" in str(error), f"{text!r}: {error}")
+
+
 def node_settings(asked):
     names = ("min", "max", "increment", "threshold", "rounds", "start", "skip", "base")
     return {**dict(zip(names, asked.settings())), "window": asked.window}
@@ -97,14 +110,14 @@ def node_settings(asked):
 
 def node_facts(asked, report):
     """What the module has to answer, by the lines of a report."""
-    figures = cases.figures(asked, report)
+    figures, stop = cases.figures(asked, report), report["stop"]
+    left = stop["pages"] if cases.is_stopped(asked, stop) else 0
     return {
         "windows": [list(row.values()) for row in report["windows"]],
         "rounds": [list(row.values())[1:] for row in report["rounds"]],
-        "stop": list(report["stop"].values()),
+        "stop": list(stop.values()),
         "settings": list(asked.settings()[:4]),
-        "map": [[row["pages"], row["sent"], row["dirtied"]] for row in report["rounds"]]
-        + [[report["stop"]["pages"], report["stop"]["pages"], 0]],
+        "map": [[row["pages"], row["sent"], row["dirtied"]] for row in report["rounds"]] + [[left, left, 0]],
         "isSame": True,
         "answer": [str(figures[name]) for name in ("time", "sent", "down", "recorded", "kept", "converges")],
     }
@@ -129,7 +142,7 @@ def check_quantities(tally, command, web):
 
 
 def check_modules(tally, command):
-    """Runs the tests of web/model in Node: each of them counts."""
+    """Runs the tests of modules in Node: each of them counts."""
     words = [*command, "--no-warnings", "--test", "--test-reporter=tap", os.path.join(TOP, "checks", "page", "modules")]
     ran = subprocess.run(words, capture_output=True, text=True, check=False)
     results = re.findall(r"^(not ok|ok) \d+ - (.*)$", ran.stdout, re.M)
@@ -173,9 +186,10 @@ def compare_in_node(case, precopy, asked, found):
         case.add(errors == (wanted and list(wanted)), f"{errors}, {wanted}")
         wanted = sure.modelled(asked.known.guest, asked.question().trial())
         case.add(verdicts == json.loads(json.dumps(wanted)), f"{verdicts}, {wanted}")
-        wanted = forecasts.line_of(asked.question(), Trace.at(asked.known.path))
+        wanted = forecasts.line_of(replace(asked.question(), clark=True), Trace.at(asked.known.path))
         case.add((forecast or "") == wanted, f"{forecast!r}, {wanted!r}")
-        wanted = enough.remedies_of(asked, asked.limits()[1], asked.settings().increment)
+        first, increment = (asked.limits()[1], asked.settings().increment) if asked.clark else (None, None)
+        wanted = enough.remedies_of(asked, first, increment)
         amounts = (*wanted[1:4], *wanted.ending[1:])
         amounts = [None if amount is None else str(amount) for amount in amounts]
         wanted = [wanted.is_kept, wanted.ending.ends, *amounts]
@@ -197,14 +211,6 @@ def check_numbers(tally, page, precopy, folder):
     sure.check_compared(tally)
 
 
-@functools.cache
-def has_view():
-    is_built = os.access(VIEW, os.X_OK)
-    if not is_built:
-        left_out("the page's words for precopy-view", f"{VIEW} is not built")
-    return is_built
-
-
 def check_one(page, precopy, asked):
     found = page.ask(asked.fragment())
     document = cases.predicted(VIEW, asked, found) if not asked.refusal() and has_view() else None
@@ -213,103 +219,7 @@ def check_one(page, precopy, asked):
     if not asked.refusal():
         enough.check_enough(asked, page, found, document, verdicts)
         cases.check_forecast(forecasts.told(page), document)
-        enough.check_taken(asked, page, precopy)
-
-
-def start_prices(asked, line, start):
-    """What a migration from a start costs: its price with its standard errors, that without, and what it comes to. The
-    errors of a large sample are unknown here."""
-    time, down, sent = cases.price(asked, start, line)
-    place = copy.copy(asked)
-    place.start = start
-    drawn = cases.drawn_errors(place) if asked.known.pages <= cases.SMALL else None
-    likely = down + (2 * drawn[2] if drawn else 0)
-    prices = [(some if some > asked.downtime else 0, sent, time) for some in (likely, down)]
-    return *prices, (time, sent, down, down <= asked.downtime)
-
-
-def start_ticks(asked, last):
-    """The starts that the page plans: from tick 0 on, or from a step after the copy."""
-    first = 0 if asked.base is None else asked.base + max(1, -(-(max(asked.base, last) - asked.base) // 200))
-    every = max(1, -(-(max(first, last) - first) // 200))
-    return range(first, max(first, last) + 1, every)
-
-
-def check_starts(page, precopy, name, draw):
-    """Compares the best and the worst start with those of the lines of `precopy sweep`, and of `precopy-view when`."""
-    known = Known(cases.example(name))
-    asked = next(some for some in iter(lambda: cases.Asked(draw, known), None) if not some.refusal())
-    page.load(known.path)
-    page.ask(asked.fragment())
-    ticks = start_ticks(asked, known.last)
-    words = page.browser.value("textOf('ask')")
-    plan_starts(page)
-    page.browser.wait("isTold('starts-choice')")
-    found = page.browser.value(
-        "[...document.querySelectorAll('#starts-choice p:not(#saving, .hint)')]"
-        ".map((line) => line.textContent.replaceAll('\\u00a0', ' '))"
-    )
-    costs = []
-    for start in ticks:
-        base = [] if asked.base is None else [f"--base={asked.base}"]
-        line = sweep_facts(told(precopy, ["sweep", f"--start={start}", *base, asked.case()], known.path))["cases"][0]
-        if line["at"] <= known.last:
-            costs.append((*start_prices(asked, line, start), start))
-    wanted, chosen = [], []
-    best, worst = (lambda cost: cost[0]), (lambda cost: cost[1])
-    if costs and 2 <= asked.sampled < asked.guest and known.pages > cases.SMALL:
-        # No model counts the errors of a large sample: the program tells which start is the best with them.
-        first = best_told(page.browser.value("textOf('command-when')"), known.path)
-        best = lambda cost: cost[3] != first  # noqa: E731
-    for title, choice, price in (("Best", min, best), ("Worst", max, worst)) if costs else ():
-        _, _, (time, sent, down, is_kept), start = choice(costs, key=price)
-        chosen.append(start)
-        cost = (
-            f"time {time_text(time)}, sent {size_text(sent)}, "
-            f"downtime {time_text(down)}, {'kept' if is_kept else 'not kept'}"
-        )
-        place = moment_text(start * asked.tick) + (f", tick {start:,}" if asked.ticks else "")
-        wanted.append(f"{title} start: {place}: {cost}")
-    if len(set(chosen)) == 1:
-        wanted = [f"Each start whose migration ends within the trace: {cost}"]
-    if [ERROR.sub("", line) for line in found] != (wanted or ["No migration ends within the trace: record longer."]):
-        raise Failure(f"{found} in place of {wanted}")
-    check_errors(asked, known, found, chosen)
-    if words != f"Plan {cases.plural(len(ticks), 'start')}":
-        raise Failure(f"{words!r} for {len(ticks)} starts")
-    if has_view():
-        check_when(page.browser.value("textOf('command-when')"), known.path, len(ticks), chosen)
-
-
-def best_told(words, path):
-    """The best start by the words that the page gives for `precopy-view when`."""
-    _, text, faults = ran(VIEW, ["json", *words.removesuffix(" < TRACE").split()[1:]], path)
-    if faults:
-        raise Failure(f"{words}: {faults}")
-    return json.loads(text)["best"]["start"]
-
-
-def check_errors(asked, known, found, chosen):
-    """The best and the worst start of a small sample have the standard errors of their downtimes."""
-    if known.pages > cases.SMALL:
-        return
-    for line, start in zip(found, chosen):
-        place = copy.copy(asked)
-        place.start = start
-        drawn, said = cases.drawn_errors(place), ERROR.search(line)
-        if (said and said[1]) != (drawn and error_text(drawn[2])):
-            raise Failure(f"{line}: the errors are {drawn}")
-
-
-def check_when(words, path, count, chosen):
-    """Runs the words that the page gives for `precopy-view when`: they ask for the same starts."""
-    _, text, faults = ran(VIEW, ["json", *words.removesuffix(" < TRACE").split()[1:]], path)
-    if faults:
-        raise Failure(f"{words}: {faults}")
-    found = json.loads(text)
-    starts = [found[name]["start"] for name in ("best", "worst") if name in found]
-    if (len(found["starts"]), starts) != (count, chosen):
-        raise Failure(f"{words}: {len(found['starts'])} starts, {starts} in place of {count}, {chosen}")
+        enough.check_taken(asked, page, precopy, VIEW if has_view() else None)
 
 
 # ---- Refusals and long traces.
@@ -369,6 +279,8 @@ def all_starts(tally, page, precopy):
     for name in STARTS_OF:
         for draw in drawn(f"starts of {name}", range(STARTS_TIMES)):
             tried(tally, str(draw), check_starts, page, precopy, name, draw)
+        for draw in drawn(f"starts by looks of {name}", range(STARTS_TIMES)):
+            tried(tally, str(draw), check_looked_starts, page, name, draw)
 
 
 def all_damages(tally, page, folder):
@@ -420,6 +332,7 @@ def check_pictures(tally, path, folder):
 
 def check_all(tally, folder, module, path, precopy, only):
     check_sizes(tally, folder, module, path)
+    check_tabs(tally)
     if not only or "node" in only:
         check_node(tally, folder, module, precopy)
     is_in_chromium = not only or not set(only).isdisjoint({*IN_CHROMIUM, *TRIALS})

@@ -1,6 +1,7 @@
 """Cases of checks/page: traces, and random settings with the facts that the page must show of them.
 
-The facts are worked out from the lines of `precopy report` and `precopy sweep`, by the rules of docs/COMMANDS.md.
+The facts are worked out from the lines of `precopy report` and `precopy sweep`, by the rules of docs/COMMANDS.md, and
+those of a hypervisor's plan by a plain model.
 """
 
 import os
@@ -13,7 +14,8 @@ from checks.lib.view_texts import TOP, Failure, parsed, ran, report_facts, sweep
 from checks.page import shapes, sure
 from checks.page.tables import round_texts, window_texts
 from checks.view.limit_cases import RATES, Known
-from precopy_dev.models import redrawn
+from precopy_dev.models import courses, looks, redrawn
+from precopy_dev.models.courses import Manner
 
 TRACES = ["a.pcwt", "gzip.pcwt", "released.pcwt", "guests/mid.light.pcwt", "guests/sqlite.light.pcwt"]
 SHAPES, SETTINGS, NEAR = 15, 20, 8
@@ -45,7 +47,7 @@ class Asked:
         self.base = draw.choice([None, None, draw.randrange(self.start + 1), self.start + draw.choice([0, 0, 1])])
         self.rounds, self.skip = draw.choice([30, draw.randrange(66)]), draw.randrange(2)
         self.window = draw.choice([max(1, known.last // draw.randrange(1, 500)), draw.randrange(3_000), 1 << 40])
-        self.ticks = draw.randrange(2)
+        self.ticks, self.clark = draw.randrange(2), draw.randrange(2)
 
     def _link(self, draw):
         """A link that is some rate of the trace, nearly, in bytes a second; and its word."""
@@ -78,6 +80,7 @@ class Asked:
                 f"start={self.start}",
                 f"rounds={self.rounds}",
                 f"skip={self.skip}",
+                f"clark={self.clark}",
                 f"base={'none' if self.base is None else self.base}",
                 f"tick={self.tick}us",
                 f"sample={sample}",
@@ -87,10 +90,11 @@ class Asked:
         )
 
     def limits(self):
-        """The link and the first round in bytes a second, the downtime and the reserve in microseconds."""
+        """The link and the first round in bytes a second, the downtime and the reserve in microseconds. A hypervisor
+        has no first round."""
         link = self.link[0]
         share = link * round(self.first * 1_000) // 100_000
-        first = link if self.first == 100 else share - share % 125
+        first = link if self.first == 100 or not self.clark else share - share % 125
         return link, first, self.downtime, self.reserve
 
     def refusal(self):
@@ -99,22 +103,29 @@ class Asked:
         tests = [
             ("sample", self.guest > 1 << 32),
             (limit and CONTROLS[limit.number], limit),
-            ("rounds", not 1 <= self.rounds <= 64),
+            ("rounds", self.clark and not 1 <= self.rounds <= 64),
             ("window", not 1 <= self.window <= 1 << 40),
             ("base", self.base is not None and self.base > self.start),
         ]
         return next((name for name, is_refused in tests if is_refused), None)
 
     def question(self):
-        """The same as a question of `precopy-view` and the library, which goes by Clark's rounds."""
+        """The same as a question of `precopy-view` and the library."""
         link, first, *times = self.limits()
-        increment = (self.rate(link) - self.rate(first)) * self.increase // 100
         scale = self.tick, self.page, self.sampled, self.guest
+        if not self.clark:
+            return Question(link, None, *times, *scale, None, 30, self.start, self.base, False)
+        increment = (self.rate(link) - self.rate(first)) * self.increase // 100
         others = self.rounds, self.start, self.base, bool(self.skip)
         return Question(link, first, *times, *scale, increment, *others, clark=True)
 
     def settings(self):
         return self.question().settings()
+
+    def amounts(self):
+        """The first round and the increment, if the page asks for others than the module takes by itself."""
+        first = self.limits()[1] if self.clark and self.first != 100 else None
+        return first, self.settings().increment if self.clark and self.increase != 10 else None
 
     def words(self):
         """The options of `precopy report`."""
@@ -133,7 +144,7 @@ class Near(Asked):
 
     def _link(self, draw):
         rate = 1_000 * self.known.pages / (self.known.last + 1) * 10 ** draw.uniform(1, 3)
-        size = rate * 1_000 * self.page * self.guest / self.sampled / self.tick
+        size = min(rate * 1_000 * self.page * self.guest / self.sampled / self.tick, 1 << 52)
         count = max(1, round(size / RATES["Kbit"]))
         return count * RATES["Kbit"], f"{count}Kbit"
 
@@ -162,8 +173,8 @@ def hosts(asked):
 
 
 def commands(asked):
-    """The words that the page gives for `precopy live`, QEMU and libvirt."""
-    return {"live": f"{live_line(asked.settings())} < TRACE", **hosts(asked)[0]}
+    """The words that the page gives for `precopy live`, QEMU and libvirt. A live run performs no plan of looks."""
+    return {"live": f"{live_line(asked.settings())} < TRACE" if asked.clark else "", **hosts(asked)[0]}
 
 
 def check_notes(asked, notes):
@@ -180,21 +191,51 @@ def check_notes(asked, notes):
 REPORTS = {}
 
 
+def looked(asked):
+    """The lists of a hypervisor and its stop by the model, as a report has rounds and a stop."""
+    settings = courses.look_settings(asked.settings(), asked.question().scale(), asked.known.last)
+    plan = looks.plan(asked.known.pages, asked.known.writes, settings)
+    course = courses.of_plan(plan)
+    rows = [
+        {
+            "number": number,
+            "from": it.start,
+            "to": it.end,
+            "rate": settings.rate,
+            "pages": len(it.pages),
+            "sent": it.sent,
+            "dirtied": len(looks.written(asked.known.writes, it.start, it.end)),
+            "left": len(it.left),
+        }
+        for number, it in enumerate(plan.lists, 1)
+    ]
+    why = courses.word_of(course, Manner.LOOKS)
+    stop = {"why": why, "at": course.stop, "pages": len(plan.last), "down": course.down, "total": course.total}
+    return {"rounds": rows, "stop": stop, "steps": course.steps}
+
+
 def reported(precopy, asked):
-    """The facts of `precopy report`, which must be those of a plain model."""
-    words = str(asked.draw), asked.known.path, *asked.words()
+    """The facts of `precopy report`, which must be those of a plain model. A report has no plan of looks: that is the
+    model's."""
+    words = str(asked.draw), asked.known.path, asked.clark, *asked.words()
     if words not in REPORTS:
         found = report_facts(told(precopy, ["report", *asked.words()], asked.known.path))
         wanted = report_of(asked.known, asked.settings(), asked.window)
         if found != wanted:
             raise Failure(f"a report that is not that of the model: {found} in place of {wanted}")
-        REPORTS[words] = found
+        steps = {"steps": len(found["rounds"])}
+        REPORTS[words] = {**found, **(steps if asked.clark else looked(asked))}
     return REPORTS[words]
 
 
 def price(asked, start, line):
     """The time, the downtime and the bytes of a plan by its line of `stop` or of a sweep, from a start on."""
     return asked.question().cost(start, redrawn.Outcome(0, "", line["at"], line["down"], line["total"], 0))
+
+
+def is_stopped(asked, stop):
+    """Whether the guest is stopped: a hypervisor does that only if what is left fits the limit."""
+    return bool(asked.clark) or stop["why"] == "few"
 
 
 def figures(asked, report):
@@ -208,7 +249,7 @@ def figures(asked, report):
 
     return {
         "converges": answer(stop["why"] == "few"),
-        "kept": answer(down <= asked.downtime),
+        "kept": answer(is_stopped(asked, stop) and down <= asked.downtime),
         "recorded": max(0, known.last - asked.start) * asked.tick,
         "time": time,
         "sent": sent,
@@ -220,7 +261,8 @@ def drawn_errors(asked):
     """The standard errors of bytes, time and downtime by `python/precopy_dev/models/redrawn.py`, if there are any."""
     if not 2 <= asked.sampled < asked.guest:
         return None
-    return redrawn.errors(asked.known.guest, asked.settings(), asked.question().scale())
+    question = asked.question()
+    return courses.errors(asked.known.guest, asked.settings(), question.scale(), question.manner())
 
 
 def micros(value):
@@ -270,7 +312,16 @@ def reason(asked, report):
         "few": few,
         "fast": "the guest writes faster than the link sends",
         "rounds": f"all {plural(asked.rounds, 'round')} that are allowed are done",
+        "looks": f"{report['steps']:,} looks are done",
+        "cut": "the trace ends first",
+        "level": "the trace ends first, and the lists did not get shorter",
     }[report["stop"]["why"]]
+
+
+def stop_cell(asked, stop):
+    if not is_stopped(asked, stop):
+        return ["none", ""]
+    return [moment_text(stop["at"] * asked.tick), f"tick {stop['at']:,}" * asked.ticks]
 
 
 def comparison(asked, report, document, verdicts):
@@ -310,9 +361,9 @@ def comparison(asked, report, document, verdicts):
             more(error_text(time), *ticks(f"{plural(stop['at'] - asked.start, 'tick')} of pre-copy")),
         ],
         "sent": [size_text(found["sent"]), more(size_text(sent), *guest, pages)],
-        "rounds": [f"{len(report['rounds']):,}", f"{verdicts.answer('converging')}; {reason(asked, report)}"],
+        "rounds": [f"{report['steps']:,}", f"{verdicts.answer('converging')}; {reason(asked, report)}"],
         "left": [plural(stop["pages"], "page") + of_sample, few],
-        "stop": [moment_text(stop["at"] * asked.tick), "".join(ticks(f"tick {stop['at']:,}"))],
+        "stop": stop_cell(asked, stop),
     }
 
 
@@ -341,6 +392,15 @@ def check_verdict(asked, shown, report, document, verdicts):
     sure.check_shown(asked, shown, found, report, verdicts, drawn, reason(asked, report))
 
 
+def check_sweep(precopy, asked, report):
+    """A sweep tells the same of a plan as a report."""
+    line = sweep_facts(told(precopy, ["sweep", *asked.place(), asked.case()], asked.known.path))["cases"][0]
+    stop = report["stop"]
+    numbers = (report["steps"], stop["why"], stop["at"], stop["down"], stop["total"])
+    if (line["rounds"], line["stop"], line["at"], line["down"], line["total"]) != numbers:
+        raise Failure(f"report and sweep differ: {line}, {stop}")
+
+
 def check_facts(precopy, asked, found, document, verdicts):
     """Tests what the page shows for settings against what precopy writes, and against the document of `json predict`,
     if there is one; and against the verdicts."""
@@ -352,16 +412,8 @@ def check_facts(precopy, asked, found, document, verdicts):
     if found["refused"]:
         raise Failure(f"refused: {found['refused']}, {found['fault']}")
     report = reported(precopy, asked)
-    line = sweep_facts(told(precopy, ["sweep", *asked.place(), asked.case()], asked.known.path))["cases"][0]
-    stop = report["stop"]
-    if (line["rounds"], line["stop"], line["at"], line["down"], line["total"]) != (
-        len(report["rounds"]),
-        stop["why"],
-        stop["at"],
-        stop["down"],
-        stop["total"],
-    ):
-        raise Failure(f"report and sweep differ: {line}, {stop}")
+    if asked.clark:
+        check_sweep(precopy, asked, report)
     check_notes(asked, found["notes"])
     wanted = {
         "rounds": round_texts(asked, report["rounds"]),
@@ -382,9 +434,11 @@ def check_document(document, wanted):
     """Compares a document of `json predict` with what a migration comes to by its plan."""
     told = {"converges": "unknown", "kept": "unknown", "recorded": micros(document["recorded_seconds"])}
     if migration := document.get("migration"):
+        is_few = migration["why"] == "few"
+        is_within = migration["down_seconds"] <= document["limits"]["down_seconds"]
         told |= {
-            "converges": "yes" if migration["why"] == "few" else "no",
-            "kept": "yes" if migration["down_seconds"] <= document["limits"]["down_seconds"] else "no",
+            "converges": "yes" if is_few else "no",
+            "kept": "yes" if is_within and (is_few or document["plan"] == "rounds") else "no",
             "time": micros(migration["time_seconds"]),
             "sent": migration["sent_bytes"],
             "down": micros(migration["down_seconds"]),
@@ -399,8 +453,8 @@ def predicted(view, asked, found):
     words = found["predict"].removesuffix(" < TRACE").split()[1:]
     status, text, faults = ran(view, words, asked.known.path)
     lines = text.splitlines()
-    live = next((line for line in lines if line.startswith("precopy live ")), None)
-    if status not in (0, 3, 4, 5) or live is None or f"{live} < TRACE" != found["commands"]["live"]:
+    live = "".join(f"{line} < TRACE" for line in lines if line.startswith("precopy live "))
+    if status not in (0, 3, 4, 5) or bool(live) != bool(asked.clark) or live != found["commands"]["live"]:
         raise Failure(f"{words}: status {status}, {faults!r}, {live!r} in place of {found['commands']['live']!r}")
     _, text, _ = ran(view, ["json", *words], asked.known.path)
     return parsed("predict", text)

@@ -8,7 +8,7 @@ from fractions import Fraction
 from typing import NamedTuple
 
 from checks.lib.amount_texts import moment_text
-from checks.lib.view_texts import Failure, sweep_facts, told
+from checks.lib.view_texts import Failure, parsed, ran, sweep_facts, told
 from checks.page.cases import SMALL, micros
 from checks.page.sure import UNSURE
 from checks.view.limit_cases import RATES, TIMES
@@ -117,8 +117,7 @@ def check_enough(asked, page, found, document, verdicts):
         raise Failure(f"enough: {lines} of a migration that ends {'late' if is_late else 'within the trace'}")
     shown, wanted = enough_in(exact), [enough_of(document)]
     if asked.known.pages <= SMALL:
-        first = None if asked.first == 100 else asked.limits()[1]
-        wanted.append(remedies_of(asked, first, None if asked.increase == 10 else asked.settings().increment))
+        wanted.append(remedies_of(asked, *asked.amounts()))
     wanted = list(filter(None, wanted))
     if any(max(some.link or 0, some.downtime or 0) >= MOST_OF_PAGE for some in wanted or [shown]):
         return
@@ -167,9 +166,23 @@ CONTROL = """(() => {
 })()"""
 
 
-def check_taken(asked, page, precopy):
+def planned(asked, precopy, view, found):
+    """The stop of the plan that the page's words ask for, and whether that ends with few pages within the trace; None
+    if there is no program that tells it."""
+    words = found["commands"]["live"].split()
+    if not words:
+        ran_words = found["predict"].removesuffix(" < TRACE").split()[1:]
+        plan = view and parsed("predict", ran(view, ["json", *ran_words], asked.known.path)[1]).get("migration")
+        return plan and (plan["why"] == "few", micros(plan["down_seconds"]))
+    case = [words[words.index(f"--{option}") + 1] for option in ("min", "max", "inc", "threshold", "rounds")]
+    case.append(str(int("--skip" in words)))
+    plan = sweep_facts(told(precopy, ["sweep", *asked.place(), ",".join(case)], asked.known.path))["cases"][0]
+    return plan["stop"] == "few" and plan["at"] <= asked.known.last, plan["down"] * asked.tick + asked.reserve
+
+
+def check_taken(asked, page, precopy, view):
     """What a click takes is what is shown, and keeps the limit: so does a plan of the program, and the page says no
-    more than that it is uncertain."""
+    more than that it is uncertain. `view` is the program precopy-view, if it is built."""
     offers = [some for some in page.browser.value(OFFERED) if some[0] in ("link", "downtime")]
     if not offers:
         return
@@ -178,10 +191,9 @@ def check_taken(asked, page, precopy):
     taken, verdict = page.browser.value(CONTROL.replace("NAME", name)), found["verdict"]
     if taken != said or "It does not converge" in verdict or " is not kept" in verdict:
         raise Failure(f"{taken} is taken for the {name} that is shown as {said}: {verdict}")
-    words = found["commands"]["live"].split()
-    case = [words[words.index(f"--{option}") + 1] for option in ("min", "max", "inc", "threshold", "rounds")]
-    case.append(str(int("--skip" in words)))
-    plan = sweep_facts(told(precopy, ["sweep", *asked.place(), ",".join(case)], asked.known.path))["cases"][0]
     limit = amount_in([said], "", TIMES) if name == "downtime" else asked.downtime
-    if plan["stop"] != "few" or plan["at"] > asked.known.last or plan["down"] * asked.tick + asked.reserve > limit:
+    plan = planned(asked, precopy, view, found)
+    if view is None and not asked.clark:
+        return
+    if plan is None or not plan[0] or plan[1] > limit:
         raise Failure(f"{name} {said} is taken, and the plan is {plan}")

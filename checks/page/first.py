@@ -50,7 +50,7 @@ def check_own_trace(page):
 # Settings whose limit is missed, or may be, or of which nothing is known; with what is said to be enough.
 MISSED = [
     ("trace=sqlite&link=64MiB&first=50&downtime=150ms&start=1000", None),
-    ("trace=sqlite&link=64MiB&downtime=10ms&start=1000", r"link \S+ MiB/s or limit \S+ ms"),
+    ("trace=sqlite&link=64MiB&downtime=10ms&start=1000&clark=1", r"link \S+ MiB/s or limit \S+ ms"),
     ("trace=gzip&link=2MB&downtime=4ms&first=40&increase=25&start=400", r"link \S+ MB/s or limit \S+ ms"),
     ("trace=sqlite&link=40MiB&first=50&downtime=100ms&start=9000&skip=1", r"link \S+ MiB/s or limit \S+ s"),
 ]
@@ -89,8 +89,8 @@ def check_first_look(page):
     page.browser.dress(1400, 900)
     expect(len(words) <= MOST_WORDS, f"{len(words)} words above the fold: {' '.join(words)}")
     expect(top < FIRST_PICTURE and is_whole, f"the first picture begins at {top}, seen whole: {is_whole}")
-    expect(size >= LEAST_LINE and line == "Pause 144 ms of 300, 19.3 s, 622 MiB: Keeps the limit", f"{size}: {line!r}")
-    expect(bar == ["limit 300 ms", "144 ms \u00b1 42 ms"], f"the bar of the limit says {bar}")
+    expect(size >= LEAST_LINE and line == "Pause 260 ms of 300, 8.86 s, 566 MiB: Keeps the limit", f"{size}: {line!r}")
+    expect(bar == ["limit 300 ms", "260 ms \u00b1 16 ms"], f"the bar of the limit says {bar}")
     expect(state < 40, f"the trace is told in {state} pixels")
 
 

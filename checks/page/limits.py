@@ -16,7 +16,8 @@ ALSO = "Enough for the limit: these settings. By its plan alone, so is each of t
 LATE = "Enough for the limit: unknown, since the trace ends before the migration does."
 ENOUGH = [
     ("trace=sqlite&link=1Gbit&downtime=300ms", ALSO, ["link", "downtime"]),
-    ("trace=sqlite&link=64MiB&downtime=10ms&start=1000", OTHER, ["link", "downtime"]),
+    ("trace=sqlite&link=64MiB&downtime=10ms&start=1000", ALSO, ["link", "downtime"]),
+    ("trace=sqlite&link=64MiB&downtime=10ms&start=1000&clark=1", OTHER, ["link", "downtime"]),
     ("trace=gzip&link=8MiB&downtime=4ms&first=25&start=400", ALSO, ["link", "downtime"]),
     ("trace=gzip&link=2MB&downtime=4ms&first=40&start=400", OTHER, ["link", "downtime"]),
     ("trace=gzip&link=2MB&downtime=4ms&first=40&increase=25&start=400", OTHER, ["link", "downtime"]),
@@ -87,7 +88,7 @@ def check_late_start(page):
         (last + 1, "The trace has 2.399 s; it ends before the start.", "The trace ends before the start"),
         (999_999, "The trace has 2.399 s; it ends before the start.", "The trace ends before the start"),
     ):
-        verdict = page.ask(f"trace=gzip&link=8MiB&downtime=4ms&start={start}")["verdict"].replace("\u00a0", " ")
+        verdict = page.ask(f"trace=gzip&link=8MiB&downtime=4ms&start={start}&clark=1")["verdict"].replace("\u00a0", " ")
         expect(said in verdict and f"{line} Unknown" in verdict, f"start {start}: {verdict}")
         note = page.browser.value("textOf('rounds-note')")
         expect(note.startswith(f"{line}. "), f"start {start}: {note}")

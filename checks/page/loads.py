@@ -14,6 +14,8 @@ from checks.page.shown import tried
 MOST_BYTES = 1 << 28
 # A change takes 20 ms on a quiet machine, and twice that on a busy one; with plans over the trace's bytes it was 137.
 MOST_MILLIS, MOST_TASK_MILLIS, MOST_CANCEL_SECONDS = 60, 50, 1
+# With 2,000 looks, which are more than any plan that converges has, the page's thread has 2,000 lists to draw.
+MOST_MANY_MILLIS = 300
 # A zoom of the map takes 100 ms on a quiet machine, and it is there no later after a plan.
 MOST_MAP_MILLIS = 300
 # A loop of the page's thread that takes less of a processor's time than these milliseconds on the machine that the
@@ -31,13 +33,13 @@ MOST_MEMORY = 160 << 20
 # How long the browser may take to give back what it does not use any more.
 SECONDS_TO_COLLECT = 20
 
-# Moves the slider of the link, sixty times, each time after the page has drawn.
+# Moves the slider of the link, so many times, each time after the page has drawn.
 CHANGES = """
 (async () => {
   times.length = 0;
   plans.length = 0;
   const slider = document.getElementById("control-link").closest(".control").querySelector("[type=range]");
-  for (let number = 0; number < 60; number += 1) {
+  for (let number = 0; number < COUNT; number += 1) {
     const before = times.length;
     slider.value = Number(slider.value) + (number % 3 === 0 ? -1 : 1);
     slider.dispatchEvent(new Event("input"));
@@ -45,7 +47,10 @@ CHANGES = """
   }
 })()
 """
+# Settings by rounds, by looks, and such that a hypervisor looks as often as it may.
 SETTINGS = "link=10Gbit&first=50&downtime=50ms&window=500"
+LOOKED = "link=10Gbit&downtime=50ms&window=500&clark=0"
+MANY_LOOKS = "link=10Gbit&downtime=1us&window=500&clark=0"
 
 # Changes the most rounds, and tells after how many milliseconds the plan is drawn, the errors and how sure the
 # verdict is, and what is enough for the limit; and whether the errors were still to come when the plan was drawn.
@@ -187,25 +192,38 @@ def speed_over(page, folder, length):
     said, more_memory = opened(page, path)
     if "1,048,576 writes" not in said:
         raise Failure(said)
-    page.ask(SETTINGS)
     page.browser.call("Performance.enable", timeDomain="threadTicks")
-    before = processor_millis(page)
-    require_free(page, "60 changes", lambda: page.browser.value(CHANGES))
-    times, plans = page.browser.value("times"), page.browser.value("plans")
-    each = (processor_millis(page) - before) / len(times)
-    middle, plan = statistics.median(times), statistics.median(plans)
-    print(
-        f"  a change takes {middle:.1f} ms in the middle, {plan:.1f} of it for the plan, {max(times):.1f} at most, "
-        f"and {each:.1f} ms of the page's thread"
-    )
-    if min(middle, each) > MOST_MILLIS * slower(page):
-        raise Late(f"a change takes {middle:.1f} ms, and {each:.1f} ms of a processor")
+    plan_over(page, "with many looks", MANY_LOOKS, MOST_MANY_MILLIS, count=9)
+    for words, settings in (("by looks", LOOKED), ("by rounds", SETTINGS)):
+        plan = plan_over(page, words, settings, MOST_MILLIS)
     check_map(page)
     seconds = cancel_starts(page)
     print(f"  after a cancel the next plan takes {seconds:.2f} s")
     if seconds > MOST_CANCEL_SECONDS * slower(page):
         raise Late(f"after a cancel the next plan takes {seconds:.2f} s")
     tell_starts(page, more_memory)
+    return plan
+
+
+def changes(page, count):
+    return page.browser.value(CHANGES.replace("COUNT", str(count)))
+
+
+def plan_over(page, words, settings, most, count=60):
+    """The time of a plan of some settings over the trace that is open, in milliseconds, of which a change takes so many
+    at most."""
+    page.ask(settings)
+    before = processor_millis(page)
+    require_free(page, f"{count} changes {words}", lambda: changes(page, count))
+    times, plans = page.browser.value("times"), page.browser.value("plans")
+    each = (processor_millis(page) - before) / len(times)
+    middle, plan = statistics.median(times), statistics.median(plans)
+    print(
+        f"  a change {words} takes {middle:.1f} ms in the middle, {plan:.1f} of it for the plan, {max(times):.1f} at "
+        f"most, and {each:.1f} ms of the page's thread"
+    )
+    if min(middle, each) > most * slower(page):
+        raise Late(f"a change {words} takes {middle:.1f} ms, and {each:.1f} ms of a processor")
     return plan
 
 
@@ -217,7 +235,7 @@ def check_late(page, folder):
     page.wait_for_plan()
     _, more_memory = opened(page, path)
     page.ask(f"{SETTINGS}&sample=65536/1000000")
-    require_free(page, "60 changes over a sample", lambda: page.browser.value(CHANGES))
+    require_free(page, "60 changes over a sample", lambda: changes(page, 60))
     middle = statistics.median(page.browser.value("times"))
     page.rest()
     planned, errors, enough, is_before = page.browser.value(LATE)
@@ -296,7 +314,7 @@ def check_long(page, folder):
         if "65,280 writes" not in said and "65,281 writes" not in said:
             raise Failure(said)
         page.wait_for_plan()
-        require_free(page, "60 changes", lambda: page.browser.value(CHANGES))
+        require_free(page, "60 changes", lambda: changes(page, 60))
         print(f"  a plan takes {statistics.median(page.browser.value('plans')):.1f} ms in the middle")
         tell_starts(page, more_memory)
     elif "E16" not in said:

@@ -212,7 +212,7 @@ def check_shapes(page, folder):
         if number % 3 == 0:
             browser.value("document.getElementById('zoom-plan').click()")
         if number % 4 == 0:
-            typed(page, "rounds", "99")
+            typed(page, "downtime", "90000000")
         page.rest()
         check_look(page, f"shape {number} at {width}", is_long=True)
         if folder:
@@ -253,7 +253,7 @@ def check_names(page):
 def check_keyboard(page):
     """Sliders, fields and pictures work by the keyboard."""
     browser = page.browser
-    open_example(page)
+    open_example(page, "&clark=1")
     browser.value("unfold()")
     for name, number in (("rounds", "value"), ("start", "dataset.ticks")):
         selector = f"#control-{name}"

@@ -1,8 +1,9 @@
 // Plans in Node what checks/page asks: `node plans.mjs MODULE TRACE` with a list on standard input, as JSON: of
-// each item the settings of a plan, and the question that they are made of.
+// each item the settings of a plan, and the question that they are made of, by rounds or by looks.
 
 import { readFileSync } from "node:fs";
 import { writesIn } from "./engine/light-trace.js";
+import { comeTo, lookRows, lookSettings } from "./engine/look-lists.js";
 import { Planner } from "./engine/planner.js";
 import { WritesMap } from "./engine/writes-map.js";
 import { forecastWords } from "./model/predictions.js";
@@ -15,7 +16,7 @@ const { writes, pages, last } = planner.sizes;
 const map = new WritesMap(writesIn(planner.traceBytes(), writes), pages);
 const grid = { first: 0, last: last + 1, columns: 100, rows: Math.min(pages, MOST_ROWS), fromPage: 0, endPage: pages };
 
-/** How many pages the map's rows have of each round, sent and dirtied, and of the copy after the stop. */
+/** How many pages the map's rows have of each round or list, sent and dirtied, and of the copy after the stop. */
 function pagesOnMap({ start, base, skip, max }, plan) {
   const found = map.rounds({ grid, plan: { start, base, skip, max, ...plan } });
   const sum = (name, round) => found[name].subarray(round * grid.rows, (round + 1) * grid.rows)
@@ -23,12 +24,26 @@ function pagesOnMap({ start, base, skip, max }, plan) {
   return Array.from({ length: plan.rounds.length + 1 }, (_, round) =>
     ["pages", "sent", "dirtied"].map((name) => sum(name, round)));
 }
+
+/** The plan of settings, or that of a question by looks, and whether the answer to the question is the same. */
+function planOf(settings, question, answer) {
+  if (question.clark) {
+    const plan = { isClark: true, isStopped: true, ...planner.plan(settings) };
+    return { plan, isSame: JSON.stringify(answer.rows) === JSON.stringify(plan.rounds) && answer.left === plan.left };
+  }
+  const asked = lookSettings({ tick: BigInt(question.tick) }, planner.settings(question), last);
+  const rounds = lookRows(map, pages, asked);
+  const { reason, stop, left, down, total } = answer;
+  const plan = { isClark: false, isStopped: reason === "few", rounds, reason, stop, left, down, total };
+  return { plan, isSame: answer.rows.length === 0 && comeTo(rounds, answer) };
+}
+
 const answers = JSON.parse(readFileSync(0, "utf8")).map(({ settings, question }) => {
-  const plan = planner.plan(settings);
   const windows = planner.windows(settings);
   const columns = ["number", "writes", "pages", "again", "fresh"];
   const { min, max, increment, threshold } = planner.settings(question);
   const answer = planner.predict(question);
+  const { plan, isSame } = planOf(settings, question, answer);
   const errors = planner.errors(question);
   const { draws, starts, converges, kept, ...counts } = planner.agreement(question);
   const { isKept, ends, ...amounts } = planner.remedies(question);
@@ -41,7 +56,7 @@ const answers = JSON.parse(readFileSync(0, "utf8")).map(({ settings, question })
     settings: [min, max, increment, threshold],
     answer: ["time", "bytes", "downtime", "recorded", "kept", "converges"].map((name) => String(answer[name])),
     map: pagesOnMap(settings, plan),
-    isSame: JSON.stringify(answer.rows) === JSON.stringify(plan.rounds) && answer.left === plan.left,
+    isSame,
     forecast: forecast && forecastWords(forecast).replaceAll("\u00a0", " "),
     sure: [converges, kept, draws === 0 ? null : [draws, counts.drawsConverging, counts.drawsKept],
       [starts, counts.startsConverging, counts.startsKept]],

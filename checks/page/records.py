@@ -171,7 +171,7 @@ def check_still(page):
     uncertain, and nothing is offered as enough, in few words; one that ran for 99 per cent of the time has a
     verdict."""
     trace, record = (text for _, text in guest_with_record())
-    page.open("#link=1Gbit&downtime=300ms")
+    page.open("#link=1Gbit&downtime=300ms&clark=1")
     page.drop(("a.pcwt", trace), ("a.json", record))
     for share, told in ((0.5, "50.0 %"), (0.99, ""), (0, "100.0 %"), (1, "")):
         said = page.drop(("a.json", json.dumps({**json.loads(record), "ran_share": share}).encode()))

@@ -40,7 +40,7 @@ def saved_files(page, count):
 # The heads of the tables that are saved: each number has a unit.
 HEADS = {
     "prediction": "plan,downtime_us,time_us,sent_bytes,rounds,left_pages,stop_us,start_us,reason,kept,converges,"
-    "redraws,redraws_kept,redraws_converging,starts,starts_kept,starts_converging",
+    "redraws,redraws_kept,redraws_converging,starts,starts_kept,starts_converging,plan_by",
     "rounds-this": "round,from_us,to_us,rate_bytes_per_second,pages,sent_pages,dirtied_pages,from_tick,to_tick,"
     "rate_pages_per_1000_ticks",
     "working-set": "window,from_us,to_us,writes,pages,again_pages,fresh_pages",

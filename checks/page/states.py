@@ -20,7 +20,7 @@ FULL_WIDTHS = [360, *WIDTHS, 480, 600, 800, 1024, 1920]
 LEAST_MARK_CONTRAST = 3
 # What the PDF has of a map with its rounds: their pixels, in the width of the map on paper. As strokes they would lie
 # elsewhere than the map.
-ROUNDS_ON_PAPER = b"/Width 2012"
+ROUNDS_ON_PAPER = b"/Width 1006"
 # The pixels of the name of a kept plan.
 ROOM_OF_NAME = 80
 # What can be saved with three kept plans and starts: PNG, SVG and CSV of eight pictures, and the prediction's CSV.
@@ -168,7 +168,7 @@ def nothing_fits(page):
 def old_starts(page):
     """Curves of settings that were changed since."""
     with_starts(page)
-    typed(page, "rounds", "3")
+    typed(page, "downtime", "400")
 
 
 def ended_worker(page):

@@ -96,25 +96,25 @@ def ending_of(sure, reason):
     }[sure.converges]
 
 
-def pause_of(sure, down, likely, limit):
+def pause_of(sure, down, likely, limit, is_stopped=True):
     """The sentence on the downtime; `likely` is that with two standard errors, if it is beyond a limit that the plan
     keeps."""
-    counts, pause, most = sure.words("kept"), time_text(down), f"the limit of {time_text(limit)}"
+    counts, most = sure.words("kept"), f"the limit of {time_text(limit)}"
+    stands = "stands still for" if is_stopped else "is not stopped, and what is left would take"
+    pause = f"he guest {stands} {time_text(down)}"
     if sure.kept == "yes":
-        return f"The guest stands still for {pause}; {most} is kept, {counts}."
+        return f"T{pause}; {most} is kept, {counts}."
     if sure.kept == "no":
-        return f"The guest stands still for {pause}; {most} is not kept (it is {counts})."
+        return f"T{pause}; {most} is not kept (it is {counts})."
     errors = f" With two standard errors the downtime is {time_text(likely)}, and the limit is missed." * bool(likely)
-    return (
-        f"By the plan the guest stands still for {pause}; it is uncertain whether {most} is kept (it is {counts})."
-        f"{errors}"
-    )
+    return f"By the plan t{pause}; it is uncertain whether {most} is kept (it is {counts}).{errors}"
 
 
 def likely_beyond(asked, found, errors):
-    """The downtime with two standard errors, if a limit is kept by the plan, and not with these; else 0."""
+    """The downtime with two standard errors, if a limit is kept by the plan, and not with these; else 0. A hypervisor
+    stops the guest only when what is left fits the limit."""
     likely = found["down"] + 2 * (errors or (0, 0, 0))[2]
-    return likely if found["kept"] == "yes" and likely > asked.downtime else 0
+    return likely if asked.clark and found["kept"] == "yes" and likely > asked.downtime else 0
 
 
 def check_shown(asked, shown, figures, report, sure, errors, reason):
@@ -124,7 +124,8 @@ def check_shown(asked, shown, figures, report, sure, errors, reason):
     if shown["mark"] != mark or shown["sure"] != line:
         raise Failure(f"the verdict is {shown['mark']}, {shown['sure']!r} in place of {mark}, {line!r}")
     if sure.kept != "unknown":
-        words = f"{ending_of(sure, reason)} {pause_of(sure, figures['down'], likely, asked.downtime)}"
+        is_stopped = bool(asked.clark) or report["stop"]["why"] == "few"
+        words = f"{ending_of(sure, reason)} {pause_of(sure, figures['down'], likely, asked.downtime, is_stopped)}"
         if words not in shown["verdict"]:
             raise Failure(f"{shown['verdict']!r} in place of {words!r}")
     COMPARED.append(sure.kept)

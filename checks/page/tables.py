@@ -46,7 +46,8 @@ def moment_texts(moments):
 
 
 def round_texts(asked, rounds):
-    """The table of rounds, as the page writes it: rates are in a unit of the link's family that the link has one of."""
+    """The table of rounds or lists, of the first of many, as the page writes it: rates are in a unit of the link's
+    family that the link has one of."""
 
     def share(rate):
         return Fraction(rate * asked.page * asked.guest * 1_000, asked.sampled * asked.tick)
@@ -54,7 +55,7 @@ def round_texts(asked, rounds):
     unit = re.sub(r"[\d.]", "", asked.link[1])
     fitting = [name for name in RATES if name[1:] == unit[1:] and asked.link[0] >= RATES[name]]
     unit = max(fitting, key=RATES.get, default=unit)
-    numbers, begins, ends, rates, *counts = zip(*(some.values() for some in rounds))
+    numbers, begins, ends, rates, *counts = zip(*(some.values() for some in rounds[:ROWS_SHOWN]))
     columns = [moment_texts([(tick - asked.start) * asked.tick for tick in ticks]) for ticks in (begins, ends)]
     columns.append(rate_texts([share(rate) / RATES[unit] for rate in rates]))
     if asked.ticks:

@@ -14,6 +14,7 @@ from checks.lib.tally import expect
 from checks.page import forecasts, kept, late, limits, links, looking, map, records, saves, shapes, sure, told, worker
 from checks.page.acts import asked, read, spelled, typed
 from checks.page.cases import example
+from checks.page.manners import MANNERS
 from checks.page.shown import tried
 from checks.view.limit_cases import RATES, TIMES
 
@@ -288,7 +289,7 @@ def check_units(page):
     """Another unit of a control is the same amount; a decimal is the amount that it says."""
     for draw in drawn("units", range(1)):
         check_same_amounts(page, draw)
-    page.ask("trace=sqlite&link=1Gbit&downtime=300ms")
+    page.ask("trace=sqlite&link=1Gbit&downtime=300ms&clark=1")
     expect("--link 1.5Gbit" in typed(page, "link", "1.5")["predict"], "1.5 Gbit/s")
     expect("--downtime 0.5ms" in typed(page, "downtime", "0.5")["predict"], "0.5 ms")
     expect("--first 187500Kbit" in typed(page, "first", "12.5")["predict"], "12.5 %")
@@ -402,6 +403,7 @@ USES = {
     "the rounds on the map": map.check_map_rounds,
     "pages of the map": map.check_map_pages,
     "what is announced": told.check_told,
+    **MANNERS,
     **sure.SURE,
     **late.LATE,
     "the worker": worker.check_worker,

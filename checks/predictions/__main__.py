@@ -5,10 +5,10 @@
 MODULE is out/browser_planner.wasm, which `make page` builds, if none is given. Of 200 random questions, or of COUNT if
 that is more, two thirds are about eight traces and a third about four records; half go by a hypervisor's looks, and
 half by Clark's rounds. They are asked of precopy-view, in lines and in JSON, of the library in C and in Python, if
-`make lib` has built it, those about records of tools/predict, and those of Clark's rounds of the page's module, if Node
-is there. All must answer what a plain model does, which plans page by page, in all that they tell, or refuse by the
-same words or number. At most a fifth is refused, and of each plan, verdict, end like QEMU and kind of shares of the
-link there are a number, and several ends of each plan. A question at a door is a case.
+`make lib` has built it, of the page's module, if Node is there, and those about records of tools/predict. All must
+answer what a plain model does, which plans page by page, in all that they tell, or refuse by the same words or number.
+At most a fifth is refused, and of each plan, verdict, end like QEMU and kind of shares of the link there are a number,
+and several ends of each plan. A question at a door is a case.
 """
 
 import collections

@@ -160,7 +160,7 @@ class Tool(Door):
 
 
 class Page(Door):
-    """The page's module, by the file that asks it. It plans by Clark's rounds alone."""
+    """The page's module, by the file that asks it."""
 
     name = "web/engine/planner.js"
 
@@ -169,9 +169,6 @@ class Page(Door):
         if not programs.node:
             return "there is no node with 64-bit memory"
         return "" if os.path.exists(programs.module) else f"there is no {programs.module}; make page builds it"
-
-    def is_asked(self, asked: Asked) -> bool:
-        return asked.question.clark
 
     def all_told(self, some: list[Asked]) -> list[object]:
         questions = [

@@ -237,16 +237,22 @@ def predicted(_, folder):
     """The status says whether the limit is kept. What the lines say of a migration is tested by checks/predictions."""
     path = os.path.join(folder, "guest.light.pcwt")
     run_thin(RECORDED, path, "--one-in", "4", "--start", "1000")
-    # By Clark's rounds all redraws keep the limit, but two standard errors more of the downtime do not.
-    for plan, kept, status, steps in (([], "yes", 0, "looks"), (["--clark"], "uncertain", 5, "rounds")):
-        printed, _ = run_predict(path, *LINK, *plan, status=status)
+    # By Clark's rounds all redraws keep the limit, but two standard errors more of the downtime do not. By looks the
+    # record ends before redraws do that have a tenth less of 32 MiB.
+    rows = ([], 40, "yes", 0, "looks"), (["--clark"], 32, "uncertain", 5, "rounds")
+    for plan, link, kept, status, steps in rows:
+        words = ["--link", f"{link}MiB", *LINK[2:], *plan]
+        printed, _ = run_predict(path, *words, status=status)
         expect(re.search(rf"^converges: yes, .*; {steps}: \d+$", printed, re.M), printed)
         expect("at half the link: " in printed and ("like QEMU" in printed) == bool(plan), printed)
         expect(f"kept: {kept}, in 20 of 20 redraws" in printed, printed)
-        hosts = ["max-bandwidth 33554432B", "downtime-limit 100", "setspeed DOMAIN 32", "setmaxdowntime DOMAIN 100"]
-        expect(all(f"{words}\n" in printed for words in hosts) and "precopy live" not in printed, printed)
-        again, _ = run_predict(path, *LINK, *plan, status=status)
+        limits = ["downtime-limit 100", "setmaxdowntime DOMAIN 100"]
+        hosts = [f"max-bandwidth {link << 20}B", f"setspeed DOMAIN {link}", *limits]
+        expect(all(f"{host}\n" in printed for host in hosts) and "precopy live" not in printed, printed)
+        again, _ = run_predict(path, *words, status=status)
         expect(again == printed, "the same words print other lines")
+    printed, _ = run_predict(path, *LINK, status=5)
+    expect("kept: uncertain, in 0 of 20 redraws" in printed, printed)
     over_shares(path)
     busy, part = os.path.join(folder, "busy.pcwt"), os.path.join(folder, "part.pcwt")
     made_trace(busy, rate=12)
@@ -416,9 +422,9 @@ def predicted_series(_, folder):
     """A line for each segment, and a picture of all by time of day; a damaged one is refused, and the others stay."""
     begin = datetime.datetime(2026, 11, 26, 22, 0, tzinfo=datetime.timezone.utc)
     moments = [begin + datetime.timedelta(hours=hours) for hours in (0, 1, 9, 25, 30)]
-    paths, link = made_series(folder, moments), ["--link", "16MiB", "--downtime", "2ms"]
+    paths, link = made_series(folder, moments), ["--link", "20MiB", "--downtime", "2ms"]
     name = os.path.join(folder, "guest.light.pcwt")
-    expect_series(folder, paths, moments, [*link, "--clark"], 5)
+    expect_series(folder, paths, moments, ["--link", "16MiB", "--downtime", "2ms", "--clark"], 5)
     lines = expect_series(folder, paths, moments, link, 0)
     with open(paths[2], "r+b") as file:
         file.write(b"XXXX")

@@ -4,10 +4,11 @@
 
 MODULE is the WebAssembly module of the proved planner, and PAGE the file to write. The rest comes from web/ and
 examples/ of this repository. The scripts follow one another in the order of their imports, as one script; so no two of
-them may name something alike. Comments on lines of their own stay out. Module and examples are gzipped, in base64; of
-an example each write has one byte, which plans as the whole does. The notices of the libraries whose code the module
-holds are at the page's foot. The page's policy names the script and the style by their hashes, and allows no
-connection. The same inputs give the same bytes. The status is 0 if the page was written, and 1 if not.
+them may name something alike. Comments on lines of their own stay out, and a line begins with a tab for each two
+blanks. Module and examples are gzipped, in base64; of an example each write has its tick and its page, which plan as
+the whole does. The notices of the libraries whose code the module holds are at the page's foot. The page's policy names
+the script and the style by their hashes, and allows no connection. The same inputs give the same bytes. The status is 0
+if the page was written, and 1 if not.
 """
 
 import base64
@@ -26,16 +27,29 @@ from precopy_tools.refusals import Refused
 
 EXAMPLES = {"example-gzip": "examples/gzip.pcwt", "example-sqlite": "examples/guests/sqlite.light.pcwt"}
 RECORDS = {"record-sqlite": "examples/guests/sqlite.light.json"}
+# The most ticks from one write of an example to the next.
+MOST_PAUSE = 65_535
 IMPORT = re.compile(r'^import \{([^}]*)\} from "(\.{1,2}/[\w/.-]+\.js)";\n', re.MULTILINE)
 NAMED = re.compile(r"^(export )?(?:async )?(?:function\*?|class|const|let) (\w+)", re.MULTILINE)
 # The page, its pictures, and the page on paper.
 STYLES = ["style/page.css", "style/pictures.css", "style/paper.css"]
 COMMENT = re.compile(r"^[ \t]*(?:/\*.*?\*/|//[^\n]*)\n", re.MULTILINE | re.DOTALL)
+# How deep a line of a script or a style is.
+INDENT = re.compile(r"^(?:  )+", re.MULTILINE)
 # Where the page has the notices of libraries.
 NOTICES = '<pre id="notices"></pre>'
 # What a page that opens no connection has no use for.
 CALLS = r"\b(fetch|XMLHttpRequest|WebSocket|EventSource|sendBeacon|importScripts|RTCPeerConnection|import\()"
 FORBIDDEN = re.compile(CALLS + r"|https?://(?!www\.w3\.org/)")
+
+
+def tabbed(name, text):
+    """Returns a script or a style with a tab for each two blanks at the begin of a line. A literal that has lines would
+    be changed, so none may."""
+    for line in text.split("\n"):
+        if line.count("`") % 2 == 1:
+            raise Refused(f"web/{name} has a template literal of several lines: {line.strip()}")
+    return INDENT.sub(lambda blanks: "\t" * (len(blanks.group()) // 2), text)
 
 
 def scripts_below(name, order):
@@ -66,7 +80,7 @@ def joined_script(first):
             raise Refused(f"web/{name} has an import or export of another form")
         if found := FORBIDDEN.search(plain):
             raise Refused(f"web/{name} has {found.group(0)!r}")
-        parts.append(f"// ---- {name}\n\n{plain}\n")
+        parts.append(f"// ---- {name}\n\n{tabbed(name, plain)}\n")
     return "\n" + "\n".join(parts)
 
 
@@ -75,10 +89,15 @@ def hash_of(text):
 
 
 def light(path):
-    """A trace with its ticks and pages, and one byte for each write."""
+    """The header of a trace, and of its writes the ticks since the write before and the pages: the low bytes of each,
+    and then the high ones, since like bytes pack well."""
     trace, records = traces.read_file(os.path.join(TOP, path))
-    writes = (traces.RECORD.pack(tick, page, 0, 1) + b"\1" for tick, page, _, _ in records)
-    return trace.text[: traces.HEADER] + b"".join(writes)
+    ticks, pages = zip(*((tick, page) for tick, page, *_ in records))
+    pauses = [tick - before for before, tick in zip((0, *ticks), ticks)]
+    if max(pauses) > MOST_PAUSE:
+        raise Refused(f"{path} pauses for more than {MOST_PAUSE} ticks")
+    planes = (bytes(number >> shift & 255 for number in column) for column in (pauses, pages) for shift in (0, 8))
+    return trace.text[: traces.HEADER] + b"".join(planes)
 
 
 def packed(data):
@@ -93,7 +112,7 @@ def replaced(text, old, new):
 
 def page_of(module):
     script = joined_script("page.js")
-    style = "\n" + COMMENT.sub("", "".join(read(f"web/{name}") for name in STYLES))
+    style = "\n" + "".join(tabbed(name, COMMENT.sub("", read(f"web/{name}"))) for name in STYLES)
     policy = (
         f"default-src 'none'; script-src {hash_of(script)} 'wasm-unsafe-eval'; style-src {hash_of(style)}; "
         "worker-src blob:; img-src data:; connect-src 'none'; form-action 'none'; base-uri 'none'"

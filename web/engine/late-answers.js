@@ -22,6 +22,11 @@ function mayHaveErrors(prediction) {
   return prediction.scale.isSample && !isUnknown(prediction);
 }
 
+/** Whether it may be told what comes of a prediction like QEMU. */
+function mayBeForecast({ plan }) {
+  return plan.isClark || plan.reason !== "few";
+}
+
 export class LateAnswers {
   /** `told` is called after each answer, with its kind. */
   constructor(told) {
@@ -43,16 +48,16 @@ export class LateAnswers {
     const ask = (kind, { question }) => ({ kind, trace, question, key: lateKey(kind, trace, question) });
     const errors = [...plans, ...starts].filter(mayHaveErrors).map((some) => ask("errors", some));
     const sure = plans.filter(mayBeSure).map((some) => ask("agreement", some));
-    const forecast = prediction ? [ask("forecast", prediction)] : [];
+    const forecast = prediction && mayBeForecast(prediction) ? [ask("forecast", prediction)] : [];
     const isOpen = prediction && this.leastOf(trace, prediction) === undefined;
     const remedies = isOpen ? [ask("remedies", prediction)] : [];
-    const offers = prediction ? this.offersOf(trace, prediction).map((some) => ask("predict", some)) : [];
+    const offers = prediction ? this.offersOf(trace, prediction).map((some) => ask("answer", some)) : [];
     const ways = prediction ? Object.values(this.waysOf(trace, prediction)) : [];
-    const asked = ways.filter((way) => way.ask).map((way) => ask("predict", way.ask));
+    const asked = ways.filter((way) => way.ask).map((way) => ask("answer", way.ask));
     const first = [...forecast, ...errors.slice(0, 1), ...sure.slice(0, 1)];
     this.wanted = [...first, ...remedies, ...offers, ...asked, ...errors.slice(1), ...sure.slice(1)];
     this.curves = null;
-    this.curvesOf = () => questionsOfCurves().map((question) => ({ ...ask("predict", { question }), of: "curve" }));
+    this.curvesOf = () => questionsOfCurves().map((question) => ({ ...ask("answer", { question }), of: "curve" }));
     if (!this.isAsking) {
       this.askAll();
     }
@@ -77,9 +82,16 @@ export class LateAnswers {
     return mayBeSure(prediction) ? this.known.get(lateKey("agreement", trace, prediction.question)) : null;
   }
 
-  /** What comes of a prediction like QEMU: null if there is no answer, and undefined if it is still to come. */
+  /**
+   * What comes of a prediction like QEMU: null if it is not told, and undefined if it is still to come. Beside one by
+   * looks it would say the same twice, unless the trace ends first.
+   */
   forecastOf(trace, prediction) {
-    return answerOver(trace, this.known.get(lateKey("forecast", trace, prediction.question)));
+    if (!mayBeForecast(prediction)) {
+      return null;
+    }
+    const forecast = answerOver(trace, this.known.get(lateKey("forecast", trace, prediction.question)));
+    return prediction.plan.isClark || !forecast || forecast.end === "record" ? forecast : null;
   }
 
   /** What keeps the limit of a prediction: null if there is no answer, and undefined if it is still to come. */
@@ -90,7 +102,7 @@ export class LateAnswers {
 
   /** The answer to a question: null if there is none, and undefined if it is still to come. */
   answerTo(trace, question) {
-    return answerOver(trace, this.known.get(lateKey("predict", trace, question)));
+    return answerOver(trace, this.known.get(lateKey("answer", trace, question)));
   }
 
   /** The ways out of a prediction that ends after the trace: each is found, or to be asked for. */

@@ -36,6 +36,7 @@ export function lightTrace(writes, sizes) {
     view.setUint32(at + 4, Math.floor(tick / 2 ** 32), true);
     view.setUint32(at + 8, writes.pages[place], true);
     view.setUint16(at + 14, 1, true);
+    bytes[at + RECORD] = 1;
   }
   return bytes;
 }

@@ -1,6 +1,7 @@
 // The planner's worker: it reads and tests a trace, and plans. It runs the page's own program.
 
 import { lightLength, lightTrace, writesIn } from "./light-trace.js";
+import { comeTo, lookRows, lookSettings } from "./look-lists.js";
 import { Planner, READ_FAULT, Refusal } from "./planner.js";
 import { readAnswer } from "../model/questions.js";
 import { Sha256 } from "./sha256.js";
@@ -50,6 +51,20 @@ async function openTrace({ number, blob }) {
   return { sizes, digest: digest.digest(), light: light && new Blob([light]) };
 }
 
+/** The answer to a question, with a row for each round or list of its plan. */
+function predict({ question }) {
+  const answer = planner().predict(question);
+  if (question.clark) {
+    return answer;
+  }
+  const settings = lookSettings(question, planner().settings(question), planner().sizes.last);
+  const rows = lookRows(writesMap(), planner().sizes.pages, settings);
+  if (!comeTo(rows, answer)) {
+    throw new Error("the lists of the plan do not come to the module's answer");
+  }
+  return { ...answer, rows };
+}
+
 /** Leaves the thread to others if a slice of time is over, and says whether many answers are still asked for. */
 async function goesOn(number, slice, share) {
   if (slice.isOver()) {
@@ -65,7 +80,7 @@ async function goesOn(number, slice, share) {
  */
 async function chosenOf(number, questions, answers, slice) {
   const errors = answers.map(() => null);
-  const choose = () => planner().chosen(answers, errors, questions[0].downtime);
+  const choose = () => planner().chosen(answers, errors, questions[0]);
   let chosen = choose();
   while (chosen.best !== null && errors[chosen.best] === null) {
     errors[chosen.best] = planner().errorBytes(questions[chosen.best]);
@@ -113,7 +128,8 @@ const ANSWERS = {
     return holdLock(lock);
   },
   open: openTrace,
-  predict: ({ question }) => planner().predict(question),
+  predict,
+  answer: ({ question }) => planner().predict(question),
   errors: ({ question }) => planner().errors(question),
   agreement: ({ question }) => planner().agreement(question),
   forecast: ({ question }) => planner().forecast(question),

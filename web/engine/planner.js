@@ -219,11 +219,11 @@ export class Planner {
     return new Uint8Array(this.calls.memory.buffer.slice(this.places.answers, this.places.answers + ANSWER.size));
   }
 
-  /** The answer to a question, with a row for each round of its plan. */
+  /** The answer to a question, with a row for each of Clark's rounds if it goes by them. */
   predict(question) {
     this.answerBytes(question);
     const answer = readAnswer(this.view(), this.places.answers);
-    return { ...answer, rows: this.roundRows(answer.rounds) };
+    return { ...answer, rows: question.clark ? this.roundRows(answer.rounds) : [] };
   }
 
   /** The standard errors of the answer to a question, or null if there are none. */
@@ -271,10 +271,10 @@ export class Planner {
   }
 
   /**
-   * The places of the best and the worst of some answers, given as their bytes, beside a limit; null if none tells
+   * The places of the best and the worst of some answers to a question, given as their bytes; null if none tells
    * anything. Their standard errors are given in the same way, or null if they are not counted.
    */
-  chosen(answers, errors, limit) {
+  chosen(answers, errors, { downtime, clark }) {
     const memory = new Uint8Array(this.calls.memory.buffer);
     const nothing = new Uint8Array(ERRORS.size);
     answers.forEach((bytes, place) => {
@@ -283,7 +283,8 @@ export class Planner {
       memory.set(errors[place] ?? nothing, at + ANSWER.size);
     });
     const starts = this.slice("answers", answers.length);
-    const known = this.calls.lent_chosen_starts(...starts, BigInt(limit), BigInt(this.places.choice));
+    const choice = BigInt(this.places.choice);
+    const known = this.calls.lent_chosen_starts(...starts, BigInt(downtime), clark ? 1 : 0, choice);
     if (known === 0n) {
       return { best: null, worst: null };
     }

@@ -10,52 +10,7 @@
 // - With skipping on, a page of any but the first round is not sent if it is written from the round's first tick on and
 //   before its turn. The copy after the stop skips nothing.
 
-import { firstPlace } from "../model/search.js";
-
-/** The pages that are written in a stretch of time, which grows at its end. */
-class WrittenPages {
-  constructor({ ticks, pages }, pageCount) {
-    this.ticks = ticks;
-    this.pages = pages;
-    this.marks = new Uint8Array(pageCount);
-    this.room = new Uint32Array(pageCount);
-    this.next = 0;
-  }
-
-  /** Begins with the writes from a tick on. */
-  begin(tick) {
-    this.marks.fill(0);
-    this.next = firstPlace(this.ticks.length, (place) => this.ticks[place] >= tick);
-  }
-
-  /** Goes on to the last write before a tick. */
-  goTo(tick) {
-    while (this.next < this.ticks.length && this.ticks[this.next] < tick) {
-      this.marks[this.pages[this.next]] = 1;
-      this.next += 1;
-    }
-  }
-
-  /** The pages that are written so far, in ascending order. */
-  list() {
-    let count = 0;
-    for (let page = 0; page < this.marks.length; page += 1) {
-      this.room[count] = page;
-      count += this.marks[page];
-    }
-    return this.room.slice(0, count);
-  }
-}
-
-/** The pages that the first round has. */
-function firstPages(written, { base, start }) {
-  if (base === null) {
-    return Uint32Array.from(written.marks.keys());
-  }
-  written.begin(base);
-  written.goTo(start);
-  return written.list();
-}
+import { firstPages, WrittenPages } from "./written-pages.js";
 
 /** The turns of a round's pages, each with its tick, and whether the page is sent then. */
 function turnsOf(written, pages, { from, rate, maySkip }) {

@@ -1,6 +1,7 @@
 // The pages of a trace over time, counted into a grid: across the ticks [first, last), and down the pages [fromPage,
-// endPage). How often they are written, and what the rounds of a plan do with them.
+// endPage). How often they are written, and what the rounds of a plan, or its lists, do with them.
 
+import { lookPages } from "./look-lists.js";
 import { roundPages } from "./round-pages.js";
 import { firstPlace } from "../model/search.js";
 
@@ -60,7 +61,8 @@ class RoundRows {
     this.turns = new TurnCells(grid);
     this.found = {
       pages: new Uint32Array(length), sent: new Uint32Array(length), again: new Uint32Array(length),
-      dirtied: new Uint32Array(length), firstTurn: new Float64Array(length), lastTurn: new Float64Array(length),
+      dirtied: new Uint32Array(length), firstTurn: new Float64Array(length).fill(Infinity),
+      lastTurn: new Float64Array(length).fill(-Infinity),
     };
   }
 
@@ -69,24 +71,34 @@ class RoundRows {
     const base = number * this.rows;
     this.turns.begin(null);
     for (let place = 0; place < pages.length; place += 1) {
-      const [page, tick] = [pages[place], ticks[place]];
+      const page = pages[place];
       if (rowOf[page] === NO_ROW) {
         continue;
       }
       const at = base + rowOf[page];
-      const kind = isSent[place] === 0 ? TURNS.skipped : isDirtied[page] === 0 ? TURNS.sent : TURNS.again;
-      found.firstTurn[at] = found.pages[at] === 0 ? tick : found.firstTurn[at];
-      found.lastTurn[at] = tick;
       found.pages[at] += 1;
-      found.sent[at] += isSent[place];
-      found.again[at] += kind === TURNS.again ? 1 : 0;
-      this.turns.add(rowOf[page], kind, tick, place + 1 < pages.length ? ticks[place + 1] : end);
+      // What is left of a list has no turn.
+      if (place < ticks.length) {
+        const stretch = [ticks[place], place + 1 < ticks.length ? ticks[place + 1] : end];
+        this.addTurn(at, rowOf[page], isSent[place], isDirtied[page], stretch);
+      }
     }
     for (const page of dirtied) {
       if (rowOf[page] !== NO_ROW) {
         found.dirtied[base + rowOf[page]] += 1;
       }
     }
+  }
+
+  /** Adds the turn of a page of some row, from a tick up to another, to what is found of the row in a round. */
+  addTurn(at, row, isSent, isDirtied, [from, to]) {
+    const { found } = this;
+    const kind = isSent === 0 ? TURNS.skipped : isDirtied === 0 ? TURNS.sent : TURNS.again;
+    found.firstTurn[at] = Math.min(found.firstTurn[at], from);
+    found.lastTurn[at] = from;
+    found.sent[at] += isSent;
+    found.again[at] += kind === TURNS.again ? 1 : 0;
+    this.turns.add(row, kind, from, to);
   }
 }
 
@@ -124,11 +136,15 @@ export class WritesMap {
     return { cells, totals };
   }
 
-  /** What the rounds of a plan, and last the copy after its stop, do with pages, by row; and their turns by cell. */
+  /**
+   * What the rounds of a plan, or its lists, and last the copy after its stop, do with pages, by row; and their turns
+   * by cell.
+   */
   rounds({ grid, plan }) {
     const rows = new RoundRows(grid, this.rowsOf(grid), plan.rounds.length + 1);
+    const each = plan.isClark ? roundPages : lookPages;
     let number = 0;
-    for (const round of roundPages(this, this.pageCount, plan)) {
+    for (const round of each(this, this.pageCount, plan)) {
       rows.add(number, round);
       number += 1;
     }

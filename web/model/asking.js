@@ -9,6 +9,9 @@ import { amountOf, limitsOf, microsOf, RATE_UNITS, scaleOf, shareOf, TIME_UNITS 
 /** The increment that the module takes by itself, in per cent of what the link has above the first round. */
 export const OWN_INCREMENT = 10;
 
+/** What a question says of rounds that does not go by them. */
+const NO_ROUNDS = { rounds: 30, skip: false };
+
 /** Why settings make no plan: the control that says too much or too little, and a sentence with value and limit. */
 export class ControlRefusal extends Error {
   constructor(control, sentence) {
@@ -109,13 +112,14 @@ function settingsFor(question, state, sizes) {
 export function askedOf(state, sizes) {
   const { isSample, ...scale } = scaleOf(state, sizes);
   const { link, first, downtime, reserve } = limitsOf(state);
-  const { rounds, start, base, skip } = state;
+  const { clark, start, base } = state;
+  const { rounds, skip } = clark ? state : NO_ROUNDS;
   const plain = {
-    ...scale, link, first: state.first === 100 ? null : first, downtime, reserve, increment: null, rounds, start, base,
-    skip,
+    ...scale, link, first: !clark || state.first === 100 ? null : first, downtime, reserve, increment: null, rounds,
+    start, base, skip, clark,
   };
   const { min, max } = settingsFor(plain, state, sizes);
-  const question = state.increase === OWN_INCREMENT ? plain
+  const question = !clark || state.increase === OWN_INCREMENT ? plain
     : { ...plain, increment: shareOf(BigInt(max - min), state.increase) };
   const settings = settingsFor(question, state, sizes);
   const isTooFew = question.sampled < BigInt(sizes.pages);

@@ -1,8 +1,9 @@
 // Which controls there are, in their groups. `low` and `high` are the ends of a slider; a number may go beyond them. Of
-// what is plain it is not said what it comes to.
+// what is plain it is not said what it comes to. Only Clark's rounds have what is of them.
 
 import { RATE_UNITS, TIME_UNITS } from "./units.js";
 
+const OF_ROUNDS = { isOfRounds: true };
 const RATE = { units: RATE_UNITS, low: 125_000, high: 12_500_000_000 };
 
 /** The settings that most plans are about, and below them all others, in groups. */
@@ -17,13 +18,6 @@ const MAIN = {
 
 const MORE = [
   {
-    title: "Link",
-    controls: [
-      { name: "first", label: "First round", unit: "% of the link", low: 1, high: 100, isPercent: true },
-      { name: "increase", label: "Increment", unit: "% of the rest", low: 0, high: 100, isPercent: true },
-    ],
-  },
-  {
     title: "Stop of the guest",
     controls: [
       { name: "reserve", label: "Reserve for switchover", units: TIME_UNITS, low: 1_000, high: 1_000_000,
@@ -33,10 +27,13 @@ const MORE = [
   {
     title: "Migration",
     controls: [
-      { name: "rounds", label: "Most rounds", unit: "rounds", low: 1, high: 64, isPlain: true },
-      { name: "skip", label: "Skip pages rewritten before being sent", isSwitch: true },
       { name: "warm", label: "Warm start: the destination has a copy", isSwitch: true },
       { name: "base", label: "Copy taken before", low: 0, high: 0, isTick: true },
+      { name: "clark", label: "Clark's rounds", isSwitch: true },
+      { name: "first", label: "First round", unit: "% of the link", low: 1, high: 100, isPercent: true, ...OF_ROUNDS },
+      { name: "increase", label: "Increment", unit: "% of the rest", low: 0, high: 100, isPercent: true, ...OF_ROUNDS },
+      { name: "rounds", label: "Most rounds", unit: "rounds", low: 1, high: 64, isPlain: true, ...OF_ROUNDS },
+      { name: "skip", label: "Skip pages rewritten before being sent", isSwitch: true, ...OF_ROUNDS },
     ],
   },
   {

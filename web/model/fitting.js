@@ -79,8 +79,8 @@ function placed(settings, sizes, record) {
 }
 
 /** Settings with the limits of others, or null if these make no plan. */
-export function withLimitsOf({ link, first, increase, downtime, reserve, rounds }, settings, sizes) {
-  const found = { ...settings, link, first, increase, downtime, reserve, rounds };
+export function withLimitsOf({ link, first, increase, downtime, reserve, rounds, clark }, settings, sizes) {
+  const found = { ...settings, link, first, increase, downtime, reserve, rounds, clark };
   return refusalOf(found, sizes) === null ? found : null;
 }
 

@@ -50,10 +50,12 @@ export async function predictionOf(guest, state) {
   const { sizes } = guest;
   const { question, settings } = askedOf(state, sizes);
   const { rows, ...answer } = await guest.predict(question);
-  const { reason, stop, down, total, left } = answer;
+  const { rounds: steps, reason, stop, down, total, left } = answer;
+  const isClark = question.clark;
   return {
     state, question, settings, scale: scaleOf(state, sizes), limits: limitsOf(state), last: sizes.last,
-    plan: { rounds: rows, reason, stop, down, total, left }, cost: costIn(answer),
+    plan: { rounds: rows, steps, isClark, isStopped: isClark || reason === "few", reason, stop, down, total, left },
+    cost: costIn(answer),
   };
 }
 
@@ -77,6 +79,11 @@ export function isOfStill({ cost }) {
   return cost.kept === "uncertain";
 }
 
+/** The tick at which a plan is over: if it stops the guest, when the rest is sent. */
+export function endOf({ stop, down, isStopped }) {
+  return isStopped ? stop + down : stop;
+}
+
 /** Whether the limit is kept, in words. */
 export function keptWords({ kept }) {
   return { yes: "kept", no: "not kept", unknown: "unknown", uncertain: "uncertain" }[kept];
@@ -90,6 +97,9 @@ export function reasonWords({ plan, settings, scale }) {
       : `fewer than ${counted(settings.threshold)} ${pages} were left`,
     fast: "the guest writes faster than the link sends",
     rounds: `all ${countOf(settings.rounds, "round")} that are allowed are done`,
+    looks: `${counted(plan.steps)} looks are done`,
+    cut: "the trace ends first",
+    level: "the trace ends first, and the lists did not get shorter",
   }[plan.reason];
 }
 
@@ -135,6 +145,9 @@ export function warningsOf(prediction) {
   if (plan.reason === "rounds") {
     warnings.push("Rounds ran out, so nothing bounds the downtime: allow more rounds.");
   }
+  if (!plan.isStopped) {
+    warnings.push("The guest is not stopped, so nothing bounds the downtime: give more of the link.");
+  }
   return warnings;
 }
 
@@ -142,17 +155,17 @@ function baseWords({ base }) {
   return base === null ? "" : ` --base ${base}`;
 }
 
-function optionsOf(settings) {
-  return `--rounds ${settings.rounds} --start ${settings.start}${baseWords(settings)}${settings.skip ? " --skip" : ""}`;
+function skipWord({ skip }) {
+  return skip ? " --skip" : "";
 }
 
-/** The limits of a state as options of `precopy-view`, which plans by Clark's rounds as this page does. */
-function limitWords(state, sizes, { limits, settings, scale }) {
-  const words = [`--clark --link ${commandWord(state.link, RATE_UNITS)}`];
-  if (state.first !== 100) {
+/** The limits of a state as options of `precopy-view`. */
+function limitWords(state, sizes, { limits, settings, scale, plan: { isClark } }) {
+  const words = [`${isClark ? "--clark " : ""}--link ${commandWord(state.link, RATE_UNITS)}`];
+  if (isClark && state.first !== 100) {
     words.push(`--first ${limits.first / RATE_UNITS.Kbit}Kbit`);
   }
-  if (state.increase !== OWN_INCREMENT) {
+  if (isClark && state.increase !== OWN_INCREMENT) {
     words.push(`--inc ${settings.increment}`);
   }
   words.push(`--downtime ${commandWord(state.downtime, TIME_UNITS)}`);
@@ -168,15 +181,17 @@ function limitWords(state, sizes, { limits, settings, scale }) {
 
 /** The words that ask for this migration, and that give hypervisors the same limits; with notes where needed. */
 export function commandsOf(state, sizes, prediction, firstStart) {
-  const { limits, settings } = prediction;
+  const { limits, settings, plan: { isClark } } = prediction;
   const rates = `--min ${settings.min} --max ${settings.max} --inc ${settings.increment}`;
   const said = limitWords(state, sizes, prediction);
-  const skip = settings.skip ? " --skip" : "";
-  const more = `--rounds ${settings.rounds} --from ${firstStart}${baseWords(settings)}${skip}`;
+  const rounds = isClark ? ` --rounds ${settings.rounds}` : "";
+  const more = `${baseWords(settings)}${skipWord(settings)} < TRACE`;
+  const live = `precopy live ${rates} --threshold ${settings.threshold}${rounds} --start ${settings.start}${more}`;
   return {
-    predict: { words: `precopy-view predict ${said} ${optionsOf(settings)} < TRACE` },
-    when: { words: `precopy-view when ${said} ${more} < TRACE` },
-    live: { words: `precopy live ${rates} --threshold ${settings.threshold} ${optionsOf(settings)} < TRACE` },
+    predict: { words: `precopy-view predict ${said}${rounds} --start ${settings.start}${more}` },
+    when: { words: `precopy-view when ${said}${rounds} --from ${firstStart}${more}` },
+    // A live migration goes by Clark's rounds.
+    live: { words: isClark ? live : "" },
     ...hostCommands(limits, state.link),
   };
 }

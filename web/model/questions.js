@@ -3,8 +3,8 @@
 
 import { AGREEMENT, ANSWER, ERRORS, FORECAST, QUESTION, REMEDIES, SETTINGS } from "./interface.js";
 
-/** The module's reasons of a stop, and its verdicts. */
-export const REASONS = ["few", "fast", "rounds"];
+/** The module's reasons why a plan ends, and its verdicts. */
+export const REASONS = ["few", "fast", "rounds", "looks", "cut", "level"];
 const VERDICTS = ["yes", "no", "unknown", "uncertain"];
 
 /** Why a migration like QEMU ends: few pages are left, the trace ends first, or it begins after the trace. */
@@ -23,10 +23,10 @@ function read(view, at, { wide, narrow }) {
   return Object.fromEntries([...words, ...flags]);
 }
 
-/** Writes a question, which goes by Clark's rounds. A first round, an increment or a base of null is not given. */
+/** Writes a question. A first round, an increment or a base of null is not given. */
 export function writeQuestion(view, at, question) {
   const { first, increment, base } = question;
-  const given = { hasFirst: first !== null, hasIncrement: increment !== null, hasBase: base !== null, clark: true };
+  const given = { hasFirst: first !== null, hasIncrement: increment !== null, hasBase: base !== null };
   write(view, at, QUESTION, { ...question, ...given });
 }
 

@@ -1,11 +1,12 @@
-// What rounds do with the pages of a row of the map, in words and sums.
+// What the steps of a plan do with the pages of a row of the map, in words and sums.
 
+import { nounsOf, stepNumber } from "./nouns.js";
 import { counted, countOf } from "./numbers.js";
 
-/** What of a round and a row is counted. */
+/** What of a step and a row is counted. */
 const COUNTS = ["pages", "sent", "again", "dirtied"];
 
-/** What some rounds do with some rows, as sums: both are numbers from the first up to the second. */
+/** What some steps do with some rows, as sums: both are numbers from the first up to the second. */
 export function sumsOf(found, rows, [firstRound, lastRound], [firstRow, lastRow]) {
   const sums = { pages: 0, sent: 0, again: 0, dirtied: 0, firstTurn: Infinity, lastTurn: -Infinity };
   for (let round = firstRound; round < lastRound; round += 1) {
@@ -20,26 +21,30 @@ export function sumsOf(found, rows, [firstRound, lastRound], [firstRow, lastRow]
   return { ...sums, skipped: sums.pages - sums.sent };
 }
 
-/** The rounds of a plan that lie in the ticks [from, to), at least in part; the copy after the stop is the last. */
-export function roundsIn({ rounds, stop, down }, from, to) {
-  const all = [...rounds, { from: stop, to: stop + down }];
+/** The steps of a plan that lie in the ticks [from, to), at least in part; the copy after the stop is the last. */
+export function roundsIn({ rounds, stop, down, isStopped }, from, to) {
+  const all = [...rounds, ...(isStopped ? [{ from: stop, to: stop + down }] : [])];
   const isIn = (round) => round.from < to && (round.to > from || round.from >= from);
   const first = all.findIndex(isIn);
   return first === -1 ? [0, 0] : [first, all.findLastIndex(isIn) + 1];
 }
 
-/** The name of rounds, of which the one after the last is the copy after the stop. */
-export function roundsName({ rounds }, [first, last]) {
-  const end = Math.min(last, rounds.length);
-  const name = end === first + 1 ? `round ${first}` : `rounds ${first} to ${end - 1}`;
+/** The name of steps of a plan, of which the one after the last is the copy after the stop. */
+export function roundsName(plan, [first, last]) {
+  const { one, many } = nounsOf(plan);
+  const end = Math.min(last, plan.rounds.length);
+  const [from, to] = [first, end - 1].map((place) => counted(stepNumber(plan, place)));
+  const name = end === first + 1 ? `${one} ${from}` : `${many} ${from} to ${to}`;
   return [...(end > first ? [name] : []), ...(last > end ? ["the stop"] : [])].join(" and ");
 }
 
-/** What rounds of some name do with pages, in words, with the moment of the first turn. */
-export function sumsWords(name, { pages, sent, skipped, dirtied, firstTurn }, moment) {
+/** What steps of a plan do with pages, in words, with the moment of the first turn. */
+export function sumsWords(plan, range, { pages, sent, skipped, dirtied, firstTurn }, moment) {
+  const name = roundsName(plan, range);
   const head = pages === 0 ? `${name}: no page to send`
-    : `${name}, from ${moment(firstTurn)} on: ${counted(sent)} of ${countOf(pages, "page")} sent`;
-  const more = [[skipped, "skipped"], [dirtied, "dirtied"]].filter(([count]) => count > 0);
+    : `${name}${firstTurn < Infinity ? `, from ${moment(firstTurn)} on` : ""}: ${counted(sent)} of `
+      + `${countOf(pages, "page")} sent`;
+  const more = [[skipped, nounsOf(plan).unsent], [dirtied, "dirtied"]].filter(([count]) => count > 0);
   return [head, ...more.map(([count, what]) => `${counted(count)} ${what}`)].join(", ");
 }
 

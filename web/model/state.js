@@ -20,6 +20,7 @@ const DEFAULTS = {
   start: 0,
   rounds: 30,
   skip: false,
+  clark: false,
   base: null,
   tick: time(1, "ms"),
   sample: null,
@@ -71,6 +72,7 @@ const READERS = {
   start: readCount,
   rounds: readCount,
   skip: (word) => SWITCHES.get(word),
+  clark: (word) => SWITCHES.get(word),
   base: (word) => (word === "none" ? null : readCount(word)),
   tick: (word) => readQuantity(word, TIME_UNITS),
   sample: readSample,
@@ -97,17 +99,17 @@ export function queryOf(settings) {
   return words.toString().replaceAll("%2F", "/");
 }
 
+/** What only Clark's rounds have. An address from before there was a choice says some of it, and is of them. */
+export const ROUND_SETTINGS = ["first", "increase", "rounds", "skip"];
+
 /** The settings that the words of a query say; what they do not say is as in others. */
 function settingsIn(query, others) {
   const words = new URLSearchParams(query);
-  const settings = structuredClone(others);
-  for (const [name, read] of Object.entries(READERS)) {
-    const value = words.has(name) ? read(words.get(name)) : undefined;
-    if (value !== undefined) {
-      settings[name] = value;
-    }
-  }
-  return settings;
+  const found = Object.entries(READERS).filter(([name]) => words.has(name))
+    .map(([name, read]) => [name, read(words.get(name))]);
+  const said = Object.fromEntries(found.filter(([, value]) => value !== undefined));
+  const clark = ROUND_SETTINGS.some((name) => said[name] !== undefined);
+  return { ...structuredClone(others), clark, ...said };
 }
 
 /** The fragment for a state: settings, those of kept plans, and of which trace they are. */

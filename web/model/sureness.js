@@ -53,10 +53,13 @@ export function answerWords(prediction, name) {
   return `${name}: ${verdictsOf(prediction)[name]}${counts}`;
 }
 
-/** The downtime with two standard errors, if that is beyond a limit which the plan keeps; else null. */
-export function likelyBeyond({ cost, limits, errors }) {
+/**
+ * The downtime with two standard errors, if that is beyond a limit which the plan keeps; else null. A hypervisor stops
+ * the guest only when what is left fits the limit.
+ */
+export function likelyBeyond({ cost, limits, errors, plan }) {
   const likely = cost.downtime + ERRORS_BELOW * (errors?.downtime ?? 0n);
-  return cost.kept === "yes" && likely > limits.downtime ? likely : null;
+  return plan.isClark && cost.kept === "yes" && likely > limits.downtime ? likely : null;
 }
 
 /** How sure the verdicts of a prediction are, in one line; nothing if it has none. */

@@ -29,7 +29,7 @@ function isSame({ question, settings }, other) {
  */
 export function withQuantity(state, sizes, question, name, quantity) {
   const wanted = { ...question, [name]: amountOf(quantity) };
-  const shared = { ...state, [name]: quantity, first: firstOf(wanted) };
+  const shared = { ...state, [name]: quantity, first: state.clark ? firstOf(wanted) : state.first };
   const changed = { ...shared, increase: increaseOf(question.increment, shared, sizes) };
   const asked = askedIfAny(changed, sizes);
   return asked && isSame(asked, wanted) ? changed : null;

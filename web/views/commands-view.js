@@ -52,6 +52,7 @@ export class CommandsView {
       tellIn(place, note);
       place.hidden = note === "";
     }
+    byId(`command-${name}`).parentElement.hidden = words === "" && note === "";
   }
 
   /** Shows the part of the page's address that has the settings. */

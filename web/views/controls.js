@@ -66,7 +66,8 @@ export class Controls {
     if (control.isSwitch) {
       part.field = html("input", { type: "checkbox", id });
       part.field.addEventListener("change", () => this.flip(control.name, part.field.checked));
-      return html("div", { class: "control switch" }, part.field, html("label", { for: id }, control.label));
+      part.whole = html("div", { class: "control switch" }, part.field, html("label", { for: id }, control.label));
+      return part.whole;
     }
     part.field = html("input", {
       type: "text", id, inputmode: "decimal", autocomplete: "off", spellcheck: "false",
@@ -206,11 +207,13 @@ export class Controls {
   show(settings, source = null) {
     this.settings = settings;
     this.parts.base.control.high = Math.max(1, settings.start);
-    this.parts.skip.field.checked = settings.skip;
-    this.parts.ticks.field.checked = settings.ticks;
+    ["skip", "ticks", "clark"].forEach((name) => { this.parts[name].field.checked = settings[name]; });
     this.parts.warm.field.checked = settings.base !== null;
     this.parts.base.whole.hidden = settings.base === null;
     for (const part of Object.values(this.parts)) {
+      if (part.control.isOfRounds) {
+        part.whole.hidden = !settings.clark;
+      }
       if (part.slider) {
         this.showPart(part, settings[part.control.name] ?? 0, source);
       }

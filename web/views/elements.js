@@ -52,6 +52,12 @@ export function area(className, x, y, width, height) {
   return svg("rect", { class: className, ...attributes });
 }
 
+/** Rectangles of one kind as a single part of a picture, which takes far less time than a part for each. */
+export function areas(className, boxes) {
+  const d = boxes.map(([x, y, width, height]) => box(x, y, Math.max(0, width), Math.max(0, height))).join("");
+  return svg("path", { class: className, d });
+}
+
 /** The element of the page with this id. */
 export function byId(id) {
   return document.getElementById(id);

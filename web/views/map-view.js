@@ -1,14 +1,15 @@
 // The map of pages over time: which pages are written when, and how often, and over it what the rounds of the plan do
 // with them. The worker counts; the pictures are canvases with an axis, and marks of rounds are drawn over them.
 
-import { area, byId, html, isCommand, keepFocus, label, svg } from "./elements.js";
+import { area, areas, byId, html, isCommand, keepFocus, label, svg } from "./elements.js";
 import { saveButtons } from "./exports.js";
 import { heatSteps, heatWords } from "../model/heat.js";
 import { Inspector } from "./inspector.js";
 import { paintTurns, paintWrites } from "./map-canvas.js";
 import { counted, countOf, momentText, SIZE_UNITS } from "../model/numbers.js";
 import { AXIS_HEIGHT, axisLabels, axisOf, pictureOf, widthOf } from "./plot.js";
-import { pagesWords, roundsIn, roundsName, sumsOf, sumsWords } from "../model/round-words.js";
+import { nounsOf } from "../model/nouns.js";
+import { pagesWords, roundsIn, sumsOf, sumsWords } from "../model/round-words.js";
 import { mapFile, mapTable } from "./tables.js";
 import { amountOf, microsOf } from "../model/units.js";
 
@@ -34,6 +35,9 @@ const MOST_REST = 100;
 /** By how many rows a key moves, and how many pages it shows beside those that are shown. */
 const ROW_KEYS = new Map([["ArrowUp", -1], ["ArrowDown", 1]]);
 const PAGE_ZOOMS = new Map([["*", 1 / 2], ["/", 2]]);
+
+/** How wide a round or a list is at least whose begin is marked, in pixels: marks of others would hide the turns. */
+const MARK_ROOM = 8;
 
 /** How many rows some pages have. */
 function rowsOfGrid({ fromPage, endPage }) {
@@ -215,25 +219,34 @@ export class MapView {
       preserveAspectRatio: "none", "image-rendering": "pixelated" }));
     const parts = [
       ...this.scaleParts(settings.sample ? "Where in the sample" : "Where in memory"),
-      label("title", axis.width + 6, MAP_TOP - 9, "writes"), ...this.images, ...this.hotParts(), this.marks,
+      label("title", axis.width + 6, MAP_TOP - 9, "writes"), ...this.images, this.hotParts(), this.marks,
       ...axisLabels(axis, settings.tick.amount || 1, MAP_TOP + MAP_HEIGHT, "time in the trace"),
     ];
     [this.canvas, this.turns].forEach((canvas) => canvas.style.setProperty("width", `${axis.room}px`));
     const picture = pictureOf(width, MAP_TOP + MAP_HEIGHT + AXIS_HEIGHT, parts);
-    this.plot.replaceChildren(this.canvas, this.turns, picture);
     paintWrites(this.canvas, this.held, steps);
-    this.tellLegend(steps, most);
-    byId("map-most").textContent = this.mostWords(totals.indexOf(Math.max(...totals)));
+    this.heat = { steps, most };
     this.drawRounds();
+    this.plot.replaceChildren(this.canvas, this.turns, picture);
     this.inspector.hold(this.look(settings));
   }
 
-  tellLegend(steps, most) {
+  /** The plan whose rounds or lists are shown, or are to be. */
+  plan() {
+    return this.wanted?.prediction?.plan ?? this.rounds?.prediction?.plan ?? { isClark: false };
+  }
+
+  tellLegend() {
+    const { steps, most } = this.heat;
+    const { many, begins } = nounsOf(this.plan());
     const item = (name, words) => html("li", {}, html("i", { class: `key ${name}` }), words);
     byId("map-legend").replaceChildren(html("li", {}, steps.length > 0 ? "writes:" : "no writes;"),
       ...heatWords(steps, most).map((words, step) => item(`heat-${step + 1}`, words)),
-      html("li", {}, "rounds:"), item("turn sent", "sent"), item("turn dirtied", "sent, but dirtied"),
-      item("turn skipped", "skipped"), item("edge", "a round begins"), item("stop", "stop"));
+      html("li", {}, `${many}:`), item("turn sent", "sent"), item("turn dirtied", "sent, but dirtied"),
+      ...(this.plan().isClark ? [item("turn skipped", "skipped")] : []), item("edge", begins), item("stop", "stop"));
+    byId("map-summary").textContent = `Table of ${many} by pages`;
+    const { totals } = this.held;
+    byId("map-most").textContent = this.mostWords(totals.indexOf(Math.max(...totals)));
   }
 
   /** The axis of pages, in bytes: the unit that it has, and so many digits that its labels differ. */
@@ -259,8 +272,9 @@ export class MapView {
     const { axis, grid: { rows }, totals } = this.held;
     const hottest = Math.max(1, ...totals);
     const height = MAP_HEIGHT / rows;
-    return [...totals].flatMap((count, row) => (count === 0 ? []
-      : [area("hot", axis.width + 6, MAP_TOP + row * height, (count / hottest) * HOT_WIDTH, Math.max(1, height))]));
+    const boxOf = (count, row) => [axis.width + 6, MAP_TOP + row * height, (count / hottest) * HOT_WIDTH,
+      Math.max(1, height)];
+    return areas("hot", Array.from(totals, boxOf).filter(([, , wide]) => wide > 0));
   }
 
   /** The first page of each row, and the end of all. */
@@ -280,7 +294,8 @@ export class MapView {
     const { totals, fromPage, endPage } = this.held;
     const all = totals.reduce((sum, count) => sum + count, 0);
     const inRow = Math.ceil((endPage - fromPage) / totals.length);
-    const many = inRow === 1 ? "" : ` A row has up to ${countOf(inRow, "page")}: it is dirtied or skipped if one is.`;
+    const kinds = this.plan().isClark ? "dirtied or skipped" : "dirtied";
+    const many = inRow === 1 ? "" : ` A row has up to ${countOf(inRow, "page")}: it is ${kinds} if one is.`;
     const densest = `${this.rowWords(row)}: ${counted(totals[row])}`;
     if (all < 2) {
       return all === 0 ? "No page is written in this stretch of time."
@@ -300,11 +315,16 @@ export class MapView {
     const isDrawn = this.areRoundsDrawn();
     const cells = isDrawn ? this.rounds.found.cells : new Uint8Array(turnGrid.columns * turnGrid.rows);
     paintTurns(this.turns, turnGrid, cells, { width: axis.room, height: MAP_HEIGHT });
+    this.tellLegend();
     const plan = this.rounds?.held.trace === this.held.trace ? this.rounds.prediction?.plan : null;
-    const places = plan ? [...plan.rounds.map(({ from }) => ["edge", from]), ["stop", plan.stop]] : [];
-    this.marks.replaceChildren(...places.filter(([, tick]) => tick >= axis.first && tick <= axis.last)
-      .flatMap(([name, tick]) => [area("halo", axis.place(tick) - 1.5, MAP_TOP, 3, MAP_HEIGHT),
-        area(name, axis.place(tick) - 0.5, MAP_TOP, name === "stop" ? 2 : 1, MAP_HEIGHT)]));
+    const isIn = (tick) => tick >= axis.first && tick <= axis.last;
+    const boxOf = (tick, left, wide) => [axis.place(tick) - left, MAP_TOP, wide, MAP_HEIGHT];
+    const marked = (name, ticks, wide) => [areas("halo", ticks.map((tick) => boxOf(tick, 1.5, 3))),
+      areas(name, ticks.map((tick) => boxOf(tick, 0.5, wide)))];
+    const isWide = ({ from, to }, place) => place === 0 || axis.place(to) - axis.place(from) >= MARK_ROOM;
+    const edges = (plan?.rounds ?? []).filter(isWide).map(({ from }) => from).filter(isIn);
+    const stops = plan?.isStopped && isIn(plan.stop) ? [plan.stop] : [];
+    this.marks.replaceChildren(...marked("edge", edges, 1), ...marked("stop", stops, 2));
     byId("map-details").hidden = !this.rounds?.found;
     this.fill();
   }
@@ -347,7 +367,7 @@ export class MapView {
     const { found, prediction: { plan }, held: { grid: { rows } } } = this.rounds;
     const range = roundsIn(plan, from, to);
     const sums = sumsOf(found, rows, range, this.row === null ? [0, rows] : [this.row, this.row + 1]);
-    return range[1] === 0 ? "" : `; ${sumsWords(roundsName(plan, range), sums, moment)}`;
+    return range[1] === 0 ? "" : `; ${sumsWords(plan, range, sums, moment)}`;
   }
 
   look(settings) {

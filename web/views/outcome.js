@@ -1,4 +1,4 @@
-// A plan's outcome: the verdict, the plan beside those that are kept, its rounds as a table, and what was refused.
+// A plan's outcome: the verdict, the plan beside those that are kept, and what was refused.
 
 import { ControlRefusal } from "../model/asking.js";
 import { LABELS } from "../model/control-list.js";
@@ -51,14 +51,15 @@ const ROWS = [
     unknown: ({ cost }) => (cost.recorded > 0n ? `more than ${timeText(cost.recorded)}` : "unknown") },
   { name: "sent", title: "Sent", isPrice: true, number: ({ cost }) => cost.bytes, text: bytesText,
     more: (some) => joined(errorText(some, "bytes", bytesText), sentText(some)) },
-  { name: "rounds", title: "Rounds", number: ({ plan }) => plan.rounds.length, text: counted,
+  { name: "rounds", title: "", number: ({ plan }) => plan.steps, text: counted,
     more: (some) => joined(answerWords(some, "converges"), reasonWords(some)) },
   { name: "left", title: "Left at the stop", isPrice: true, isPages: true, number: ({ plan }) => plan.left,
     text: (pages, { scale }) => pagesText(scale, pages),
     more: ({ settings: { threshold } }) => (threshold === 1 ? "none left ends pre-copy"
       : `fewer than ${counted(threshold)} end pre-copy`) },
   { name: "stop", title: "Stop in the trace", isMoment: true, number: ({ plan, scale }) => microsOf(scale, plan.stop),
-    text: momentText, more: (some) => tickWords(some, `tick ${counted(some.plan.stop)}`) },
+    text: (moment, { plan }) => (plan.isStopped ? momentText(moment) : "none"),
+    more: (some) => tickWords(some, some.plan.isStopped ? `tick ${counted(some.plan.stop)}` : "") },
 ];
 
 /** The verdict on a migration that ends after its trace. */
@@ -71,22 +72,27 @@ function unknownVerdict(prediction) {
   return `The trace ends before the migration does${least}: record longer.`;
 }
 
+function capital(words) {
+  return words[0].toUpperCase() + words.slice(1);
+}
+
 /** Whether the limit is kept, and how sure that is, in a sentence. */
 function pauseSentence(prediction, down, limit) {
   const { kept } = verdictsOf(prediction);
+  const stands = prediction.plan.isStopped ? `the guest stands still for ${down}`
+    : `the guest is not stopped, and what is left would take ${down}`;
   const isKept = `the limit of ${limit} is ${kept === "yes" ? "kept" : "not kept"}`;
   if (isOfPlan(prediction)) {
-    return `The guest stands still for ${down}; ${isKept}, by the plan alone.`;
+    return `${capital(stands)}; ${isKept}, by the plan alone.`;
   }
   const counts = sureWords(prediction, "kept");
   if (kept !== "uncertain") {
-    return `The guest stands still for ${down}; ${isKept}${kept === "yes" ? `, ${counts}` : ` (it is ${counts})`}.`;
+    return `${capital(stands)}; ${isKept}${kept === "yes" ? `, ${counts}` : ` (it is ${counts})`}.`;
   }
   const likely = likelyBeyond(prediction);
   const errors = likely === null ? ""
     : ` With two standard errors the downtime is ${unbroken(timeText(likely))}, and the limit is missed.`;
-  return `By the plan the guest stands still for ${down}; it is uncertain whether the limit of ${limit} is kept `
-    + `(it is ${counts}).${errors}`;
+  return `By the plan ${stands}; it is uncertain whether the limit of ${limit} is kept (it is ${counts}).${errors}`;
 }
 
 /** The verdict on a prediction, in a line. */
@@ -200,7 +206,8 @@ function isSameScale(one, other) {
 
 /** Whether a number of this plan and of a kept one can be told apart: pages of one size, moments of one trace. */
 function isCompared({ isPages, isMoment }, prediction, { found: { value }, name }) {
-  return ![prediction, value].some(isUnknown) && !(isMoment && name)
+  const isTold = !isMoment || (!name && prediction.plan.isStopped && value.plan.isStopped);
+  return ![prediction, value].some(isUnknown) && isTold
     && (!isPages || isSameScale(prediction.scale, value.scale));
 }
 
@@ -223,6 +230,12 @@ function keptHead({ name: trace }, place) {
     button("data-drops", "drop", "Drop")), ...(trace ? [" ", html("bdi", { class: "trace-name" }, trace)] : []));
 }
 
+/** What plans have a number of. */
+function stepsTitle(predictions) {
+  const [ofRounds, ofLooks] = [true, false].map((kind) => predictions.some(({ plan }) => plan.isClark === kind));
+  return ofRounds && ofLooks ? "Rounds or looks" : ofRounds ? "Rounds" : "Looks";
+}
+
 /**
  * The table of a plan, and beside it the plans that are kept, with the differences. Roles say that it is a table where
  * the style has the plans below each other.
@@ -230,8 +243,9 @@ function keptHead({ name: trace }, place) {
 export function comparisonOf(prediction, kept) {
   const head = html("tr", { role: "row" }, html("td", { role: "cell" }),
     html("th", { scope: "col", role: "columnheader" }, THIS_PLAN), ...kept.map(keptHead));
+  const steps = stepsTitle([prediction, ...kept.map(({ found }) => found.value).filter(Boolean)]);
   const rows = ROWS.map((row) => html("tr", { role: "row" },
-    html("th", { scope: "row", role: "rowheader" }, row.title), cellOf(row, THIS_PLAN, prediction),
+    html("th", { scope: "row", role: "rowheader" }, row.title || steps), cellOf(row, THIS_PLAN, prediction),
     ...kept.map((some, place) => keptCell(row, prediction, some, place))));
   const caption = html("caption", { class: "hidden" }, "What the plan comes to");
   return html("table", { class: kept.length > 0 ? "comparison two" : "comparison", role: "table" }, caption,
@@ -246,7 +260,7 @@ const COUNT_CELLS = [["redraws", "draws"], ["redraws_kept", "drawsKept"], ["redr
 function priceCells(prediction) {
   const { cost, plan, scale } = prediction;
   return isUnknown(prediction) ? Array(6).fill("")
-    : [cost.downtime, cost.time, cost.bytes, plan.rounds.length, plan.left, microsOf(scale, plan.stop)];
+    : [cost.downtime, cost.time, cost.bytes, plan.steps, plan.left, plan.isStopped ? microsOf(scale, plan.stop) : ""];
 }
 
 /** The verdicts on a migration and the counts that say how sure they are, for a file; nothing that is still to come. */
@@ -260,9 +274,10 @@ function verdictCells(prediction) {
 export function comparisonRows(prediction, kept) {
   const plans = [[THIS_PLAN, prediction], ...kept.map(({ found }, place) => [keptName(place), found.value])];
   const rows = plans.filter(([, some]) => some).map(([name, some]) => [name, ...priceCells(some),
-    microsOf(some.scale, some.settings.start), isUnknown(some) ? "" : some.plan.reason, ...verdictCells(some)]);
+    microsOf(some.scale, some.settings.start), isUnknown(some) ? "" : some.plan.reason, ...verdictCells(some),
+    some.plan.isClark ? "rounds" : "looks"]);
   return [["plan", "downtime_us", "time_us", "sent_bytes", "rounds", "left_pages", "stop_us", "start_us", "reason",
-    "kept", "converges", ...COUNT_CELLS.map(([column]) => column)], rows];
+    "kept", "converges", ...COUNT_CELLS.map(([column]) => column), "plan_by"], rows];
 }
 
 /** What was refused, in words: a name, and a sentence. */

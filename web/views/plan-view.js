@@ -1,8 +1,9 @@
-// The sections of the plan: the verdict, the comparison with the plans that are kept, and the rounds of all. If
-// settings make no plan, the last one stays, grey.
+// The sections of the plan: the verdict, the comparison with the plans that are kept, and the rounds or lists of all.
+// If settings make no plan, the last one stays, grey.
 
 import { ControlRefusal } from "../model/asking.js";
 import { byId, html, keepFocus, renew, tellIn } from "./elements.js";
+import { nounsOf } from "../model/nouns.js";
 import { bytesText, momentText, timeText } from "../model/numbers.js";
 import { saveButtons } from "./exports.js";
 import { Inspector } from "./inspector.js";
@@ -15,6 +16,7 @@ import { watchWidths, widthOf } from "./plot.js";
 import { beginsLate, forecastWords, isUnknown, keptWords } from "../model/predictions.js";
 import { quantityWords } from "../model/quantities.js";
 import { reachOf, roundsLook, roundsPicture } from "./rounds-chart.js";
+import { ROUND_SETTINGS } from "../model/state.js";
 import { isAwaited, planMark, verdictsOf } from "../model/sureness.js";
 import { roundsFile, roundsTable } from "./tables.js";
 import { amountOf, microsOf, RATE_UNITS, TIME_UNITS } from "../model/units.js";
@@ -38,6 +40,7 @@ const WORDS = {
   start: (value, settings) => `start at ${momentOf(value, settings)}`,
   rounds: (value) => `at most ${value} rounds`,
   skip: (value) => (value ? "skips pages" : "skips no pages"),
+  clark: (value) => (value ? "Clark's rounds" : "a hypervisor's looks"),
   base: (value, settings) => (value === null ? "cold start" : `copy before ${momentOf(value, settings)}`),
   tick: (value) => `tick ${quantityWords(value, TIME_UNITS)}`,
   sample: (value) => (value === null ? "all pages" : `sample of ${value.part} in ${value.whole}`),
@@ -45,7 +48,9 @@ const WORDS = {
 
 /** In what the settings of a kept plan differ, in words. */
 function differencesOf(settings, kept, place) {
-  const differing = Object.keys(WORDS).filter((name) => JSON.stringify(settings[name]) !== JSON.stringify(kept[name]));
+  const isAsked = (name) => settings.clark || kept.clark || !ROUND_SETTINGS.includes(name);
+  const differing = Object.keys(WORDS).filter((name) => isAsked(name)
+    && JSON.stringify(settings[name]) !== JSON.stringify(kept[name]));
   return differing.length === 0 ? `Kept plan ${place + 1} has the same settings.`
     : `Kept plan ${place + 1} differs: ${differing.map((name) => WORDS[name](kept[name], kept)).join(", ")}.`;
 }
@@ -53,23 +58,24 @@ function differencesOf(settings, kept, place) {
 /** What the sign before a standard error means. */
 const STANDARD_ERROR = "\u00b1 is one standard error: how far a number moves if other pages of the guest are sampled.";
 
-/** A figure with the rounds of a plan. */
+/** A figure with the rounds of a plan, or its lists. */
 class RoundsFigure {
   constructor(name, title, times) {
     this.title = html("figcaption", {}, title);
     this.plot = html("div", { class: "plot", id: `rounds-plot-${name}` });
-    this.readout = html("p", { class: "readout", "data-hint": "Point at a round, or step with the arrow keys.",
-      "data-touch": "Tap a round to read it." });
+    this.readout = html("p", { class: "readout", "data-hint": "Point at the picture, or step with the arrow keys.",
+      "data-touch": "Tap the picture to read it." });
     this.table = html("div", { class: "scrolls", id: `rounds-table-${name}` });
-    const whose = title && ` of ${title.toLowerCase()}`;
-    const saves = saveButtons(`rounds-${name}`, `the rounds${title && `, ${title}`}`, {
+    this.whose = title && ` of ${title.toLowerCase()}`;
+    const saves = saveButtons(`rounds-${name}`, `the plan${title && `, ${title}`}`, {
       picture: () => this.plot.querySelector("svg"),
       table: () => this.prediction && roundsFile(this.prediction),
     });
     this.prediction = null;
-    this.details = html("details", {}, html("summary", {}, `Table of rounds${whose}`), this.table, saves);
+    this.summary = html("summary", {});
+    this.details = html("details", {}, this.summary, this.table, saves);
     this.whole = html("figure", { id: `plan-${name}` }, this.title, this.plot, this.readout, this.details);
-    this.inspector = new Inspector(this.plot, this.readout, `Rounds${title && `, ${title}`}`);
+    this.inspector = new Inspector(this.plot, this.readout, `Course of the plan${title && `, ${title}`}`);
     this.axis = null;
     times.add(this.plot, this.inspector, () => this.axis && {
       axis: this.axis, from: this.prediction.settings.start, ticks: 1 / Number(this.prediction.scale.tick),
@@ -78,6 +84,7 @@ class RoundsFigure {
 
   draw(prediction, reach) {
     this.prediction = prediction;
+    tellIn(this.summary, `Table of ${nounsOf(prediction.plan).many}${this.whose}`);
     const drawn = roundsPicture(widthOf(this.plot), prediction, reach);
     this.axis = drawn.axis;
     this.plot.replaceChildren(drawn.picture);
@@ -137,11 +144,11 @@ export class PlanView {
     tellIn(byId("summary"), found.value ? this.summaryOf(found.value) : "No plan with these settings");
   }
 
-  /** Says of rounds that go on after the trace what they are of. */
+  /** Says of rounds that go on after the trace what they are of. Looks end with it. */
   noteUnknown(kept) {
     const plans = [["the start", this.last],
       ...kept.map(({ found }, place) => [`the start of kept plan ${place + 1}`, found.value])];
-    const beyond = plans.filter(([, some]) => some && isUnknown(some));
+    const beyond = plans.filter(([, some]) => some?.plan.isClark && isUnknown(some));
     const ends = beyond.map(([start, some]) => (some.cost.recorded > 0n
       ? `${timeText(some.cost.recorded)} after ${start}` : `${beginsLate(some) ? "before" : "at"} ${start}`));
     byId("rounds-note").hidden = ends.length === 0;
@@ -249,6 +256,9 @@ export class PlanView {
 
   drawRounds(prediction, kept) {
     const others = kept.map(({ found }) => found.value ?? null);
+    const { title, unsent } = nounsOf(prediction.plan);
+    tellIn(byId("rounds-title"), title);
+    tellIn(byId("unsent-key"), unsent);
     this.kept = kept;
     const reach = reachOf([prediction, ...others.filter(Boolean)], this.times.range);
     this.figureAt(0).title.textContent = others.some(Boolean) ? "This plan" : "";

@@ -1,9 +1,12 @@
-// The picture of a plan: the pages of each round and its rate, the stop and the downtime, by the time since the start.
+// The picture of a plan: the pages of each round or list and its rate, the stop and the downtime, by the time since the
+// start.
 
-import { area, grounded } from "./elements.js";
+import { area, areas, grounded } from "./elements.js";
+import { nounsOf, stepNumber } from "../model/nouns.js";
 import { counted, momentText, pagesText, timeText } from "../model/numbers.js";
 import { AXIS_HEIGHT, axisOf, axisLabels, barOf, frameOf, panelOf, pictureOf } from "./plot.js";
-import { isUnknown, reasonWords } from "../model/predictions.js";
+import { isCut } from "../engine/look-lists.js";
+import { endOf, isUnknown, reasonWords } from "../model/predictions.js";
 import { fewDigits, fewDigitsText, inFittingUnit, unitName } from "../model/quantities.js";
 import { microsOf, rateIn, RATE_UNITS } from "../model/units.js";
 
@@ -11,6 +14,10 @@ const PAGES_TOP = 26;
 const PAGES_HEIGHT = 200;
 const RATES_TOP = 266;
 const RATES_HEIGHT = 84;
+
+/** How wide the pixels are that lists share if there are more than so many. */
+const MANY_STEPS = 64;
+const STEP_ROOM = 4;
 
 /** A rate in pages per 1,000 ticks as a number of bytes a second. */
 function bytesASecond(scale, rate) {
@@ -39,7 +46,7 @@ function stretchIn({ settings: { start }, scale }, range, micros) {
 export function reachOf(predictions, range) {
   const reach = { micros: 1, bytes: 1, rate: 1 };
   for (const { plan, settings, scale } of predictions) {
-    reach.micros = Math.max(reach.micros, (plan.stop + plan.down - settings.start) * Number(scale.tick));
+    reach.micros = Math.max(reach.micros, (endOf(plan) - settings.start) * Number(scale.tick));
     const pages = plan.rounds.map((round) => Math.max(1, round.pages, round.dirtied));
     reach.bytes = Math.max(reach.bytes, ...pages.map((count) => count * bytesOfPage(scale)));
     reach.rate = Math.max(reach.rate, bytesASecond(scale, settings.max));
@@ -50,28 +57,28 @@ export function reachOf(predictions, range) {
   return { ...reach, stretch, unit: { name: unitName(unit, RATE_UNITS), size: RATE_UNITS[unit] } };
 }
 
-/** The pages that are dirtied, as a mark over the bar of the round, with a halo that parts it from what it lies on. */
-function dirtiedParts(pages, round, left, width) {
-  const y = pages.level(round.dirtied);
-  return [area("halo", left, y - 3, Math.max(2, width), 6), area("dirtied", left, y - 1.5, Math.max(2, width), 3)];
-}
-
 /** When something is on the axis of a plan, in microseconds since its start. */
 function sinceStart({ settings, scale }, tick) {
   return (tick - settings.start) * Number(scale.tick);
 }
 
-function roundParts(axis, pages, rates, round, prediction) {
+/**
+ * The rectangles of a round or a list, by what they show. The pages that are dirtied are a mark over the bar, with a
+ * halo that parts it from what it lies on.
+ */
+function boxesOf(axis, pages, rates, round, prediction) {
   const [left, right] = barOf(axis, sinceStart(prediction, round.from), sinceStart(prediction, round.to));
   const width = right - left;
   const skipped = round.pages - round.sent;
   const rate = bytesASecond(prediction.scale, round.rate);
-  return [
-    area("sent", left, pages.level(round.sent), width, pages.rise(round.sent)),
-    area("skipped", left, pages.level(round.pages), width, Math.max(0, pages.rise(skipped) - 1)),
-    ...dirtiedParts(pages, round, left, width),
-    area("rate", left, rates.level(rate), width, rates.rise(rate)),
-  ];
+  const dirtied = pages.level(round.dirtied);
+  return {
+    sent: [left, pages.level(round.sent), width, pages.rise(round.sent)],
+    skipped: [left, pages.level(round.pages), width, pages.rise(skipped) - 1],
+    halo: [left, dirtied - 3, Math.max(2, width), 6],
+    dirtied: [left, dirtied - 1.5, Math.max(2, width), 3],
+    rate: [left, rates.level(rate), width, rates.rise(rate)],
+  };
 }
 
 /** Whether something from one tick to another is seen, at least in part. */
@@ -79,9 +86,31 @@ function isIn(axis, prediction, from, to) {
   return sinceStart(prediction, from) < axis.last && sinceStart(prediction, to) >= axis.first;
 }
 
+/** The steps of a plan that are drawn. Of many those that share pixels are one bar, of the one with most pages. */
+function drawnSteps(axis, prediction) {
+  const seen = prediction.plan.rounds.filter(({ from, to }) => isIn(axis, prediction, from, to));
+  if (seen.length <= MANY_STEPS) {
+    return seen;
+  }
+  const columns = new Map();
+  for (const step of seen) {
+    const column = Math.floor(axis.place(sinceStart(prediction, step.from)) / STEP_ROOM);
+    const others = columns.get(column) ?? step;
+    const fullest = others.pages >= step.pages ? others : step;
+    columns.set(column, { ...fullest, from: others.from, to: step.to });
+  }
+  return [...columns.values()];
+}
+
+/** The rounds or lists of a plan, in the order in which their parts lie over each other. */
+function stepParts(axis, pages, rates, prediction) {
+  const all = drawnSteps(axis, prediction).map((round) => boxesOf(axis, pages, rates, round, prediction));
+  return ["sent", "skipped", "halo", "dirtied", "rate"].map((kind) => areas(kind, all.map((boxes) => boxes[kind])));
+}
+
 function stopParts(axis, panel, prediction) {
-  const { stop, down } = prediction.plan;
-  if (!isIn(axis, prediction, stop - 1, stop + down)) {
+  const { stop, down, isStopped } = prediction.plan;
+  if (!isStopped || !isIn(axis, prediction, stop - 1, stop + down)) {
     return [];
   }
   const [at, end] = [stop, stop + down].map((tick) => axis.place(sinceStart(prediction, tick)));
@@ -96,7 +125,8 @@ const ENDS_DOWN = 34;
 /** Of a plan that ends after its trace what is drawn later is paler, from a line on that is told in the first panel. */
 function laterParts(axis, panels, prediction) {
   const end = Number(prediction.cost.recorded);
-  if (!isUnknown(prediction) || end < axis.first || end >= axis.last) {
+  const isTold = isUnknown(prediction) || isCut(prediction.plan);
+  if (!isTold || end < axis.first || end > axis.last) {
     return [];
   }
   const x = axis.place(end);
@@ -111,16 +141,16 @@ function laterParts(axis, panels, prediction) {
 /** The picture of a plan within a reach. */
 export function roundsPicture(width, prediction, reach) {
   const { plan, settings, scale } = prediction;
+  const { one } = nounsOf(plan);
   const { unit } = reach;
   const axis = axisOf(width, reach.stretch.first, reach.stretch.last);
   const pages = panelOf(PAGES_TOP, PAGES_HEIGHT, Math.max(1, Math.round(reach.bytes / bytesOfPage(scale))));
   const rates = panelOf(RATES_TOP, RATES_HEIGHT, reach.rate);
   const rateText = (rate) => counted(fewDigits(rate / Number(unit.size)));
   const parts = [
-    ...frameOf(axis, pages, scale.isSample ? "Sample pages of a round" : "Pages of a round"),
-    ...frameOf(axis, rates, `Rate of a round, in ${unit.name}`, rateText),
-    ...plan.rounds.filter(({ from, to }) => isIn(axis, prediction, from, to))
-      .flatMap((round) => roundParts(axis, pages, rates, round, prediction)),
+    ...frameOf(axis, pages, `${scale.isSample ? "Sample pages" : "Pages"} of a ${one}`),
+    ...frameOf(axis, rates, `Rate of a ${one}, in ${unit.name}`, rateText),
+    ...stepParts(axis, pages, rates, prediction),
     area("link", axis.place(axis.first), rates.level(bytesASecond(scale, settings.max)) - 0.5, axis.room, 1),
     ...stopParts(axis, pages, prediction), ...stopParts(axis, rates, prediction),
     ...laterParts(axis, [pages, rates], prediction),
@@ -129,7 +159,13 @@ export function roundsPicture(width, prediction, reach) {
   return { axis, panels: [pages, rates], picture: pictureOf(width, RATES_TOP + RATES_HEIGHT + AXIS_HEIGHT, parts) };
 }
 
-/** What a round has, in words; the item after the last round is the stop. */
+/** What ends a list, in words. */
+function endWords({ scale, plan }, at) {
+  const { left } = plan.rounds[at];
+  return `${at < plan.steps ? "the look finds" : "the trace ends with"} ${pagesText(scale, left)} left`;
+}
+
+/** What a round or a list has, in words; the item after the last one is the stop. */
 function wordsOf(prediction, unit, at) {
   const { plan, settings, scale } = prediction;
   const since = (tick) => momentText(microsOf(scale, tick - settings.start));
@@ -140,15 +176,19 @@ function wordsOf(prediction, unit, at) {
   const round = plan.rounds[at];
   const { bytes, seconds } = rateIn(scale, round.rate);
   const rate = fewDigitsText(bytes, seconds * unit.size);
-  return `Round ${at}, ${since(round.from)} to ${since(round.to)}, at ${rate} ${unit.name}: `
-    + `${pagesText(scale, round.pages)}, ${counted(round.sent)} sent, ${counted(round.dirtied)} dirtied meanwhile`;
+  const name = plan.isClark ? "Round" : "List";
+  return `${name} ${counted(stepNumber(plan, at))}, ${since(round.from)} to ${since(round.to)}, `
+    + `at ${rate} ${unit.name}: ${pagesText(scale, round.pages)}, ${counted(round.sent)} sent, `
+    + `${counted(round.dirtied)} dirtied meanwhile`
+    + (plan.isClark ? "" : `; ${endWords(prediction, at)}`);
 }
 
-/** How the rounds of a picture are looked at: those that are seen, and the stop. */
+/** How the rounds or lists of a picture are looked at: those that are seen, and the stop. */
 export function roundsLook({ axis, panels }, prediction, { unit }) {
-  const { rounds, stop, down } = prediction.plan;
+  const { rounds, stop, down, isStopped } = prediction.plan;
   const since = (tick) => sinceStart(prediction, tick);
-  const all = [...rounds, { from: stop, to: stop + down }].map(({ from, to }, at) => ({ from, to, at }));
+  const ends = isStopped ? [{ from: stop, to: stop + down }] : [];
+  const all = [...rounds, ...ends].map(({ from, to }, at) => ({ from, to, at }));
   const seen = all.filter(({ from, to }) => isIn(axis, prediction, from, to));
   return {
     count: seen.length, panels,

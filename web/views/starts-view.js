@@ -11,19 +11,22 @@ import { WorkerEnded } from "../engine/planner-client.js";
 import { Refusal } from "../engine/planner.js";
 import { ERRORS_BELOW } from "../model/sureness.js";
 
-/** Which of two starts is the better one. */
-const BETTER = "A start that is likely to keep the limit, with two standard errors of its downtime, is better than any "
-  + "other. Of two such starts that which sends less is better; of two others that whose downtime is likely to be "
-  + "shorter. The worst start is told without errors. Whether a start keeps the limit is of its plan alone.";
+/** Which of two starts is the better one. A hypervisor stops the guest only when what is left fits the limit. */
+function betterWords({ clark }) {
+  const likely = clark ? "is likely to keep the limit, with two standard errors of its downtime," : "keeps the limit";
+  return `A start that ${likely} is better than any other. Of two such starts that which sends less is better; of two `
+    + "others that whose downtime is likely to be shorter. The worst start is told without errors. Whether a start "
+    + "keeps the limit is of its plan alone.";
+}
 
 const DOUBTFUL = "The best start has its downtime less than two standard errors below the limit: it may well miss it, "
   + "and so may every other start.";
 
 /** What a question about starts is about, as a word. */
-function keyOf({ settings, limits, scale }, ticks) {
+function keyOf({ settings, limits, scale, question }, ticks) {
   const { start, window, ...more } = settings;
   const amounts = [...Object.values(limits), ...Object.values(scale)].map(String);
-  return JSON.stringify([more, amounts, ticks[0]]);
+  return JSON.stringify([more, amounts, ticks[0], question.clark]);
 }
 
 export class StartsView {
@@ -164,12 +167,12 @@ export class StartsView {
     }
     const lines = [["Best start", best], ["Worst start", worst]].map(([name, at]) =>
       line(name, startWords(this.asked, at, hasTicks)));
-    return [...lines, ...this.doubts(best), html("p", { class: "hint" }, BETTER)];
+    return [...lines, ...this.doubts(best), html("p", { class: "hint" }, betterWords(best.question))];
   }
 
   /** Says of a start that keeps the limit if chance may well make it miss that. */
-  doubts({ cost, errors }) {
-    const isDoubtful = errors && cost.kept === "yes"
+  doubts({ cost, errors, question }) {
+    const isDoubtful = question.clark && errors && cost.kept === "yes"
       && cost.downtime + ERRORS_BELOW * errors.downtime > this.asked.limits.downtime;
     return isDoubtful ? [html("p", { class: "hint" }, DOUBTFUL)] : [];
   }

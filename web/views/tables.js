@@ -1,9 +1,10 @@
-// The tables of rounds and of windows, on the page and as files. Times come first; in a table ticks stand beside them
-// only where they are asked for, and in a file always.
+// The tables of rounds or lists, and of windows, on the page and as files. Times come first; in a table ticks stand
+// beside them only where they are asked for, and in a file always.
 
 import { html } from "./elements.js";
 import { counted, decimalText, timeText } from "../model/numbers.js";
 import { columnTexts, digitsBehind } from "../model/quantities.js";
+import { nounsOf, stepNumber } from "../model/nouns.js";
 import { pagesWords, sumsOf } from "../model/round-words.js";
 import { microsOf, rateIn } from "../model/units.js";
 
@@ -38,50 +39,62 @@ function inSeconds(moments) {
   });
 }
 
-// ---- Rounds.
+// ---- Rounds, or the lists of a hypervisor.
 
-/** The columns of a table of rounds. Rates are in a unit. */
-function roundColumns({ plan: { rounds }, settings, scale, state }, unit) {
+/** The most rows that a table has: more would keep the page busy for long. A file has all. */
+const MOST_ROWS = 100;
+
+/** What is said of a table of the first of some rows. */
+function firstWords(count) {
+  return count > MOST_ROWS ? `, the first ${counted(MOST_ROWS)} of ${counted(count)}` : "";
+}
+
+/** The columns of a table of rounds, or of lists. Rates are in a unit. */
+function roundColumns({ plan, settings, scale, state }, unit) {
+  const rounds = plan.rounds.slice(0, MOST_ROWS);
   const allOf = (name) => rounds.map((round) => round[name]);
   const besides = (name) => (state.ticks ? allOf(name).map(counted) : []);
   const since = (tick) => microsOf(scale, tick - settings.start);
   const rates = allOf("rate").map((rate) => rateIn(scale, rate));
   const inUnit = columnTexts(rates.map(({ bytes, seconds }) => [bytes, seconds * unit.size]));
   return [
-    { name: "round", texts: rounds.map((_, place) => counted(place)) },
+    { name: nounsOf(plan).one, texts: rounds.map((_, place) => counted(stepNumber(plan, place))) },
     { name: "from,\u00a0s", texts: inSeconds(allOf("from").map(since)), besides: besides("from") },
     { name: "to,\u00a0s", texts: inSeconds(allOf("to").map(since)), besides: besides("to") },
     { name: `rate, ${unit.name}`, texts: inUnit, besides: besides("rate") },
     { name: "to send", texts: allOf("pages").map(counted) },
     { name: "sent", texts: allOf("sent").map(counted) },
     { name: "dirtied", texts: allOf("dirtied").map(counted) },
+    ...(plan.isClark ? [] : [{ name: "left", texts: allOf("left").map(counted) }]),
   ];
 }
 
-/** The rounds of a plan as a table. */
+/** The rounds of a plan, or its lists, as a table. */
 export function roundsTable(prediction, unit) {
   const pages = prediction.scale.isSample ? "pages of the sample" : "pages";
   const ticks = prediction.state.ticks ? "; in small print ticks of the trace, and pages per 1,000 of them" : "";
-  return tableOf(`Times since the start, and ${pages}${ticks}`, roundColumns(prediction, unit));
+  const more = firstWords(prediction.plan.rounds.length);
+  return tableOf(`Times since the start, and ${pages}${more}${ticks}`, roundColumns(prediction, unit));
 }
 
-const ROUND_HEADS = ["round", "from_us", "to_us", "rate_bytes_per_second", "pages", "sent_pages", "dirtied_pages",
-  "from_tick", "to_tick", "rate_pages_per_1000_ticks"];
+const ROUND_HEADS = ["from_us", "to_us", "rate_bytes_per_second", "pages", "sent_pages", "dirtied_pages", "from_tick",
+  "to_tick", "rate_pages_per_1000_ticks"];
 
-/** The rounds of a plan as columns and rows of numbers, for a file. Times are since the start, ticks in the trace. */
+/**
+ * The rounds of a plan, or its lists, as columns and rows of numbers, for a file. Times are since the start, ticks in
+ * the trace.
+ */
 export function roundsFile({ plan, settings, scale }) {
   const since = (tick) => microsOf(scale, tick - settings.start);
-  const rows = plan.rounds.map(({ from, to, rate, pages, sent, dirtied }, place) => {
+  const rows = plan.rounds.map(({ from, to, rate, pages, sent, dirtied, left }, place) => {
     const { bytes, seconds } = rateIn(scale, rate);
-    return [place, since(from), since(to), bytes / seconds, pages, sent, dirtied, from, to, rate];
+    return [stepNumber(plan, place), since(from), since(to), bytes / seconds, pages, sent, dirtied, from, to, rate,
+      ...(plan.isClark ? [] : [left])];
   });
-  return [ROUND_HEADS, rows];
+  return [[nounsOf(plan).one, ...ROUND_HEADS, ...(plan.isClark ? [] : ["left_pages"])], rows];
 }
 
 // ---- Windows.
-
-/** The most windows that a table has: more would keep the page busy for long. A file has all. */
-const MOST_ROWS = 100;
 
 const WINDOW_HEADS = ["window", "from_us", "to_us", "writes", "pages", "again_pages", "fresh_pages"];
 
@@ -95,8 +108,8 @@ export function windowsTable(windows, length, scale) {
   const width = microsOf(scale, length);
   const numbers = Array.from(windows.number.subarray(0, MOST_ROWS));
   const allOf = (name) => Array.from(windows[name].subarray(0, MOST_ROWS), counted);
-  const more = windows.count > MOST_ROWS ? `, the first ${counted(MOST_ROWS)} of ${counted(windows.count)}` : "";
   const pages = scale.isSample ? "; pages of the sample" : "";
+  const more = firstWords(windows.count);
   return tableOf(`Windows of ${timeText(width)} with a write${more}${pages}; again: also in the window before, `
     + "new: never before", [
     { name: "window", texts: numbers.map(counted) },
@@ -123,7 +136,7 @@ export function windowsFile(windows, length, scale) {
 
 // ---- The map of pages.
 
-/** The range of pages of the row in which a round dirties most, as text. */
+/** The range of pages of the row in which a step dirties most, as text. */
 function mostDirtied({ dirtied }, rows, round, rowPages) {
   const counts = dirtied.subarray(round * rows, (round + 1) * rows);
   const most = Math.max(...counts);
@@ -132,28 +145,31 @@ function mostDirtied({ dirtied }, rows, round, rowPages) {
   return most === 0 ? "none" : from === to ? counted(from) : `${counted(from)}\u2013${counted(to)}`;
 }
 
-/** What rounds do with pages, as a table. `rowPages` are the first pages of the map's rows, and the end of all. */
+/** What steps do with pages, as a table. `rowPages` are the first pages of the map's rows, and the end of all. */
 export function mapTable({ found, prediction: { plan, scale }, held: { trace: { sizes } } }, rowPages) {
   const rows = rowPages.length - 1;
   const [first, end] = [rowPages[0], rowPages[rows]];
   const pages = end - first === sizes.pages ? "Pages" : `Of ${pagesWords(first, end)} those`;
-  const numbers = [...plan.rounds.keys(), plan.rounds.length];
+  const { one, unsent } = nounsOf(plan);
+  const count = plan.rounds.length;
+  const numbers = [...Array(Math.min(count, MOST_ROWS)).keys(), ...(plan.isStopped ? [count] : [])];
   const sums = numbers.map((round) => sumsOf(found, rows, [round, round + 1], [0, rows]));
   const allOf = (name) => sums.map((some) => counted(some[name]));
-  return tableOf(`${pages}${scale.isSample ? " of the sample" : ""} by round; after the stop the rest is sent`, [
-    { name: "round", texts: numbers.map((round) => (round === plan.rounds.length ? "stop" : counted(round))) },
+  const ends = plan.isStopped ? "; after the stop the rest is sent" : "";
+  return tableOf(`${pages}${scale.isSample ? " of the sample" : ""} by ${one}${firstWords(count)}${ends}`, [
+    { name: one, texts: numbers.map((step) => (step === count ? "stop" : counted(stepNumber(plan, step)))) },
     { name: "sent", texts: allOf("sent") },
     { name: "and dirtied", texts: allOf("again") },
-    { name: "skipped", texts: allOf("skipped") },
+    { name: unsent, texts: allOf("skipped") },
     { name: "dirtied", texts: allOf("dirtied") },
     { name: "densest in pages", texts: numbers.map((round) => mostDirtied(found, rows, round, rowPages)) },
   ]);
 }
 
-const MAP_HEADS = ["round", "first_page", "last_page", "pages", "sent_pages", "sent_and_dirtied_pages", "skipped_pages",
-  "dirtied_pages", "first_turn_us", "last_turn_us"];
+const MAP_HEADS = ["first_page", "last_page", "pages", "sent_pages", "sent_and_dirtied_pages"];
+const TURN_HEADS = ["dirtied_pages", "first_turn_us", "last_turn_us"];
 
-/** The rows of the file of a map: those rows of pages of which a round has one, or dirties one. */
+/** The rows of the file of a map: those rows of pages of which a step has one, or dirties one. */
 function* mapRows({ found, prediction: { plan, settings, scale } }, rowPages) {
   const rows = rowPages.length - 1;
   const since = (tick) => microsOf(scale, tick - settings.start);
@@ -161,14 +177,17 @@ function* mapRows({ found, prediction: { plan, settings, scale } }, rowPages) {
     const [round, row] = [Math.floor(at / rows), at % rows];
     const [pages, sent, again, dirtied] = ["pages", "sent", "again", "dirtied"].map((name) => found[name][at]);
     if (pages + dirtied > 0) {
-      const turns = pages === 0 ? ["", ""] : [since(found.firstTurn[at]), since(found.lastTurn[at])];
-      yield [round === plan.rounds.length ? "stop" : round, rowPages[row], rowPages[row + 1] - 1, pages, sent, again,
-        pages - sent, dirtied, ...turns];
+      const isTurn = found.firstTurn[at] < Infinity;
+      const turns = isTurn ? [since(found.firstTurn[at]), since(found.lastTurn[at])] : ["", ""];
+      const number = round === plan.rounds.length ? "stop" : stepNumber(plan, round);
+      yield [number, rowPages[row], rowPages[row + 1] - 1, pages, sent, again, pages - sent, dirtied, ...turns];
     }
   }
 }
 
-/** What rounds do with the pages of each row of the map, as columns and rows, for a file. Times are since the start. */
+/** What steps do with the pages of each row of the map, as columns and rows, for a file. Times are since the start. */
 export function mapFile(rounds, rowPages) {
-  return [MAP_HEADS, mapRows(rounds, rowPages)];
+  const { plan } = rounds.prediction;
+  const unsent = plan.isClark ? "skipped_pages" : "unsent_pages";
+  return [[nounsOf(plan).one, ...MAP_HEADS, unsent, ...TURN_HEADS], mapRows(rounds, rowPages)];
 }

@@ -1,8 +1,9 @@
-// The picture of the working set: the pages of each window, and where a plan's rounds and its stop lie.
+// The picture of the working set: the pages of each window, and where a plan and its stop lie.
 
 import { area, box, grounded, svg } from "./elements.js";
 import { counted, countOf, momentText, pagesText } from "../model/numbers.js";
 import { AXIS_HEIGHT, axisOf, axisLabels, barOf, frameOf, panelOf, pictureOf } from "./plot.js";
+import { endOf } from "../model/predictions.js";
 import { firstPlace } from "../model/search.js";
 import { microsOf } from "../model/units.js";
 
@@ -115,10 +116,10 @@ function markAt(axis, panel, className, tick) {
     : [area("halo", x - 2, panel.top, 4, panel.height), area(className, x - 1, panel.top, 2, panel.height)];
 }
 
-/** Where the rounds of a plan lie, where the guest stops, and where the copy of a warm start is from. */
+/** Where a plan lies, where the guest stops, and where the copy of a warm start is from. */
 export function planMarks(axis, panel, settings, plan) {
   const marks = [];
-  const end = plan.stop + plan.down;
+  const end = endOf(plan);
   if (settings.start <= axis.last && end >= axis.first) {
     const from = axis.place(settings.start);
     const to = Math.max(axis.place(end), from + 2);
@@ -127,6 +128,9 @@ export function planMarks(axis, panel, settings, plan) {
   }
   if (settings.base !== null) {
     marks.push(...markAt(axis, panel, "base", settings.base));
+  }
+  if (!plan.isStopped) {
+    return marks;
   }
   marks.push(...markAt(axis, panel, "stop", plan.stop));
   if (plan.stop > axis.last) {

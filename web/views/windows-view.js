@@ -4,6 +4,7 @@ import { byId, keepFocus, svg } from "./elements.js";
 import { saveButtons } from "./exports.js";
 import { Inspector } from "./inspector.js";
 import { momentText } from "../model/numbers.js";
+import { endOf } from "../model/predictions.js";
 import { nextTask } from "../engine/slices.js";
 import { widthOf } from "./plot.js";
 import { windowsFile, windowsTable } from "./tables.js";
@@ -108,7 +109,7 @@ export class WindowsView {
   /** Shows the migration, with half of its length on both sides. */
   zoomToPlan() {
     const { settings, plan } = this.prediction;
-    const end = plan.stop + plan.down;
+    const end = endOf(plan);
     const room = Math.max(1, (end - settings.start) / 2);
     this.times.zoom({ first: settings.start - room, last: end + room });
   }

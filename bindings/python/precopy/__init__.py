@@ -52,6 +52,7 @@ from ._predictions import (
     link_shares,
     predict,
 )
+from ._recordings import Recording
 from ._refusals import (
     BufferRefused,
     Bytes,
@@ -73,11 +74,12 @@ from ._streams import Finding, StreamCheck, check_streams, writes_before
 __all__ = [
     "Agreement", "Amounts", "BestStart", "BufferRefused", "Errors", "Finding", "FlatMemory", "Forecast", "ForecastEnd",
     "Frame", "FrameRefused", "LinkShares", "NoMemory", "OpenCheck", "OpenTrace", "Overlap", "PlaceRefused",
-    "Prediction", "Question", "QuestionRefused", "Reason", "Refused", "Round", "Settings", "SettingsRefused", "Sizes",
-    "Status", "StreamCheck", "Sums", "Taken", "TraceRefused", "Verdict", "Write", "agreement", "best_start",
-    "check_settings", "check_streams", "check_trace", "decode_frame", "encode_frame", "enough", "forecast", "is_zero",
-    "link_shares", "memory", "memory_before", "memory_step", "page_at", "page_writes", "plan", "predict", "report",
-    "rounds", "sweep", "version", "version_after", "versions_after", "versions_before", "writes_before",
+    "Prediction", "Question", "QuestionRefused", "Reason", "Recording", "Refused", "Round", "Settings",
+    "SettingsRefused", "Sizes", "Status", "StreamCheck", "Sums", "Taken", "TraceRefused", "Verdict", "Write",
+    "agreement", "best_start", "check_settings", "check_streams", "check_trace", "decode_frame", "encode_frame",
+    "enough", "forecast", "is_zero", "link_shares", "memory", "memory_before", "memory_step", "page_at", "page_writes",
+    "plan", "predict", "report", "rounds", "sweep", "version", "version_after", "versions_after", "versions_before",
+    "writes_before",
 ]  # fmt: skip
 
 

@@ -189,6 +189,10 @@ class Trace(Structure):
     ]
 
 
+class Recording(Structure):
+    _fields_ = [*_of(c_size_t, "length"), *_of(c_uint64, "last_tick"), *_of(c_uint32, "writes", "pages", "shift")]
+
+
 # The arguments of each function.
 CALLS = {
     "refusal_text": [c_uint32, c_uint32, c_void_p, c_size_t, POINTER(c_size_t)],
@@ -313,5 +317,8 @@ CALLS = {
     ],
     "end_stream": [POINTER(Progress), c_size_t, POINTER(Finding)],
     "trace_check_pages": [POINTER(Trace), POINTER(Progress), POINTER(c_uint32), c_size_t, POINTER(Finding)],
+    "record_begin": [c_void_p, c_size_t, c_uint32, c_uint32, POINTER(Recording)],
+    "record_write": [c_void_p, c_size_t, POINTER(Recording), c_uint64, c_uint32, c_uint32, c_void_p, c_size_t],
+    "record_release": [c_void_p, c_size_t, POINTER(Recording), c_uint64, c_uint32],
     "is_zero": [c_void_p, c_size_t],
 }

@@ -193,6 +193,16 @@ pub struct Progress {
     pub stop: u32,
 }
 
+#[repr(C)]
+#[derive(Clone, Copy, Default)]
+pub struct Recording {
+    pub length: usize,
+    pub last_tick: u64,
+    pub writes: u32,
+    pub pages: u32,
+    pub shift: u32,
+}
+
 extern "C" {
     pub fn precopy_strerror(status: u32) -> *const c_char;
     pub fn precopy_version() -> *const c_char;
@@ -483,6 +493,30 @@ extern "C" {
         greatest: *const u32,
         greatest_length: usize,
         found: *mut Finding,
+    ) -> u32;
+    pub fn precopy_record_begin(
+        trace: *mut u8,
+        trace_length: usize,
+        shift: u32,
+        pages: u32,
+        recording: *mut Recording,
+    ) -> u32;
+    pub fn precopy_record_write(
+        trace: *mut u8,
+        trace_length: usize,
+        recording: *mut Recording,
+        tick: u64,
+        page: u32,
+        offset: u32,
+        bytes: *const u8,
+        bytes_length: usize,
+    ) -> u32;
+    pub fn precopy_record_release(
+        trace: *mut u8,
+        trace_length: usize,
+        recording: *mut Recording,
+        tick: u64,
+        page: u32,
     ) -> u32;
     pub fn precopy_is_zero(bytes: *const u8, bytes_length: usize) -> bool;
 }

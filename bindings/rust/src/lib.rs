@@ -7,6 +7,7 @@ mod open_check;
 mod open_trace;
 mod places;
 mod predictions;
+mod recordings;
 mod refusals;
 mod room;
 mod status;
@@ -25,6 +26,7 @@ pub use predictions::{
     agreement, best_start, enough, forecast, link_shares, predict, Agreement, Amounts, BestStart, Errors, Forecast,
     ForecastEnd, LinkShares, Prediction, Question, Starts, Verdict,
 };
+pub use recordings::Recording;
 pub use refusals::Refused;
 pub use status::Status;
 pub use streams::{check_streams, writes_before, Finding, FramePlace, StreamCheck};

@@ -13,9 +13,9 @@ function written(question) {
   return [...wide, ...Array.from({ length: 5 }, (_, place) => view.getUint32(96 + 4 * place, true))];
 }
 
-test("a question is written as the library lays it out, and goes by Clark's rounds", () => {
-  const cold = { ...ASKED, first: null, increment: null, base: null, skip: false };
-  assert.deepEqual(written(cold), [1, 0, 2, 3, 4, 16, 5, 6, 0, 7, 8, 0, 0, 0, 0, 0, 1]);
-  const warm = { ...ASKED, first: 9n, increment: 10, base: 11, skip: true };
+test("a question is written as the library lays it out", () => {
+  const cold = { ...ASKED, first: null, increment: null, base: null, skip: false, clark: false };
+  assert.deepEqual(written(cold), [1, 0, 2, 3, 4, 16, 5, 6, 0, 7, 8, 0, 0, 0, 0, 0, 0]);
+  const warm = { ...ASKED, first: 9n, increment: 10, base: 11, skip: true, clark: true };
   assert.deepEqual(written(warm), [1, 9, 2, 3, 4, 16, 5, 6, 10, 7, 8, 11, 1, 1, 1, 1, 1]);
 });

@@ -62,7 +62,8 @@ function columnsOf(touches) {
 
 /** What is asked of a plan whose numbers of rounds are known: all that the page's worker is told. */
 function askedOf({ start, base, skip, max }, { rounds, stop, down }) {
-  return { start, base, skip, max, stop, down, rounds: rounds.map(({ from, to, rate }) => ({ from, to, rate })) };
+  const numbers = rounds.map(({ from, to, rate }) => ({ from, to, rate }));
+  return { isClark: true, start, base, skip, max, stop, down, rounds: numbers };
 }
 
 test("the pages of rounds are those of the definition", () => {
@@ -148,7 +149,8 @@ test("rows and cells of the map are the sums of pages", () => {
 });
 
 test("rounds in a stretch of time are named", () => {
-  const plan = { rounds: [{ from: 10, to: 20 }, { from: 20, to: 24 }, { from: 24, to: 24 }], stop: 24, down: 2 };
+  const rounds = [{ from: 10, to: 20 }, { from: 20, to: 24 }, { from: 24, to: 24 }];
+  const plan = { isClark: true, isStopped: true, rounds, stop: 24, down: 2 };
   const named = [[0, 10], [0, 11], [19, 20], [19, 21], [20, 24], [20, 25], [24, 25], [25, 26], [26, 30]];
   assert.deepEqual(named.map(([from, to]) => {
     const range = roundsIn(plan, from, to);

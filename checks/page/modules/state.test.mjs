@@ -9,6 +9,20 @@ test("an address has the whole state", () => {
   assert.equal(state.kept.length, 2);
 });
 
+test("an address that says what only rounds have goes by them, unless it says otherwise", () => {
+  const isClark = (fragment) => stateIn(fragment).settings.clark;
+  for (const words of ["first=50", "increase=10", "rounds=30", "skip=0", "trace=gzip&rounds=2"]) {
+    assert.equal(isClark(`#${words}`), true, words);
+    assert.equal(isClark(`#${words}&clark=0`), false, words);
+  }
+  assert.equal(isClark("#clark=1"), true);
+  for (const words of ["", "link=64MiB&downtime=300ms&start=1000&base=500", "trace=gzip", "clark=2", "rounds=x"]) {
+    assert.equal(isClark(`#${words}`), false, words);
+  }
+  const { settings, kept } = stateIn("#clark=1&kept=rounds%3D3&kept=link%3D1Gbit");
+  assert.deepEqual([settings, ...kept].map(({ clark }) => clark), [true, true, false]);
+});
+
 test("words that mean nothing are passed over", () => {
   const plain = stateIn("");
   const prototypes = Object.getOwnPropertyNames(Object.prototype);

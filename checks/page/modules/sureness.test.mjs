@@ -2,6 +2,7 @@ import assert from "node:assert/strict";
 import { test } from "node:test";
 import { LateAnswers } from "../../../web/engine/late-answers.js";
 import { AGREEMENT } from "../../../web/model/interface.js";
+import { warningsOf } from "../../../web/model/predictions.js";
 import { readAgreement } from "../../../web/model/questions.js";
 import { answerWords, isAwaited, sureLine, verdictsOf } from "../../../web/model/sureness.js";
 import { comparisonRows, verdictMark, verdictOf } from "../../../web/views/outcome.js";
@@ -13,8 +14,10 @@ const COUNTS = {
 
 /** A prediction whose plan has these verdicts, and how sure they are. */
 function predicted(converges, kept, agreement, more = {}) {
+  const reason = converges === "yes" ? "few" : "fast";
   return {
-    agreement, plan: { reason: converges === "yes" ? "few" : "fast", total: 5, stop: 0, left: 0, rounds: [] }, last: 9,
+    agreement, last: 9,
+    plan: { isClark: true, isStopped: true, reason, steps: 3, total: 5, stop: 0, left: 0, rounds: [] },
     cost: { converges, kept, downtime: 20_000n, time: 20_000n, bytes: 4_096n, recorded: 9_000n },
     limits: { downtime: kept === "yes" ? 30_000n : 10_000n }, settings: { start: 0, threshold: 17, rounds: 30 },
     scale: { isSample: true, tick: 1_000n }, question: { link: 1n }, errors: null, ...more,
@@ -47,7 +50,7 @@ test("until it is known how sure a verdict is, it is of the plan, and neither go
     assert.equal(sureLine(none), "By the plan alone");
     assert.match(words(late), / by the plan alone: .*kept, by the plan alone\.$/);
     assert.equal(answerWords(late, "kept"), `kept: ${kept}\u00a0\u2026`);
-    assert.deepEqual(comparisonRows(late, [])[1][0].slice(-8), Array(8).fill(""));
+    assert.deepEqual(comparisonRows(late, [])[1][0].slice(-9), [...Array(8).fill(""), "rounds"]);
   }
 });
 
@@ -61,7 +64,8 @@ test("a verdict that is not sure is uncertain, with the counts of `precopy-view 
   assert.equal(words(found), "It is uncertain whether it converges (it does in 12 of 20 redraws and from 3 of 9 "
     + "starts): by the plan the guest writes faster than the link sends. By the plan the guest stands still for 20 ms; "
     + "it is uncertain whether the limit of 10 ms is kept (it is in 12 of 20 redraws and from 3 of 9 starts).");
-  assert.deepEqual(comparisonRows(found, [])[1][0].slice(-8), ["uncertain", "uncertain", 20, 12, 12, 9, 3, 3]);
+  assert.deepEqual(comparisonRows(found, [])[1][0].slice(-9),
+    ["uncertain", "uncertain", 20, 12, 12, 9, 3, 3, "rounds"]);
   const whole = predicted("no", "no", { ...agreement, draws: 0 });
   assert.equal(answerWords(whole, "converges"), "converges: uncertain, from 3 of 9 starts");
 });
@@ -88,6 +92,30 @@ test("where two standard errors of the downtime pass the limit, that is told", (
   assert.equal(sureLine(found), "Kept: 20/20 redraws, 9/9 starts, but not with 2 standard errors");
   const within = predicted("yes", "yes", agreement, { errors: { bytes: 0n, time: 0n, downtime: 5_000n } });
   assert.doesNotMatch(words(within) + sureLine(within), /standard errors/);
+  const looks = { ...found, plan: { ...found.plan, isClark: false } };
+  assert.doesNotMatch(words(looks) + sureLine(looks), /standard errors/);
+});
+
+/** A plan of looks that ends so. */
+function looked(reason) {
+  return { isClark: false, isStopped: reason === "few", reason, steps: 2_000, total: 5, stop: 7, left: 5, rounds: [] };
+}
+
+test("a hypervisor that does not stop the guest is told as such", () => {
+  const none = { ...COUNTS, draws: 0, startsConverging: 0, startsKept: 0, converges: "no", kept: "no" };
+  for (const [reason, why] of [["looks", "2,000 looks are done"],
+    ["level", "the trace ends first, and the lists did not get shorter"]]) {
+    const found = predicted("no", "no", none, { plan: looked(reason) });
+    assert.equal(words(found), `It does not converge (it does from 0 of 9 starts): ${why}. The guest is not stopped, `
+      + "and what is left would take 20 ms; the limit of 10 ms is not kept (it is from 0 of 9 starts).");
+    assert.ok(warningsOf(found).includes("The guest is not stopped, so nothing bounds the downtime: give more of the "
+      + "link."));
+    const [columns, [row]] = comparisonRows(found, []);
+    const cell = (name) => row[columns.indexOf(name)];
+    assert.deepEqual(["rounds", "stop_us", "reason", "plan_by"].map(cell), [2_000, "", reason, "looks"]);
+  }
+  const few = predicted("yes", "yes", { ...none, converges: "yes", kept: "yes" }, { plan: looked("few") });
+  assert.match(words(few), /: fewer than 17 pages of the sample were left\. The guest stands still for 20 ms; /);
 });
 
 test("of a guest that stood still, and of a plan that ends after its trace, it is not asked how sure they are", () => {
@@ -116,6 +144,25 @@ test("how sure a plan is comes after its errors and before what is enough, and o
   const { kinds } = asking(predicted("yes", "yes"), [predicted("yes", "yes"), kept]);
   assert.deepEqual(kinds(), ["forecast", "errors", "agreement", "remedies", "errors", "agreement"]);
   assert.deepEqual(asking(predicted("unknown", "unknown")).kinds(), ["forecast", "remedies"]);
+});
+
+test("beside a plan of looks it is told only if the trace ends first what comes of it like QEMU", () => {
+  const forecast = { end: "few", kept: "no", converges: "no" };
+  const told = (plan, found) => {
+    const prediction = predicted("no", "no", undefined, { plan });
+    const { tell, kinds } = asking(prediction);
+    const isAsked = kinds().includes("forecast");
+    if (isAsked) {
+      tell("forecast", found);
+    }
+    return [isAsked, isAsked ? prediction.forecast : null];
+  };
+  assert.deepEqual(told(looked("few"), forecast), [false, null]);
+  assert.deepEqual(told(looked("looks"), forecast), [true, null]);
+  const cut = { ...forecast, end: "record" };
+  assert.deepEqual(told(looked("looks"), cut), [true, cut]);
+  assert.deepEqual(told(looked("level"), cut), [true, cut]);
+  assert.deepEqual(told({ ...looked("few"), isClark: true }, forecast), [true, forecast]);
 });
 
 test("where a plan keeps the limit and that is not sure, nothing is offered as enough, nor asked for", () => {

@@ -36,7 +36,8 @@ test("an uncertain verdict says neither that the limit is kept nor that it is mi
 test("over a guest that stood still nothing is offered as enough, nor asked for", () => {
   const late = new LateAnswers(() => {});
   late.askAll = () => {};
-  const prediction = { question: { link: 1n }, scale: { isSample: false }, cost: { kept: "yes" } };
+  const plan = { isClark: false, reason: "few" };
+  const prediction = { plan, question: { link: 1n }, scale: { isSample: false }, cost: { kept: "yes" } };
   for (const trace of [ran, still]) {
     late.follow(trace, prediction, { plans: [], starts: [] }, () => []);
     const isSure = trace === ran;

@@ -9,16 +9,18 @@ use Rattle.browser_planner.specs.Starts.{AreChosen, IsChoice, is_better_lent, is
 use Rattle.browser_planner.specs.declared.starts.LentChoice.{LentChoice}
 use Rattle.browser_planner.specs.declared.starts.LentStart.{LentStart}
 
-pub better_lents : (limit : ℕ) → IsStrictWeakOrder (is_better_lent limit)
-better_lents limit = record {
-  one_way = λ a b is. (better_known_order limit).one_way (start_in a) (start_in b) is;
-  chain = λ a b c x y. (better_known_order limit).chain (start_in a) (start_in b) (start_in c) x y;
+pub better_lents : (limit clark : ℕ) → IsStrictWeakOrder (is_better_lent limit clark)
+better_lents limit clark = record {
+  one_way = λ a b is. (better_known_order limit).one_way (start_in clark a) (start_in clark b) is;
+  chain = λ a b c x y. (better_known_order limit).chain (start_in clark a) (start_in clark b)
+      (start_in clark c) x y;
 }
 
-pub worse_lents : (limit : ℕ) → IsStrictWeakOrder (is_worse_lent limit)
-worse_lents limit = record {
-  one_way = λ a b is. (worse_known_order limit).one_way (start_in a) (start_in b) is;
-  chain = λ a b c x y. (worse_known_order limit).chain (start_in a) (start_in b) (start_in c) x y;
+pub worse_lents : (limit clark : ℕ) → IsStrictWeakOrder (is_worse_lent limit clark)
+worse_lents limit clark = record {
+  one_way = λ a b is. (worse_known_order limit).one_way (start_in clark a) (start_in clark b) is;
+  chain = λ a b c x y. (worse_known_order limit).chain (start_in clark a) (start_in clark b)
+      (start_in clark c) x y;
 }
 
 no_start : LentStart
@@ -62,21 +64,21 @@ module _ {test : LentStart → LentStart → Bool} (order : IsStrictWeakOrder te
 
 -- ---- the choice
 
-pub is_choice : (limit : ℕ) (starts : List LentStart) (old new : LentChoice) → AreChosen limit starts new
-    → IsChoice limit starts old new
-is_choice limit [] old new is = absurd (omega (arith, is.best.0))
-is_choice limit (start ∷ starts) old new is = is
+pub is_choice : (limit clark : ℕ) (starts : List LentStart) (old new : LentChoice) → AreChosen limit clark starts new
+    → IsChoice limit clark starts old new
+is_choice limit clark [] old new is = absurd (omega (arith, is.best.0))
+is_choice limit clark (start ∷ starts) old new is = is
 
-pub no_choice : (limit : ℕ) (starts : List LentStart) (old : LentChoice) → length starts ≡ 0
-    → IsChoice limit starts old old
-no_choice limit [] old none = refl
-no_choice limit (start ∷ starts) old none = absurd (omega (arith, none))
+pub no_choice : (limit clark : ℕ) (starts : List LentStart) (old : LentChoice) → length starts ≡ 0
+    → IsChoice limit clark starts old old
+no_choice limit clark [] old none = refl
+no_choice limit clark (start ∷ starts) old none = absurd (omega (arith, none))
 
-pub one_choice_lem : (limit : ℕ) (starts : List LentStart) (old a b : LentChoice) → IsChoice limit starts old a
-    → IsChoice limit starts old b → a ≡ b
-one_choice_lem limit [] old a b x y = x ∙ sym y
-one_choice_lem limit (start ∷ starts) old a b x y =
+pub one_choice_lem : (limit clark : ℕ) (starts : List LentStart) (old a b : LentChoice)
+    → IsChoice limit clark starts old a → IsChoice limit clark starts old b → a ≡ b
+one_choice_lem limit clark [] old a b x y = x ∙ sym y
+one_choice_lem limit clark (start ∷ starts) old a b x y =
     let all : List LentStart = start ∷ starts in
-    let best = IsFirstBest-unique (better_lents limit) all (length all) a.best b.best start x.best y.best in
-    let worst = IsFirstBest-unique (worse_lents limit) all (length all) a.worst b.worst start x.worst y.worst in
+    let best = IsFirstBest-unique (better_lents limit clark) all (length all) a.best b.best start x.best y.best in
+    let worst = IsFirstBest-unique (worse_lents limit clark) all (length all) a.worst b.worst start x.worst y.worst in
     λ i. record { best = best i; worst = worst i }

@@ -9,16 +9,7 @@ use Rattle.migration_model.specs.Rounds.{AreRounds, InEither, IsEnd, IsPlan, IsR
 use Rattle.migration_model.specs.Rounds.{PlannedRound, first_round, round_after}
 use Rattle.migration_model.specs.Touches.{GuestTouch}
 use Rattle.migration_model.specs.Trace.{last_by}
-use Rattle.migration_model.specs.Sweeps.{PlanOutcome}
-use Rattle.migration_model.specs.Touches.{touches_of}
-use Rattle.migration_model.specs.Trace.{GuestTrace, last_tick}
-use Rattle.predictions.specs.Courses.Ends.{course_of_rounds}
-use Rattle.predictions.specs.Predictions.{prediction_with}
-use Rattle.predictions.specs.Questions.{answer_of}
-use Rattle.predictions.specs.declared.answer.Answer.{Answer}
-use Rattle.predictions.specs.declared.question.Terms.{Terms}
-use Rattle.browser_planner.specs.Predictions.{IsAnswerTo}
-use Rattle.round_planner.specs.Rows.{IsPlanned, row_of, rows_over}
+use Rattle.round_planner.specs.Rows.{row_of, rows_over}
 use Rattle.round_planner.specs.declared.parts.RoundRow.{RoundRow}
 
 -- what the last of some rounds dirtied, or this many pages if there is none
@@ -65,22 +56,3 @@ pub rows_low : (rounds : List PlannedRound) (old new : List RoundRow) (count : �
 rows_low rounds old new count rows counted =
     let all = ap length rows ∙ length-append (map row_of rounds) (drop (length rounds) old) in
     omega (arith, all, counted, length-map rounds row_of)
-
--- an answer that is made of the result of a plan, and of what its last row says
-pub answer_is : (trace : GuestTrace) (terms : Terms) (outcome : PlanOutcome) (left : ℕ) (answer : Answer)
-    (old new : List RoundRow) → IsPlanned trace.pages (touches_of trace) terms.settings outcome old new
-    → left ≡ last_by (λ (row : RoundRow). row.dirtied) (take outcome.rounds new)
-    → answer ≡ answer_of (course_of_rounds outcome) (prediction_with terms.scale terms.limits terms.settings.start
-    outcome left (last_tick trace.writes))
-    → IsAnswerTo terms answer old new trace
-answer_is trace terms outcome left answer old new planned left_by is =
-    let leaves : left ≡ length planned.plan.last = left_by
-    ∙ left_is trace.pages (touches_of trace) terms.settings planned.plan old new outcome.rounds planned.is_plan
-    planned.rows_are (ap (λ (o : PlanOutcome). o.rounds) planned.outcome_is) in
-    record {
-      plan = planned.plan;
-      is_plan = planned.is_plan;
-      answer_is = is ∙ (λ i. answer_of (course_of_rounds (planned.outcome_is i)) (prediction_with terms.scale
-          terms.limits terms.settings.start (planned.outcome_is i) (leaves i) (last_tick trace.writes)));
-      rows_are = planned.rows_are;
-    }

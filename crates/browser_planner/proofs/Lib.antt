@@ -3,3 +3,4 @@ pub mod Left
 pub mod Choices
 pub mod OneRefusal
 pub mod Agreeing
+pub mod Foretold

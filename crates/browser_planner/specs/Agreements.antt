@@ -4,13 +4,12 @@ use Rattle.c_layout.specs.Agreements.{IsAgreementOver}
 use Rattle.migration_model.specs.Touches.{touches_in}
 use Rattle.migration_model.specs.Trace.{GuestTrace}
 use Rattle.predictions.specs.declared.agreement.numbers.AgreementNumbers.{AgreementNumbers}
-use Rattle.predictions.specs.declared.course.Manner.TheVariants as manners
 use Rattle.predictions.specs.declared.question.Terms.{Terms}
 use Rattle.browser_planner.specs.declared.plans.PlanRoom.{PlanRoom}
 
--- these numbers say how sure the answer to a question is over a trace, by Clark's plans
+-- these numbers say how sure the answer to a question is over a trace
 abbrev pub IsAgreementFor : Terms → AgreementNumbers → GuestTrace → Type 0
-IsAgreementFor terms numbers trace = IsAgreementOver manners.Rounds terms (touches_in trace) numbers
+IsAgreementFor terms numbers trace = IsAgreementOver terms.manner terms (touches_in trace) numbers
 
 -- this is enough for the plans of draws from a sample of 65,536 pages, and so of any, and for plans of 64 rounds
 pub record HasRoomToAgree (room : PlanRoom) (trace : GuestTrace) : Type 0 where

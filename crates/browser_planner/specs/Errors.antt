@@ -5,7 +5,6 @@ use Rattle.migration_model.specs.Trace.{GuestTrace}
 use Rattle.page_bitmap.specs.Listing.{word_count}
 use Rattle.predictions.specs.Questions.{error_numbers}
 use Rattle.predictions.specs.declared.answer.ErrorNumbers.{ErrorNumbers}
-use Rattle.predictions.specs.declared.course.Manner.TheVariants as manners
 use Rattle.predictions.specs.declared.question.Terms.{Terms}
 use Rattle.predictions.specs.Redrawn.Errors.{AreErrors, HasErrors, SampleErrors}
 use Rattle.browser_planner.specs.declared.errors.ErrorRoom.{ErrorRoom}
@@ -13,7 +12,7 @@ use Rattle.browser_planner.specs.declared.errors.ErrorRoom.{ErrorRoom}
 -- these are the standard errors of what the plan of a trace predicts, if there are any
 pub record AreNumbersOf (terms : Terms) (numbers : ErrorNumbers) (trace : GuestTrace) : Type 0 where
   pub errors : Option SampleErrors
-  pub are_errors : AreErrors manners.Rounds trace.pages (touches_of trace) terms.settings terms.scale errors
+  pub are_errors : AreErrors terms.manner trace.pages (touches_of trace) terms.settings terms.scale errors
   pub numbers_are : numbers ≡ error_numbers errors
 
 -- how long what a caller lends for standard errors is: room for touches, room for a sample, and bits

@@ -1,9 +1,7 @@
 -- What a caller sees of what keeps a limit, and what it lends for the search.
 use Rattle.std.specs.Prelude.{◌≡◌, ◌≤◌, length}
 use Rattle.predictions.specs.Remedies.Questions.{remedy_numbers, trial_in}
-use Rattle.predictions.specs.Remedies.Trials.{MigrationTrial}
 use Rattle.predictions.specs.Remedies.{AreRemedies}
-use Rattle.predictions.specs.declared.course.Manner.TheVariants as manners
 use Rattle.predictions.specs.declared.remedies.finding.Remedies.{Remedies}
 use Rattle.predictions.specs.declared.remedies.numbers.RemedyNumbers.{RemedyNumbers}
 use Rattle.migration_model.specs.Touches.{touches_of}
@@ -12,14 +10,10 @@ use Rattle.page_bitmap.specs.Listing.{word_count}
 use Rattle.predictions.specs.declared.question.Question.{Question}
 use Rattle.browser_planner.specs.declared.plans.PlanRoom.{PlanRoom}
 
--- the migration that a question asks for, by Clark's plan
-abbrev pub trial_of : Question → MigrationTrial
-trial_of q = record (trial_in q) { manner = manners.Rounds }
-
 -- these numbers say whether a question's limit is kept over a trace, and what keeps it
 pub record AreNumbersFor (q : Question) (numbers : RemedyNumbers) (trace : GuestTrace) : Type 0 where
   pub found : Remedies
-  pub are_remedies : AreRemedies trace.pages (touches_of trace) (trial_of q) found
+  pub are_remedies : AreRemedies trace.pages (touches_of trace) (trial_in q) found
   pub numbers_are : numbers ≡ remedy_numbers found
 
 -- this is enough for the plans of a search over a trace, each of which has at most 64 rounds

@@ -85,6 +85,24 @@ fn answers_that_are_sure_or_not(rt: HostRuntime) {
 }
 
 #[test]
+fn answers_by_looks_that_are_sure_or_not(rt: HostRuntime) {
+    const SLOTS: usize = 131_072;
+    let alloc = rt.alloc();
+    let looks = Question { clark: 0, ..ASKED };
+    let sure = agreement(&rt, alloc, &looks, SLOTS);
+    assert!(rt; sure == (0, [20, 20, 20, 20, 20, 20, 20], [0, 0]));
+    let sure = agreement(&rt, alloc, &Question { link: 128, ..looks }, SLOTS);
+    assert!(rt; sure == (0, [20, 4, 4, 4, 0, 0, 0], [2, 2]));
+    let tight = Question {
+        link: 256,
+        downtime: 40_000,
+        ..looks
+    };
+    let sure = agreement(&rt, alloc, &tight, SLOTS);
+    assert!(rt; sure == (0, [20, 17, 17, 17, 13, 13, 13], [3, 3]));
+}
+
+#[test]
 fn refusals_leave_the_agreement(rt: HostRuntime) {
     const SLOTS: usize = 131_072;
     let alloc = rt.alloc();

@@ -5,31 +5,28 @@
 // `Spells` holds of one value alone: `one_trace`.
 
 ghost use Rattle.std.specs.Prelude.{◌≡◌, ◌≢◌, ◌≤◌, ◌↔◌, IfErr, IfOk, IsOk, IsTrue, OnErr, length};
-ghost use Rattle.migration_model.specs.Touches.{last_tick_of};
 ghost use Rattle.migration_model.specs.Trace.{GuestTrace, Spells};
 ghost use Rattle.predictions.specs.Agreements.{AreDrawCounts, AreStartCounts};
-ghost use Rattle.predictions.specs.Predictions.Traces.{IsPrediction};
-ghost use Rattle.predictions.specs.Predictions.{prediction_with};
+ghost use Rattle.predictions.specs.Courses.{IsCourseOver};
 ghost use Rattle.predictions.specs.Questions.{AcceptsQuestion, Fits, scale_in, terms_of};
 ghost use Rattle.predictions.specs.Redrawn.Errors.{AreErrors};
-ghost use Rattle.predictions.specs.declared.course.Manner.TheVariants as manners;
 ghost use Rattle.browser_planner.specs.Agreements.{HasRoomToAgree, IsAgreementFor};
 ghost use Rattle.browser_planner.specs.Answers.{IsNumberOf};
 ghost use Rattle.browser_planner.specs.Plans.{room_of};
-ghost use Rattle.browser_planner.specs.Predictions.{OfTrace, RefusesAsked};
+ghost use Rattle.browser_planner.specs.Predictions.{IsForetold, OfTrace, RefusesAsked};
 
-use crate::answering::last_dirtied;
 use crate::answers::Refusal;
+use crate::foretelling::{Foretold, foretold_over};
 use crate::plans::PlanRoom;
 use crate::touches::{LentLog, LentTouch, put_touches};
-use guest_log::{Shape, Timeline, last_tick};
+use guest_log::{Shape, Timeline};
 use page_bitmap::word_count;
 use predictions::agreement::{
-    Agreement, AgreementNumbers, AnswerCounts, draw_counts, start_counts,
+    Agreement, AgreementNumbers, AnswerCounts, asked_of_draws, draw_counts, start_counts,
 };
 use predictions::redrawn::{Errors, has_errors, sample_errors};
-use predictions::{Manner, Measure, Prediction, Question, Terms, check_fit};
-use round_planner::{Outcome, RoundRow, plan_rows};
+use predictions::{Course, Measure, Question, Terms, check_fit};
+use round_planner::RoundRow;
 use trace_codec::TraceView;
 
 /// How many words of marks and slots of a list are enough for the plans of draws from 65,536 pages, and how many slots
@@ -61,28 +58,32 @@ fn errors_over(
 ) -> Option<Errors>
     requires marks { 3_072 ≤ length marks.old }
     requires list { 131_072 ≤ length list.old }
-    ensures { AreErrors manners.Rounds log.now.pages log.now.touches terms.now.settings terms.now.scale result }
+    ensures { AreErrors terms.now.manner log.now.pages log.now.touches terms.now.settings terms.now.scale result }
 {
     let _pages = log.page_count();
     if !has_errors(&terms.scale) {
         return None;
     }
     let Terms {
-        settings,
         scale,
+        manner,
+        settings,
         ..
     } = terms;
-    Some(sample_errors(log, settings, scale, Manner::Rounds, list, marks))
+    Some(sample_errors(log, settings, scale, *manner, list, marks))
 }
 
-/// Returns the answers of the plans of a sample's draws, if pages were sampled.
+/// Returns the answers of the plans of a sample's draws, if pages were sampled, by what the plan of the sample comes to.
 fn draws_over(
     log: &LentLog<'_>,
     terms: &Terms,
     measure: &Measure,
+    course: &Course,
     marks: &mut [u64],
     list: &mut [u32],
 ) -> Option<AnswerCounts>
+    requires course { IsCourseOver measure.now.manner log.now.pages log.now.touches measure.now.scale
+        terms.now.settings course.now }
     requires marks { 3_072 ≤ length marks.old }
     requires list { 131_072 ≤ length list.old }
     ensures { AreDrawCounts measure.now.manner log.now.pages log.now.touches terms.now.settings measure.now.scale
@@ -92,7 +93,8 @@ fn draws_over(
     if !has_errors(&measure.scale) {
         return None;
     }
-    Some(draw_counts(log, &terms.settings, measure, list, marks))
+    let asked = asked_of_draws(course, &terms.settings);
+    Some(draw_counts(log, &asked, measure, list, marks))
 }
 
 /// Returns the answers of the plans from the starts that a log allows.
@@ -116,42 +118,22 @@ fn starts_over(
     start_counts(log, &terms.settings, measure, marks, list, rounds)
 }
 
-/// Returns what a plan of a log with this result predicts that leaves so many pages.
-fn prediction_of(log: &LentLog<'_>, terms: &Terms, outcome: &Outcome, left: u64) -> Prediction
-    ensures { result ≡ prediction_with terms.now.scale terms.now.limits terms.now.settings.start outcome.now left
-        (last_tick_of log.now.touches) }
-{
-    let Terms {
-        scale,
-        limits,
-        settings,
-        ..
-    } = terms;
-    let start = settings.asked().start;
-    Prediction::of_outcome(scale, limits, start, outcome, left, last_tick(log))
-}
-
-/// Returns what the plan of a log predicts.
-fn prediction_over(
+/// Returns what the plan of a log comes to and predicts.
+fn plan_over(
     log: &LentLog<'_>,
     terms: &Terms,
     marks: &mut [u64],
     list: &mut [u32],
     rounds: &mut [RoundRow],
-) -> Prediction
+) -> Foretold
     requires marks { 3_072 ≤ length marks.old }
     requires list { 131_072 ≤ length list.old }
     requires rounds { 64 ≤ length rounds.old }
-    ensures { IsPrediction manners.Rounds log.now.pages log.now.touches terms.now.scale terms.now.limits
-        terms.now.settings result }
+    ensures { IsForetold terms.now.manner terms.now log.now.pages log.now.touches result }
 {
-    let pages = log.page_count() as usize;
+    let _pages = log.page_count();
     let _in_range = terms.settings.asked();
-    let (marks, _) = marks.split_at_mut(word_count(pages));
-    let (list, _) = list.split_at_mut(pages);
-    let outcome = plan_rows(log, &terms.settings, marks, list, rounds);
-    let left = last_dirtied(rounds, &outcome);
-    prediction_of(log, terms, &outcome, left)
+    foretold_over(log, terms, marks, list, rounds)
 }
 
 /// Returns how sure the answer to a question about a trace is.
@@ -172,12 +154,12 @@ fn agreement_in(
     let measure = Measure {
         scale: terms.scale,
         limits: terms.limits,
-        manner: Manner::Rounds,
+        manner: terms.manner,
     };
-    let prediction = prediction_over(&log, terms, marks, list, rounds);
+    let Foretold { course, prediction } = plan_over(&log, terms, marks, list, rounds);
     let errors = errors_over(&log, terms, marks, list);
     let agreement = Agreement {
-        draws: draws_over(&log, terms, &measure, marks, list),
+        draws: draws_over(&log, terms, &measure, &course, marks, list),
         starts: starts_over(&log, terms, &measure, marks, list, rounds),
     };
     AgreementNumbers::new(terms.limits.downtime, &agreement, &prediction, &errors)

@@ -1,14 +1,13 @@
 //! Predictions: what a question about a migration comes to, and its answer over a trace.
 
+// `IsAnswer` holds of one value alone: `one_answer`.
 // `IsPlan` holds of one value alone: `one_plan`.
 // `Spells` holds of one value alone: `one_trace`.
 
-ghost use Rattle.std.specs.Prelude.{◌≡◌, ◌≢◌, ◌≤◌, IfErr, IfOk, IsOk, OnErr, length, take};
+ghost use Rattle.std.specs.Prelude.{◌≡◌, ◌≢◌, IfErr, IfOk, IsOk, OnErr, length};
 ghost use Rattle.predictions.specs.declared.units.error.UnitsError.{UnitsError};
-ghost use Rattle.migration_model.specs.Trace.{GuestTrace, Spells, last_by, last_tick};
-ghost use Rattle.predictions.specs.Courses.Ends.{course_of_rounds};
-ghost use Rattle.predictions.specs.Predictions.{prediction_with};
-ghost use Rattle.predictions.specs.Questions.{AcceptsQuestion, Fits, RefusesQuestion, answer_of, scale_in};
+ghost use Rattle.migration_model.specs.Trace.{GuestTrace, Spells};
+ghost use Rattle.predictions.specs.Questions.{AcceptsQuestion, Fits, RefusesQuestion, scale_in};
 ghost use Rattle.predictions.specs.Questions.{settings_of, terms_of};
 ghost use Rattle.c_layout.specs.Refusals.{number_of_units};
 ghost use Rattle.c_layout.specs.Settings.{settings_told};
@@ -17,12 +16,12 @@ ghost use Rattle.browser_planner.specs.Plans.{HasRoom, room_of};
 ghost use Rattle.browser_planner.specs.Predictions.{IsAnswerTo, OfTrace, RefusesAsked};
 
 use crate::answers::Refusal;
-use crate::plans::{PlanRoom, plan_of};
-use crate::touches::LentTouch;
-use crate::traces::last_tick;
+use crate::foretelling::foretold_over;
+use crate::plans::PlanRoom;
+use crate::touches::{LentLog, LentTouch, put_touches};
 use c_layout::{PlanSettings, units_number};
-use predictions::{Answer, Course, Prediction, Question, Terms, check_fit};
-use round_planner::{Outcome, RoundRow};
+use predictions::{Answer, Question, Terms, check_fit};
+use round_planner::RoundRow;
 use trace_codec::TraceView;
 
 /// Answers the settings that the limits of a question make, or the number of what is out of its range.
@@ -43,39 +42,8 @@ pub extern "C" fn lent_question(question: &Question, settings: &mut PlanSettings
     }
 }
 
-/// Returns how many pages were dirtied in the last round of a plan with this result, whose rounds are at the front of a
+/// Returns the answer to a question about a trace. If it goes by Clark's rounds, writes these over the front of a
 /// buffer.
-pub(crate) fn last_dirtied(rounds: &[RoundRow], outcome: &Outcome) -> u64
-    requires { outcome.now.rounds ≤ length rounds.now }
-    ensures { result ≡ last_by (λ row. row.dirtied) (take outcome.now.rounds rounds.now) }
-{
-    let (front, _) = rounds.split_at(outcome.rounds as usize);
-    let mut last = 0u64;
-    for row in front {
-        last = row.dirtied;
-    }
-    last
-}
-
-/// Returns the answer of a plan of a trace with this result that leaves so many pages.
-fn answer_with(trace: &TraceView<'_>, terms: &Terms, outcome: &Outcome, left: u64) -> Answer
-    ensures { result ≡ answer_of (course_of_rounds outcome.now) (prediction_with terms.now.scale terms.now.limits
-        terms.now.settings.start outcome.now left (last_tick trace.now.writes)) }
-{
-    let start = terms.settings.asked().start;
-    let last = last_tick(trace);
-    let prediction = Prediction::of_outcome(
-        &terms.scale,
-        &terms.limits,
-        start,
-        outcome,
-        left,
-        last,
-    );
-    Answer::new(&Course::of_outcome(outcome), &prediction)
-}
-
-/// Returns the answer to a question about a trace, and writes the rounds of its plan over the front of a buffer.
 fn answer_in(
     trace: &TraceView<'_>,
     terms: &Terms,
@@ -88,13 +56,14 @@ fn answer_in(
         (length rounds.old)) }
     ensures { IsAnswerTo terms.now result rounds.old rounds.new trace.now }
 {
-    let outcome = plan_of(trace, &terms.settings, touches, marks, list, rounds);
-    let left = last_dirtied(rounds, &outcome);
-    answer_with(trace, terms, &outcome, left)
+    put_touches(trace, touches);
+    let log = LentLog::of(trace, touches);
+    let foretold = foretold_over(&log, terms, marks, list, rounds);
+    Answer::new(&foretold.course, &foretold.prediction)
 }
 
-/// Returns the answer to a question about the trace that the bytes encode, and writes the rounds of its plan over the
-/// front of a buffer. The question is tested first, and the room last.
+/// Returns the answer to a question about the trace that the bytes encode. If it goes by Clark's rounds, writes these
+/// over the front of a buffer. The question is tested first, and the room last.
 fn predicted(
     bytes: &[u8],
     question: &Question,
@@ -130,10 +99,10 @@ fn predicted(
     Ok(answer_in(&trace, &terms, touches, marks, list, rounds))
 }
 
-/// Answers what the migration of a trace will be with the limits of a question, and writes the numbers of its rounds,
-/// in order, over the front of a buffer. It is refused if anything lent is too short: a slot of `touches` for each
-/// write, a bit of `marks` and a slot of `list` for each page, and a slot of `rounds` for each round that the question
-/// allows.
+/// Answers what the migration of a trace will be with the limits of a question. If that goes by Clark's rounds, writes
+/// their numbers, in order, over the front of a buffer. It is refused if anything lent is too short: a slot of
+/// `touches` for each write, a bit of `marks` and a slot of `list` for each page, and a slot of `rounds` for each round
+/// that the question allows.
 #[unsafe(no_mangle)]
 pub extern "C" fn lent_predict(
     trace: &[u8],

@@ -5,7 +5,6 @@ ghost use Rattle.migration_model.specs.Touches.{touches_of};
 ghost use Rattle.migration_model.specs.Trace.{GuestTrace, Spells};
 ghost use Rattle.predictions.specs.Questions.{AcceptsQuestion, Fits, scale_in, terms_of};
 ghost use Rattle.predictions.specs.Redrawn.Errors.{AreErrors, AreErrorsOf, HasErrors};
-ghost use Rattle.predictions.specs.declared.course.Manner.TheVariants as manners;
 ghost use Rattle.browser_planner.specs.Answers.{IsNumberOf};
 ghost use Rattle.browser_planner.specs.Errors.{AreNumbersOf, HasRoom, HasRoomFor, room_of};
 ghost use Rattle.browser_planner.specs.Predictions.{OfTrace, RefusesAsked};
@@ -15,7 +14,7 @@ use crate::touches::{LentLog, LentTouch, put_touches};
 use guest_log::Shape;
 use page_bitmap::word_count;
 use predictions::redrawn::{Errors, has_errors, sample_errors};
-use predictions::{ErrorNumbers, Manner, Question, Terms, check_fit};
+use predictions::{ErrorNumbers, Question, Terms, check_fit};
 use trace_codec::TraceView;
 
 /// How long what is lent for standard errors is.
@@ -53,7 +52,8 @@ fn errors_in(
     requires sampled { HasErrors terms.now.scale }
     requires room { HasRoom terms.now (room_of (length touches.old) (length sample.old) (length bits.old))
         trace.now }
-    ensures { AreErrorsOf manners.Rounds trace.now.pages (touches_of trace.now) terms.now.settings terms.now.scale result }
+    ensures { AreErrorsOf terms.now.manner trace.now.pages (touches_of trace.now) terms.now.settings terms.now.scale
+        result }
 {
     put_touches(trace, touches);
     let log = LentLog::of(trace, touches);
@@ -61,7 +61,7 @@ fn errors_in(
         &log,
         &terms.settings,
         &terms.scale,
-        Manner::Rounds,
+        terms.manner,
         sample,
         bits,
     )
@@ -76,8 +76,9 @@ fn asked_errors(
     sample: &mut [u32],
     bits: &mut [u64],
 ) -> Result<Option<Errors>, Refusal>
-    ensures made { IfOk result (λ errors. OfTrace bytes.now question.now (λ trace. AreErrors manners.Rounds
-        trace.pages (touches_of trace) (terms_of question.now).settings (terms_of question.now).scale errors)) }
+    ensures made { IfOk result (λ errors. OfTrace bytes.now question.now (λ trace. AreErrors
+        (terms_of question.now).manner trace.pages (touches_of trace) (terms_of question.now).settings
+        (terms_of question.now).scale errors)) }
     ensures accepted { IfOk result (λ errors. AcceptsQuestion question.now) }
     ensures refused { IfErr result (RefusesAsked bytes.now question.now (HasRoomFor (terms_of question.now)
         (room_of (length touches.old) (length sample.old) (length bits.old)))) }

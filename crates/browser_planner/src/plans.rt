@@ -49,7 +49,7 @@ impl PlanRoom {
 }
 
 /// Returns the sums of the plan of a trace, and writes its rounds over the front of a buffer.
-pub(crate) fn plan_of(
+fn plan_of(
     trace: &TraceView<'_>,
     settings: &Settings,
     touches: &mut [LentTouch],

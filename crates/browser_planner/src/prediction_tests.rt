@@ -201,6 +201,60 @@ fn answers_are_those_of_the_program(rt: HostRuntime) {
 }
 
 #[test]
+fn answers_by_looks_are_those_of_the_program(rt: HostRuntime) {
+    let looks = Question { clark: 0, ..ASKED };
+    let expected = Answer {
+        rounds: 2,
+        reason: 0,
+        stop: 200,
+        down: 188,
+        total: 5,
+        left: 3,
+        time: 398_000,
+        bytes: 320,
+        downtime: 198_000,
+        recorded: 2_500_000,
+        converges: 0,
+        kept: 0,
+    };
+    assert!(rt; predicted(&looks, 30) == (0, expected));
+    let cut = Answer {
+        rounds: 1,
+        reason: 4,
+        stop: 2501,
+        down: 500,
+        total: 6,
+        left: 1,
+        time: 3_011_000,
+        bytes: 384,
+        downtime: 510_000,
+        converges: 2,
+        kept: 2,
+        ..expected
+    };
+    assert!(rt; predicted(&Question { link: 128, ..looks }, 30) == (0, cut));
+}
+
+#[test]
+fn looks_write_no_rounds(rt: HostRuntime) {
+    let mut rounds = [ROUND; 30];
+    let mut answer = UNANSWERED;
+    let looks = Question { clark: 0, ..ASKED };
+    for (question, first) in [(&looks, ROUND.to), (&ASKED, 250)] {
+        let status = lent_predict(
+            &TRACE,
+            question,
+            &mut [TOUCH; 5],
+            &mut [u64::MAX; 1],
+            &mut [9; 4],
+            &mut rounds,
+            &mut answer,
+        );
+        assert!(rt; (status, rounds[0].to, rounds[1].to) == (0, first, ROUND.to));
+    }
+}
+
+#[test]
 fn times_beyond_64_bits_are_capped(rt: HostRuntime) {
     let wide = Question {
         link: u64::MAX / 2,
@@ -242,6 +296,8 @@ fn errors(question: &Question, slots: usize) -> (u32, [u64; 3], u32) {
 #[test]
 fn errors_are_those_of_redrawn_pages(rt: HostRuntime) {
     assert!(rt; errors(&ASKED, 8) == (0, [64, 54_082, 60_686], 1));
+    let looks = Question { clark: 0, ..ASKED };
+    assert!(rt; errors(&looks, 8) == (0, [32, 40_718, 0], 1));
     let all = Question {
         sampled: 16,
         guest: 16,
@@ -277,10 +333,15 @@ fn answered() -> [LentStart; 4] {
 }
 
 /// The places that are chosen of some starts, and how many of them tell something.
-fn chosen(starts: &[LentStart]) -> (usize, u64, u64) {
+fn chosen_by(clark: u32, starts: &[LentStart]) -> (usize, u64, u64) {
     let mut choice = LentChoice { best: 7, worst: 7 };
-    let known = lent_chosen_starts(starts, ASKED.downtime, &mut choice);
+    let known = lent_chosen_starts(starts, ASKED.downtime, clark, &mut choice);
     (known, choice.best, choice.worst)
+}
+
+/// The same by Clark's rounds.
+fn chosen(starts: &[LentStart]) -> (usize, u64, u64) {
+    chosen_by(1, starts)
 }
 
 #[test]
@@ -292,7 +353,8 @@ fn starts_that_tell_nothing_are_not_chosen(rt: HostRuntime) {
     assert!(rt; chosen(&[]) == (0, 7, 7));
 }
 
-/// Of the start that sends least, two standard errors reach the limit, or a microsecond more.
+/// Of the start that sends least, two standard errors reach the limit, or a microsecond more. A hypervisor stops the
+/// guest only when what is left fits the limit.
 #[test]
 fn a_start_that_may_miss_its_limit_is_not_the_best(rt: HostRuntime) {
     let mut starts = answered();
@@ -305,6 +367,9 @@ fn a_start_that_may_miss_its_limit_is_not_the_best(rt: HostRuntime) {
     assert!(rt; chosen(&starts) == (3, 2, 1));
     starts[2].errors.downtime += 1;
     assert!(rt; chosen(&starts) == (3, 3, 1));
+    assert!(rt; chosen_by(0, &starts) == (3, 2, 1));
+    starts[2].answer.reason = 1;
+    assert!(rt; chosen_by(0, &starts) == (3, 3, 1));
     starts[2].errors.has_errors = 0;
     assert!(rt; chosen(&starts) == (3, 2, 1));
 }

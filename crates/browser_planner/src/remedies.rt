@@ -2,13 +2,14 @@
 
 ghost use Rattle.std.specs.Prelude.{◌≡◌, ◌≢◌, ◌↔◌, IfErr, IfOk, IsOk, IsTrue, OnErr, length};
 ghost use Rattle.predictions.specs.Remedies.{AreRemedies};
+ghost use Rattle.predictions.specs.Remedies.Questions.{trial_in};
 ghost use Rattle.migration_model.specs.Touches.{touches_of};
 ghost use Rattle.migration_model.specs.Trace.{GuestTrace, Spells};
 ghost use Rattle.predictions.specs.Questions.{AcceptsQuestion, Fits, scale_in};
 ghost use Rattle.browser_planner.specs.Answers.{IsNumberOf};
 ghost use Rattle.browser_planner.specs.Plans.{room_of};
 ghost use Rattle.browser_planner.specs.Predictions.{OfTrace, RefusesAsked};
-ghost use Rattle.browser_planner.specs.Remedies.{AreNumbersFor, HasRoomToSearch, trial_of};
+ghost use Rattle.browser_planner.specs.Remedies.{AreNumbersFor, HasRoomToSearch};
 
 use crate::answers::Refusal;
 use crate::plans::PlanRoom;
@@ -16,7 +17,7 @@ use crate::touches::{LentLog, LentTouch, put_touches};
 use guest_log::Shape;
 use page_bitmap::word_count;
 use predictions::remedies::{Remedies, RemedyNumbers, Trial, remedies_of};
-use predictions::{Manner, Question, check_fit};
+use predictions::{Question, check_fit};
 use round_planner::RoundRow;
 use trace_codec::TraceView;
 
@@ -66,7 +67,7 @@ fn asked_remedies(
     rounds: &mut [RoundRow],
 ) -> Result<Remedies, Refusal>
     ensures made { IfOk result (λ found. OfTrace bytes.now question.now (λ trace. AreRemedies trace.pages
-        (touches_of trace) (trial_of question.now) found)) }
+        (touches_of trace) (trial_in question.now) found)) }
     ensures accepted { IfOk result (λ found. AcceptsQuestion question.now) }
     ensures refused { IfErr result (RefusesAsked bytes.now question.now (HasRoomToSearch (room_of (length touches.old)
         (length marks.old) (length list.old) (length rounds.old)))) }
@@ -88,10 +89,7 @@ fn asked_remedies(
     if !is_enough(&room, &trace) {
         return Err(Refusal::ShortBuffer);
     }
-    let trial = Trial {
-        manner: Manner::Rounds,
-        ..Trial::of_question(question)?
-    };
+    let trial = Trial::of_question(question)?;
     Ok(remedies_in(&trace, &trial, touches, marks, list, rounds))
 }
 

@@ -91,6 +91,30 @@ fn amounts_that_keep_a_limit(rt: HostRuntime) {
     assert!(rt; remedies(&not_given, 64) == (0, [1, 1], [250, 1562, 0, 0, 0], [1, 1, 0, 0, 0]));
 }
 
+#[test]
+fn amounts_that_keep_a_limit_by_looks(rt: HostRuntime) {
+    let given = Question {
+        link: 512,
+        downtime: 100_000,
+        reserve: 0,
+        clark: 0,
+        ..ASKED
+    };
+    let late = Question {
+        start: 2400,
+        clark: 0,
+        ..ASKED
+    };
+    let slow = Question {
+        link: 128,
+        clark: 0,
+        ..ASKED
+    };
+    assert!(rt; remedies(&given, 64) == (0, [1, 1], [250, 1562, 0, 0, 0], [1, 1, 0, 0, 0]));
+    assert!(rt; remedies(&late, 64) == (0, [1, 1], [1125, 198_046, 0, 0, 0], [1, 1, 0, 0, 0]));
+    assert!(rt; remedies(&slow, 64) == (0, [0, 0], [250, 510_937, 65, 250, 0], [1, 1, 1, 1, 0]));
+}
+
 /// Returns whether a question is refused with this number, before anything is written.
 fn is_refused(question: &Question, slots: usize, number: u32) -> bool {
     remedies(question, slots) == (number, [7; 2], [7; 5], [7; 5])

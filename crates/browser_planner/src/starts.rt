@@ -36,9 +36,9 @@ pub struct LentChoice {
     pub worst: u64,
 }
 
-/// Returns what a migration costs by an answer of Clark's rounds.
-fn cost_of(answer: &Answer) -> Cost
-    ensures { result ≡ cost_in answer.now }
+/// Returns what a migration costs by an answer.
+fn cost_of(clark: u32, answer: &Answer) -> Cost
+    ensures { result ≡ cost_in clark answer.now }
 {
     Cost {
         steps: answer.rounds,
@@ -46,7 +46,7 @@ fn cost_of(answer: &Answer) -> Cost
         bytes: answer.bytes as u128,
         downtime: answer.downtime as u128,
         is_kept: answer.kept == 0,
-        is_bounded: false,
+        is_bounded: clark == 0 && answer.reason == 0,
         is_late: answer.kept == UNKNOWN,
     }
 }
@@ -66,58 +66,58 @@ fn errors_of(numbers: &ErrorNumbers) -> Option<Errors>
 }
 
 /// Returns what a migration costs from a start.
-fn start_of(start: &LentStart) -> StartCost
-    ensures { result ≡ start_in start.now }
+fn start_of(clark: u32, start: &LentStart) -> StartCost
+    ensures { result ≡ start_in clark start.now }
 {
     StartCost {
         start: 0,
-        cost: cost_of(&start.answer),
+        cost: cost_of(clark, &start.answer),
         errors: errors_of(&start.errors),
     }
 }
 
 /// Returns whether a start is better than another.
-fn is_better(limit: u64, start: &LentStart, other: &LentStart) -> bool
-    ensures { result ≡ is_better_lent limit start.now other.now }
+fn is_better(limit: u64, clark: u32, start: &LentStart, other: &LentStart) -> bool
+    ensures { result ≡ is_better_lent limit clark start.now other.now }
 {
-    is_better_known(limit, &start_of(start), &start_of(other))
+    is_better_known(limit, &start_of(clark, start), &start_of(clark, other))
 }
 
 /// Returns whether a start is worse than another.
-fn is_worse(limit: u64, start: &LentStart, other: &LentStart) -> bool
-    ensures { result ≡ is_worse_lent limit start.now other.now }
+fn is_worse(limit: u64, clark: u32, start: &LentStart, other: &LentStart) -> bool
+    ensures { result ≡ is_worse_lent limit clark start.now other.now }
 {
-    is_worse_known(limit, &start_of(start), &start_of(other))
+    is_worse_known(limit, &start_of(clark, start), &start_of(clark, other))
 }
 
 /// Returns whether the start at a place is better than that at another.
-fn is_better_at(limit: u64, starts: &[LentStart], place: usize, other: usize) -> bool
+fn is_better_at(limit: u64, clark: u32, starts: &[LentStart], place: usize, other: usize) -> bool
     requires place { place < length starts.now }
     requires other { other < length starts.now }
-    ensures { (d : LentStart) → result ≡ is_better_lent limit (slice_index_or starts.now place d)
+    ensures { (d : LentStart) → result ≡ is_better_lent limit clark (slice_index_or starts.now place d)
         (slice_index_or starts.now other d) }
 {
-    is_better(limit, &starts[place], &starts[other])
+    is_better(limit, clark, &starts[place], &starts[other])
 }
 
 /// Returns whether the start at a place is worse than that at another.
-fn is_worse_at(limit: u64, starts: &[LentStart], place: usize, other: usize) -> bool
+fn is_worse_at(limit: u64, clark: u32, starts: &[LentStart], place: usize, other: usize) -> bool
     requires place { place < length starts.now }
     requires other { other < length starts.now }
-    ensures { (d : LentStart) → result ≡ is_worse_lent limit (slice_index_or starts.now place d)
+    ensures { (d : LentStart) → result ≡ is_worse_lent limit clark (slice_index_or starts.now place d)
         (slice_index_or starts.now other d) }
 {
-    is_worse(limit, &starts[place], &starts[other])
+    is_worse(limit, clark, &starts[place], &starts[other])
 }
 
 /// Returns the place of the first start that no other is better than.
-fn best_place(limit: u64, starts: &[LentStart]) -> usize
+fn best_place(limit: u64, clark: u32, starts: &[LentStart]) -> usize
     requires { 1 ≤ length starts.now }
-    ensures { IsFirstBest (is_better_lent limit) starts.now (length starts.now) result }
+    ensures { IsFirstBest (is_better_lent limit clark) starts.now (length starts.now) result }
 {
     let mut best = 0;
     for number in 1..starts.len() {
-        if is_better_at(limit, starts, number, best) {
+        if is_better_at(limit, clark, starts, number, best) {
             best = number;
         }
     }
@@ -125,13 +125,13 @@ fn best_place(limit: u64, starts: &[LentStart]) -> usize
 }
 
 /// Returns the place of the first start that no other is worse than.
-fn worst_place(limit: u64, starts: &[LentStart]) -> usize
+fn worst_place(limit: u64, clark: u32, starts: &[LentStart]) -> usize
     requires { 1 ≤ length starts.now }
-    ensures { IsFirstBest (is_worse_lent limit) starts.now (length starts.now) result }
+    ensures { IsFirstBest (is_worse_lent limit clark) starts.now (length starts.now) result }
 {
     let mut worst = 0;
     for number in 1..starts.len() {
-        if is_worse_at(limit, starts, number, worst) {
+        if is_worse_at(limit, clark, starts, number, worst) {
             worst = number;
         }
     }
@@ -151,29 +151,30 @@ fn count_known(starts: &[LentStart]) -> usize
 
 /// Answers how many of some answers to the same question, each from another start, tell something: the others are of
 /// migrations that end after the trace. Finds the best of those that do beside the limit of the downtime, with the
-/// errors that are given, and the worst without errors; of each the first of equals. If none does, the two are of no
-/// use; without an answer they stay as they are.
+/// errors that are given, and the worst without errors; of each the first of equals. `clark` is that of the question.
+/// If none does, the two are of no use; without an answer they stay as they are.
 #[unsafe(no_mangle)]
 pub extern "C" fn lent_chosen_starts(
     starts: &[LentStart],
     limit: u64,
+    clark: u32,
     choice: &mut LentChoice,
 ) -> usize
     ensures known { result ≡ known_count starts.now }
-    ensures chosen { IsChoice limit starts.now choice.old choice.new }
+    ensures chosen { IsChoice limit clark starts.now choice.old choice.new }
 {
     if starts.is_empty() {
         return 0;
     }
     *choice = LentChoice {
-        best: best_place(limit, starts) as u64,
-        worst: worst_place(limit, starts) as u64,
+        best: best_place(limit, clark, starts) as u64,
+        worst: worst_place(limit, clark, starts) as u64,
     };
     count_known(starts)
 }
 
 /// Of some starts one is chosen as the best, and one as the worst. A law: the body is empty.
 pub fn one_choice()
-    ensures { (limit : ℕ) (starts : List LentStart) (old a b : LentChoice) → IsChoice limit starts old a
-        → IsChoice limit starts old b → a ≡ b }
+    ensures { (limit clark : ℕ) (starts : List LentStart) (old a b : LentChoice) → IsChoice limit clark starts old a
+        → IsChoice limit clark starts old b → a ≡ b }
 {}

@@ -28,7 +28,7 @@ pub struct LentSizes {
 }
 
 /// Returns the tick of the last write, or 0 if there is none.
-pub(crate) fn last_tick(trace: &TraceView<'_>) -> u64
+fn last_tick(trace: &TraceView<'_>) -> u64
     ensures { result ≡ last_tick trace.now.writes }
 {
     let mut last = 0u64;

@@ -1,4 +1,5 @@
 pub mod Answers
+pub mod Recordings
 pub mod Buffers
 pub mod Settings
 pub mod Plans

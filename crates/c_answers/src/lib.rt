@@ -27,6 +27,7 @@ pub mod place_answers;
 pub mod plans;
 pub mod predicting;
 pub mod questions;
+pub mod recordings;
 pub mod reports;
 pub mod settings;
 pub mod sizes;

@@ -1,5 +1,5 @@
 //! The calls that a program in C, or in a language that calls C, makes: plans, reports, sweeps, predictions, what is
-//! enough for a limit, memory, versions of pages, and frames.
+//! enough for a limit, memory, versions of pages, frames, and traces that are written.
 //!
 //! `include/precopy.h` declares them, and says what a caller must do. No call keeps anything between two calls but in
 //! what the caller lends, starts a thread or waits. A call returns 0, or the number of a refusal; it has then written
@@ -13,3 +13,4 @@ mod open_trace_memory;
 mod page_frames;
 mod stream_checks;
 mod trace_memory;
+mod trace_recordings;

@@ -2,13 +2,13 @@
 -- same answer. This project's own.
 pub mod Texts
 pub mod Numbers
-use Rattle.std.specs.Prelude.{◌≡◌, ℕ, ◌-◌, ◌*◌, ◌&&◌, ◌||◌, nat_le, not, if◌then◌else◌, Bool, true, List, length, map}
-use Rattle.std.specs.Prelude.{Option, None, Some}
+use Rattle.std.specs.Prelude.{◌≡◌, ℕ, ◌-◌, ◌*◌, ◌/◌, ◌&&◌, ◌||◌, max, min, nat_le, not, if◌then◌else◌, Bool, true}
+use Rattle.std.specs.Prelude.{List, length, map, Option, None, Some}
 use Rattle.std.specs.List.{AllZip, count_by, range_with_len}
 use Rattle.migration_model.specs.Rates.{MigrationSettings}
 use Rattle.migration_model.specs.Touches.{GuestTouch, last_tick_of}
 use Rattle.predictions.specs.Courses.{IsCourseOver}
-use Rattle.predictions.specs.Courses.Ends.{converges}
+use Rattle.predictions.specs.Courses.Ends.{converges, is_bounded}
 use Rattle.predictions.specs.Predictions.{GuestPrediction, MigrationCost, keeps_limit, kept_of, verdict_of}
 use Rattle.predictions.specs.Redrawn.Draws.{draws_of}
 use Rattle.predictions.specs.Redrawn.Errors.{AreRedrawn, HasErrors, SampleErrors}
@@ -51,12 +51,36 @@ pub record AreCountsOf (manner : Manner) (pages : ℕ) (touches : List GuestTouc
   pub redrawn : AreRedrawn manner touches scale s (draws_of scale.sampled pages count) courses
   pub counts_are : counts ≡ counts_of scale limits (last_tick_of touches) courses
 
--- the counts of 20 draws, if pages were sampled
+-- nine tenths of a link: fewer pages go over it in the time of the limit
+abbrev pub nine_tenths : ℕ → ℕ
+nine_tenths rate = max 1 (rate * 9 / 10)
+
+abbrev pub with_less_link : MigrationSettings → MigrationSettings
+with_less_link s = record s {
+  min = min s.min (nine_tenths s.max);
+  max = nine_tenths s.max;
+  threshold = max 1 (s.threshold * nine_tenths s.max / s.max);
+}
+
+-- What is asked of draws: whether the answer holds, and if a hypervisor's plan converges, whether it does with a tenth
+-- less of the link. The lists of a sample are short. Near the link at which a guest's lists just keep their length
+-- chance makes them waver, and the plan ends the first time that one fits. Draws waver about the sample, not the guest.
+abbrev pub asked_of_draws : Course → MigrationSettings → MigrationSettings
+asked_of_draws course s = if is_bounded course.ending then with_less_link s else s
+
+-- the counts of 20 draws, of which that is asked
+pub record AreAskedCounts (manner : Manner) (pages : ℕ) (touches : List GuestTouch) (s : MigrationSettings)
+    (scale : TraceScale) (limits : Limits) (counts : AnswerCounts) : Type 0 where
+  pub course : Course
+  pub comes_to : IsCourseOver manner pages touches scale s course
+  pub are_counts : AreCountsOf manner pages touches (asked_of_draws course s) scale limits 20 counts
+
+-- these counts, if pages were sampled
 abbrev pub AreDrawCounts : Manner → ℕ → List GuestTouch → MigrationSettings → TraceScale → Limits → Option AnswerCounts
     → Type 0
 AreDrawCounts manner pages touches s scale limits None = ¬ HasErrors scale
 AreDrawCounts manner pages touches s scale limits (Some counts) =
-    HasErrors scale × AreCountsOf manner pages touches s scale limits 20 counts
+    HasErrors scale × AreAskedCounts manner pages touches s scale limits counts
 
 -- the cases of the starts that are spread over a record, each by its number
 abbrev pub spread_case : MigrationSettings → ℕ → ℕ → MigrationSettings

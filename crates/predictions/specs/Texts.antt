@@ -74,11 +74,11 @@ end_warning endings.Fast =
 end_warning endings.Rounds =
     codes "warning: the plan ends with `rounds`, so nothing bounds the downtime; allow more rounds"
 end_warning endings.Looks =
-    codes "warning: the plan ends with `looks`, so nothing bounds the downtime; give more of the link"
+    codes "warning: the plan ends with `looks`; a hypervisor goes on, and takes longer; give more of the link"
 end_warning endings.Cut =
-    codes "warning: the plan ends with `cut`, so nothing bounds the downtime; give more of the link"
+    codes "warning: the plan ends with `cut`; a hypervisor goes on, and takes longer; give more of the link"
 end_warning endings.Level =
-    codes "warning: the plan ends with `level`, so nothing bounds the downtime; give more of the link"
+    codes "warning: the plan ends with `level`; a hypervisor goes on, and takes longer; give more of the link"
 
 -- what speaks against the prediction
 abbrev pub warnings : GuestPrediction → List ℕ

@@ -1,5 +1,6 @@
 //! How sure an answer is: in how many draws of a sample, and from how many starts, it is the same.
 
+mod asking;
 mod counts;
 mod drawing;
 mod numbers;
@@ -7,6 +8,7 @@ mod starting;
 mod verdicts;
 mod words;
 
+pub use asking::asked_of_draws;
 pub use counts::AnswerCounts;
 pub use drawing::draw_counts;
 pub use numbers::AgreementNumbers;

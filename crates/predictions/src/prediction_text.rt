@@ -212,13 +212,13 @@ fn warning_of(ending: CourseEnd) -> &'static str
             "warning: the plan ends with `rounds`, so nothing bounds the downtime; allow more rounds"
         }
         CourseEnd::Looks => {
-            "warning: the plan ends with `looks`, so nothing bounds the downtime; give more of the link"
+            "warning: the plan ends with `looks`; a hypervisor goes on, and takes longer; give more of the link"
         }
         CourseEnd::Cut => {
-            "warning: the plan ends with `cut`, so nothing bounds the downtime; give more of the link"
+            "warning: the plan ends with `cut`; a hypervisor goes on, and takes longer; give more of the link"
         }
         CourseEnd::Level => {
-            "warning: the plan ends with `level`, so nothing bounds the downtime; give more of the link"
+            "warning: the plan ends with `level`; a hypervisor goes on, and takes longer; give more of the link"
         }
     }
 }

@@ -6,6 +6,7 @@ It shares no code with the crate. The numbers in the crate's tests come from her
 from typing import NamedTuple
 
 from precopy_dev.models.courses import Course, Manner, Record, errors
+from precopy_dev.models.redrawn import Settings
 from precopy_dev.models.remedies import Trial, course, downtime, is_kept, settings
 
 
@@ -36,10 +37,21 @@ def is_sampled(trial: Trial) -> bool:
     return 2 <= trial.scale.sampled < trial.scale.guest and trial.scale.sampled <= 65_536
 
 
+def with_less_link(asked: Settings) -> Settings:
+    """The settings with a tenth less of the link."""
+    most = max(1, asked.greatest * 9 // 10)
+    least, threshold = min(asked.least, most), max(1, asked.threshold * most // asked.greatest)
+    return asked._replace(least=least, greatest=most, threshold=threshold)
+
+
 def draw_counts(record: Record, trial: Trial) -> Counts | None:
+    """A hypervisor's yes has to hold in draws with a tenth less of the link."""
     if not is_sampled(trial):
         return None
-    return counts(record, trial, record.redrawn(settings(trial), trial.scale, trial.manner))
+    asked = settings(trial)
+    if trial.manner is Manner.LOOKS and record.course(asked, trial.scale, trial.manner).ending == "few":
+        asked = with_less_link(asked)
+    return counts(record, trial, record.redrawn(asked, trial.scale, trial.manner))
 
 
 def start_counts(record: Record, trial: Trial) -> Counts:

@@ -143,8 +143,8 @@ def of_told(told: dict) -> list[str]:
         times = f"time {error(errors['time_seconds'])}, downtime {error(errors['down_seconds'])}"
         lines.append(f"standard errors: sent {size_text(errors['sent_bytes'])}, {times}")
     lines += ["warning: fewer than 100 pages decided the stop; chance moves it"] * (migration["left_pages"] < 100)
-    nothing = f"warning: the plan ends with `{why}`, so nothing bounds the downtime; give more of the link"
-    return [*lines, *[nothing] * (why != "few"), *of_record_end(told)]
+    more = f"warning: the plan ends with `{why}`; a hypervisor goes on, and takes longer; give more of the link"
+    return [*lines, *[more] * (why != "few"), *of_record_end(told)]
 
 
 def uncertain(sample: samples.Sample) -> list[str]:

@@ -7,11 +7,11 @@ use super::remedy::OLD_ROW;
 use guest_log::Timeline;
 use page_bitmap::word_count;
 use predictions::agreement::{
-    Agreement, AgreementNumbers, AnswerCounts, draw_counts, start_counts,
+    Agreement, AgreementNumbers, AnswerCounts, asked_of_draws, draw_counts, start_counts,
 };
 use predictions::redrawn::{Errors, has_errors};
 use predictions::units::{Limits, Scale};
-use predictions::{Manner, Measure, Prediction, Verdict};
+use predictions::{Course, Manner, Measure, Prediction, Verdict};
 use rate_limit::{Reason, Settings};
 use round_planner::Outcome;
 use std::alloc::Global;
@@ -63,7 +63,9 @@ fn lent(
     let words = 2 * word_count(pages) + word_count(sampled);
     let mut room = Vec::from_elem(alloc, u32::MAX, 2 * sampled).expect(rt, "memory");
     let mut bits = Vec::from_elem(alloc, u64::MAX, words).expect(rt, "memory");
-    let draws = draw_counts(trace, settings, measure, &mut room, &mut bits);
+    let course = Course::of_trace(alloc, trace, settings, &measure.scale, measure.manner);
+    let asked = asked_of_draws(&course.expect(rt, "memory"), settings);
+    let draws = draw_counts(trace, &asked, measure, &mut room, &mut bits);
     Agreement {
         draws: Some(draws),
         starts,

@@ -126,7 +126,7 @@ total time: 4.350 s
 sent: 68.00 KiB
 downtime: 550 ms, limit: 100 ms, kept: no, from 0 of 4 starts
 warning: fewer than 100 pages decided the stop; chance moves it
-warning: the plan ends with `level`, so nothing bounds the downtime; give more of the link
+warning: the plan ends with `level`; a hypervisor goes on, and takes longer; give more of the link
 ";
 
 /// Few pages are left.

@@ -5,7 +5,9 @@ ghost use Rattle.page_bitmap.specs.Listing.{word_count};
 ghost use Rattle.predictions.specs.Agreements.{AreCountsOf, AreDrawCounts};
 ghost use Rattle.predictions.specs.Redrawn.Errors.{HasErrors};
 
+use crate::agreement::asking::asked_of_draws;
 use crate::agreement::counts::AnswerCounts;
+use crate::course::Course;
 use crate::measure::Measure;
 use crate::redrawn::{drawn_course, has_errors};
 use guest_log::{Timeline, last_tick};
@@ -17,6 +19,7 @@ use std::alloc::{AllocError, Global};
 const DRAWS: u64 = 20;
 
 /// Returns how many of the plans of 20 draws from the pages of a trace end within it, converge, and keep their limit.
+/// The settings are those of `asked_of_draws`.
 ///
 /// It allocates nothing: the caller lends two slots of `room` for each page of the sample, and in whole words two bits
 /// of `bits` for each page of the trace and one for each of the sample. What they hold does not matter. It costs as
@@ -51,7 +54,8 @@ pub fn draw_counts<T: Timeline>(
 }
 
 impl AnswerCounts {
-    /// Returns what `draw_counts` does, if pages were sampled. The only error is that memory runs out.
+    /// Returns what `draw_counts` does with these settings, if pages were sampled. The only error is that memory runs
+    /// out. It costs as much as 21 plans.
     pub fn of_draws<T: Timeline>(
         alloc: Global,
         timeline: &T,
@@ -66,9 +70,11 @@ impl AnswerCounts {
         }
         let sampled = measure.scale.sampled() as usize;
         let words = 2 * word_count(timeline.page_count() as usize) + word_count(sampled);
+        let course = Course::of_trace(alloc, timeline, settings, &measure.scale, measure.manner)?;
+        let asked = asked_of_draws(&course, settings);
         let mut room = Vec::from_elem(alloc, 0, 2 * sampled)?;
         let mut bits = Vec::from_elem(alloc, 0, words)?;
-        let counts = draw_counts(timeline, settings, measure, &mut room, &mut bits);
+        let counts = draw_counts(timeline, &asked, measure, &mut room, &mut bits);
         Ok(Some(counts))
     }
 }

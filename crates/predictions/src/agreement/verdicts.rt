@@ -82,7 +82,7 @@ fn draws_keep(draws: &Option<AnswerCounts>, verdict: Verdict) -> bool
 
 impl Agreement {
     /// Returns in how many draws, and from how many starts, a migration converges and keeps its limit. The only error
-    /// is that memory runs out. It costs as much as 41 plans, or 21 if no pages were sampled.
+    /// is that memory runs out. It costs as much as 42 plans, or 21 if no pages were sampled.
     pub fn of_trace<T: Timeline>(
         alloc: Global,
         timeline: &T,

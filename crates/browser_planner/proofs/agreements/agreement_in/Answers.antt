@@ -4,5 +4,5 @@ use Rattle.browser_planner.proofs.agreements.agreement_in.Goals as goal
 pub returns : goal.returns
 returns c =
     agrees c.args.trace.now c.args.terms.now c.of-log.result _ _ _ _ c.new.result c.of-log.ensures
-    c.prediction_over-prediction.ensures c.errors_over-errors.ensures c.draws_over.ensures c.starts_over.ensures
+    c.plan_over-prediction.ensures.predicts c.errors_over-errors.ensures c.draws_over.ensures c.starts_over.ensures
     c.new.ensures

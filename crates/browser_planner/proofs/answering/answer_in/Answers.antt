@@ -1,7 +1,8 @@
-use Rattle.browser_planner.proofs.Left.{answer_is}
+use Rattle.browser_planner.proofs.Foretold.{answered}
 use Rattle.browser_planner.proofs.answering.answer_in.Goals as goal
 
 pub returns : goal.returns
 returns c =
-    answer_is c.args.trace.now c.args.terms.now _ c.last_dirtied-left.result _ c.args.rounds.now
-    c.plan_of-outcome.new.rounds c.plan_of-outcome.ensures c.last_dirtied-left.ensures c.answer_with.ensures
+    answered c.args.trace.now c.args.terms.now c.of-log.result _ c.new.result c.args.rounds.now
+    c.foretold_over-foretold.new.rounds c.of-log.ensures c.foretold_over-foretold.ensures.foretold
+    c.foretold_over-foretold.ensures.rows c.new.ensures

@@ -9,14 +9,15 @@ pub loop-number-preserved : goal.loop-number-preserved
 loop-number-preserved c =
     let starts = c.args.starts.now in
     let i = c.loop-number.number in
-    let P : ℕ → Type 0 = λ b. IsFirstBest (is_better_lent c.args.limit) starts (i + 1) b in
+    let order = better_lents c.args.limit c.args.clark in
+    let P : ℕ → Type 0 = λ b. IsFirstBest (is_better_lent c.args.limit c.args.clark) starts (i + 1) b in
     elim c.if-is_better_at.branch [
       | then-is_better_at w ↦
           subst P (sym w.best-is)
-          (takes (better_lents c.args.limit) starts i c.loop-number.best c.loop-number.invariant (omega arith)
+          (takes order starts i c.loop-number.best c.loop-number.invariant (omega arith)
           (λ d. sym (c.is_better_at.ensures d) ∙ w.if-is_better_at.true))
       | else-is_better_at w ↦
           subst P (sym w.best-is)
-          (keeps (better_lents c.args.limit) starts i c.loop-number.best c.loop-number.invariant (omega arith)
+          (keeps order starts i c.loop-number.best c.loop-number.invariant (omega arith)
           (λ d. sym (c.is_better_at.ensures d) ∙ w.if-is_better_at.false))
     ]

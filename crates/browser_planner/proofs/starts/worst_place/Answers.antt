@@ -9,14 +9,15 @@ pub loop-number-preserved : goal.loop-number-preserved
 loop-number-preserved c =
     let starts = c.args.starts.now in
     let i = c.loop-number.number in
-    let P : ℕ → Type 0 = λ b. IsFirstBest (is_worse_lent c.args.limit) starts (i + 1) b in
+    let order = worse_lents c.args.limit c.args.clark in
+    let P : ℕ → Type 0 = λ b. IsFirstBest (is_worse_lent c.args.limit c.args.clark) starts (i + 1) b in
     elim c.if-is_worse_at.branch [
       | then-is_worse_at w ↦
           subst P (sym w.worst-is)
-          (takes (worse_lents c.args.limit) starts i c.loop-number.worst c.loop-number.invariant (omega arith)
+          (takes order starts i c.loop-number.worst c.loop-number.invariant (omega arith)
           (λ d. sym (c.is_worse_at.ensures d) ∙ w.if-is_worse_at.true))
       | else-is_worse_at w ↦
           subst P (sym w.worst-is)
-          (keeps (worse_lents c.args.limit) starts i c.loop-number.worst c.loop-number.invariant (omega arith)
+          (keeps order starts i c.loop-number.worst c.loop-number.invariant (omega arith)
           (λ d. sym (c.is_worse_at.ensures d) ∙ w.if-is_worse_at.false))
     ]

@@ -1,0 +1,4 @@
+pub mod Puts
+pub mod Appended
+pub mod OneRefusal
+pub mod Refused
