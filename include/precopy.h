@@ -24,8 +24,8 @@
  * - Of several causes it returns the first in this order: the settings, the sizes or the question, then the trace or
  *   what its comment names, and last a buffer that is too short. Only precopy_sweep tests its buffer first.
  *   PRECOPY_NO_MEMORY comes as soon as memory runs out, before what is tested later.
- * - If it takes a trace, it takes `record` too. Of a trace that is refused for a record, PRECOPY_SHORT_RECORD to
- *   PRECOPY_OUT_OF_PAGE, *record is the number of that record, from 0. Otherwise *record stays as it was.
+ * - If it reads the bytes of a trace, it takes `record` too. Of one that is refused for a record,
+ *   PRECOPY_SHORT_RECORD to PRECOPY_OUT_OF_PAGE, *record is the number of that record, from 0. Else it stays.
  * - It keeps nothing between two calls, starts no thread, and doesn't block. Any number of threads may call at
  *   once.
  * - All memory is the caller's. A function that needs memory of its own gets it from malloc, frees it before it
@@ -38,8 +38,8 @@
  * - Only a pointer whose length is 0 may be null. Each other pointer is aligned for its type.
  * - The memory that a pointer and its length describe is there, and all of an input is initialized.
  * - A struct precopy_trace is as precopy_trace_open left it, and so are the bytes and the words that it was given.
- * - What is lent to precopy_trace_check_piece and precopy_trace_check_pages began as zeros, and only the first of these
- *   changed it. It is of one trace.
+ * - What is lent to precopy_trace_check_piece, precopy_trace_check_bytes and precopy_trace_check_pages began as zeros,
+ *   or as precopy_trace_check_base left it, and only the first two of these changed it. It is of one trace.
  * - What a function writes overlaps nothing else that is passed to it, and no other thread reads or writes it
  *   meanwhile. No thread writes an input meanwhile.
  * - No function is called from a signal handler, nor from the forked child of a process with threads.
@@ -55,8 +55,8 @@
 extern "C" {
 #endif
 
-/* The number in the name libprecopy.so.4: it changes when programs must be recompiled. */
-#define PRECOPY_ABI 4
+/* The number in the name libprecopy.so.5: it changes when programs must be recompiled. */
+#define PRECOPY_ABI 5
 
 /* The version of this header as a number, which is 10203 for 1.2.3. */
 #define PRECOPY_VERSION_NUMBER 600
@@ -594,41 +594,6 @@ uint32_t precopy_memory_step(const uint8_t *trace, size_t trace_length, uint32_t
 
 /* ---- pages */
 
-/*
- * Sets *version to the version of a page after the first `count` writes of a trace: the place of the last of them that
- * is to the page, or 0 if none is. For a tick, precopy_writes_before says how many writes there are.
- *
- * After the trace the page is tested, with PRECOPY_NO_PAGE. It takes no memory.
- */
-PRECOPY_ANSWERS PRECOPY_NOT_NULL(5, 6)
-uint32_t precopy_version_after(const uint8_t *trace, size_t trace_length, uint32_t page, uint32_t count,
-                               uint32_t *version, uint32_t *record);
-
-/*
- * Writes the versions of all pages after the first `count` writes into an array, page by page. *needed is the number of
- * pages. A call takes at most twice as long as precopy_version_after does for one page.
- *
- * If the array has fewer elements, it returns PRECOPY_SHORT_BUFFER and writes only *needed. It takes no memory.
- */
-PRECOPY_ANSWERS PRECOPY_NOT_NULL(6, 7)
-uint32_t precopy_versions_after(const uint8_t *trace, size_t trace_length, uint32_t count, uint32_t *versions,
-                                size_t versions_length, size_t *needed, uint32_t *record);
-
-/* Writes the versions of all pages after the writes before a tick; otherwise like precopy_versions_after. */
-PRECOPY_ANSWERS PRECOPY_NOT_NULL(6, 7)
-uint32_t precopy_versions_before(const uint8_t *trace, size_t trace_length, uint64_t tick, uint32_t *versions,
-                                 size_t versions_length, size_t *needed, uint32_t *record);
-
-/*
- * Writes the bytes of a page at a stamp: as the write to it with this place leaves them, or zeros for 0.
- *
- * After the trace the page is tested, with PRECOPY_NO_PAGE, and then the stamp, with PRECOPY_NO_VERSION. If `content`
- * is shorter than a page, it returns PRECOPY_SHORT_BUFFER. It takes no memory.
- */
-PRECOPY_ANSWERS PRECOPY_NOT_NULL(7)
-uint32_t precopy_page_at(const uint8_t *trace, size_t trace_length, uint32_t page, uint32_t stamp, uint8_t *content,
-                         size_t content_length, uint32_t *record);
-
 /* A write to a page. */
 struct precopy_write {
     uint64_t tick;   /* its tick */
@@ -753,49 +718,13 @@ uint32_t precopy_check_streams(const uint8_t *trace, size_t trace_length, uint32
                                size_t bytes_length, const size_t *sizes, size_t sizes_length,
                                struct precopy_finding *found, uint32_t *record);
 
-/* How far streams have come that are checked in pieces. It begins with the stop, and zeros. */
-struct precopy_progress {
-    size_t stream; /* the stream that comes now, from 0 */
-    size_t frames; /* how many of its frames came */
-    size_t bytes;  /* how many bytes these have */
-    uint32_t stop; /* after how many writes of the trace the guest is stopped */
-};
-
-/*
- * Checks the next bytes of a stream, as they come: each whole frame of them. It finds what precopy_check_streams finds
- * in all streams at once, however they are cut into pieces.
- *
- * `states` has two elements for each page of the guest, and begins as zeros: first the last stamps of the stream, and
- * behind them the greatest of all streams. *progress says how far the stream has come. What is behind its whole frames
- * is the beginning of one: keep it, and append the next bytes to it. If it is left when the stream ends, a frame is cut
- * off. For the next stream set the first half of `states`, frames and bytes to 0, and add 1 to stream.
- *
- * If a frame is wrong, it returns why, PRECOPY_FRAME_PAGE to PRECOPY_FRAME_ZEROS or PRECOPY_NO_VERSION to
- * PRECOPY_OTHER_BYTES, sets *found, and has taken the frames before it. Any other status leaves all as it was. If there
- * are not so many states, it returns PRECOPY_PAGE_COUNT. The trace is tested first, then the states, and only then it
- * takes memory, as precopy_check_streams does. It also takes as long as an index of the trace, whatever the piece, so
- * gather some MiB before each call.
- */
-PRECOPY_ANSWERS PRECOPY_NOT_NULL(5, 8, 9)
-uint32_t precopy_check_piece(const uint8_t *trace, size_t trace_length, const uint8_t *piece, size_t piece_length,
-                             struct precopy_progress *progress, struct precopy_page *states, size_t states_length,
-                             struct precopy_finding *found, uint32_t *record);
-
-/*
- * Checks, when all streams have ended, that each page came at its version at the stop: returns PRECOPY_OK, or
- * PRECOPY_PAGE_BEHIND or PRECOPY_PAGE_MISSING and sets *found. Otherwise like precopy_check_piece.
- */
-PRECOPY_ANSWERS PRECOPY_NOT_NULL(3, 6, 7)
-uint32_t precopy_check_pages(const uint8_t *trace, size_t trace_length, const struct precopy_progress *progress,
-                             const struct precopy_page *states, size_t states_length, struct precopy_finding *found,
-                             uint32_t *record);
-
 /* ---- traces that stay open */
 
 /*
  * A trace that stays open between calls. Each call over it costs what it answers, and not another pass over the trace.
  * It borrows the bytes of the trace and the words of its index: both stay where they are, unchanged, as long as it is
- * used. There is nothing to close. No call changes it, so several threads may use it at once, and a copy is as good.
+ * used. There is nothing to close. No call changes it, so several threads may use it at once, and a copy is as good. No
+ * call over it takes memory.
  */
 struct precopy_trace {
     struct precopy_sizes sizes; /* the sizes of the trace */
@@ -828,12 +757,20 @@ PRECOPY_ANSWERS PRECOPY_NOT_NULL(1, 5)
 uint32_t precopy_trace_memory_before(const struct precopy_trace *trace, uint64_t tick, uint8_t *memory,
                                      size_t memory_length, size_t *needed);
 
-/* What precopy_version_after does, along the writes to the page. */
+/*
+ * Sets *version to the version of a page after the first `count` writes: the place of the last of them that is to the
+ * page, or 0 if none is. It reads the writes to the page alone. If there is no such page, it returns PRECOPY_NO_PAGE.
+ */
 PRECOPY_ANSWERS PRECOPY_NOT_NULL(1, 4)
 uint32_t precopy_trace_version_after(const struct precopy_trace *trace, uint32_t page, uint32_t count,
                                      uint32_t *version);
 
-/* What precopy_versions_after and precopy_versions_before do, from the index alone. */
+/*
+ * Write the versions of all pages after the first `count` writes, and after those before a tick, into an array, page by
+ * page, from the index alone. *needed is the number of pages.
+ *
+ * If the array has fewer elements, they return PRECOPY_SHORT_BUFFER and write only *needed.
+ */
 PRECOPY_ANSWERS PRECOPY_NOT_NULL(1, 5)
 uint32_t precopy_trace_versions_after(const struct precopy_trace *trace, uint32_t count, uint32_t *versions,
                                       size_t versions_length, size_t *needed);
@@ -841,21 +778,39 @@ PRECOPY_ANSWERS PRECOPY_NOT_NULL(1, 5)
 uint32_t precopy_trace_versions_before(const struct precopy_trace *trace, uint64_t tick, uint32_t *versions,
                                        size_t versions_length, size_t *needed);
 
-/* What precopy_page_at does; it reads the writes to the page alone. */
+/*
+ * Writes the bytes of a page at a stamp: as the write to it with this place leaves them, or zeros for 0. It reads the
+ * writes to the page alone.
+ *
+ * It returns PRECOPY_NO_PAGE, PRECOPY_NO_VERSION, or PRECOPY_SHORT_BUFFER if `content` is shorter than a page, in this
+ * order.
+ */
 PRECOPY_ANSWERS PRECOPY_NOT_NULL(1)
 uint32_t precopy_trace_page_at(const struct precopy_trace *trace, uint32_t page, uint32_t stamp, uint8_t *content,
                                size_t content_length);
 
+/* How far a stream has come that is checked in pieces. It begins with its number, the stop, and zeros. */
+struct precopy_progress {
+    size_t stream; /* the number of the stream, from 0 */
+    size_t frames; /* how many of its frames came */
+    size_t bytes;  /* how many bytes these have */
+    uint32_t stop; /* after how many writes of the trace the guest is stopped */
+};
+
 /*
- * Checks the next bytes of a stream, as precopy_check_piece does, in memory that is lent. It takes none itself, and
- * makes no index. Pieces of several streams may come in any order.
+ * Checks the next bytes of a stream, as they come: each whole frame of them. However it is cut into pieces, the first
+ * frame that is wrong in it is found, as by precopy_check_streams. Pieces of several streams may come in any order.
  *
- * `last` is the stream's own, and so is *progress, which says its number. All streams share `greatest` and `memory`.
- * Both `last` and `greatest` have a word for each page of the guest: its stamp plus 1, or 0 if it did not come.
- * `memory` has the bytes of all pages, each at its greatest stamp. All three begin as zeros. Before it checks anything
- * it may return PRECOPY_MEMORY_LENGTH, or PRECOPY_PAGE_COUNT for either list of words. For a greater stamp than before
- * it makes a page from the writes in between, and for a lower one, which comes in another stream, from the page's
- * first.
+ * *progress and `last` are the stream's own; all streams share `greatest` and `memory`. Both lists have a word for each
+ * page of the guest: its stamp plus 1, or 0 if it did not come. `memory` has the bytes of all pages, each at its
+ * greatest stamp. All three begin as zeros. What is behind the whole frames that *progress then counts is the beginning
+ * of one: keep it, and append the next bytes to it.
+ *
+ * If a frame is wrong, it returns why, PRECOPY_FRAME_PAGE to PRECOPY_FRAME_ZEROS or PRECOPY_NO_VERSION to
+ * PRECOPY_OTHER_BYTES, sets *found, and has taken the frames before it, but *progress stays. Before that it may return
+ * PRECOPY_MEMORY_LENGTH, or PRECOPY_PAGE_COUNT for either list of words, and changes nothing. For a greater stamp than
+ * before it makes a page from the writes in between, and for a lower one, which comes in another stream, from the
+ * page's first.
  */
 PRECOPY_ANSWERS PRECOPY_NOT_NULL(1, 4, 11)
 uint32_t precopy_trace_check_piece(const struct precopy_trace *trace, const uint8_t *piece, size_t piece_length,
@@ -871,12 +826,51 @@ PRECOPY_ANSWERS PRECOPY_NOT_NULL(1, 3)
 uint32_t precopy_end_stream(const struct precopy_progress *progress, size_t left, struct precopy_finding *found);
 
 /*
- * What precopy_check_pages does, by the words of the greatest stamps, from one write of each page. Of *progress it
- * reads the stop alone.
+ * Checks, when all streams have ended, that each page came at its version at the stop, by the words of the greatest
+ * stamps and one write of each page. If not, it returns PRECOPY_PAGE_BEHIND or PRECOPY_PAGE_MISSING and sets *found. Of
+ * *progress it reads the stop alone. For another number of words it returns PRECOPY_PAGE_COUNT.
  */
 PRECOPY_ANSWERS PRECOPY_NOT_NULL(1, 2, 5)
 uint32_t precopy_trace_check_pages(const struct precopy_trace *trace, const struct precopy_progress *progress,
                                    const uint32_t *greatest, size_t greatest_length, struct precopy_finding *found);
+
+/*
+ * Begins a check of streams onto a destination that has the memory before a tick, as a plan with that base has it: sets
+ * `memory` to it, and each page's word of `greatest` to its version there, plus 1. So a page without a write from there
+ * to the stop need not come. What both held before is lost. The words of a stream's last stamps still begin as zeros.
+ *
+ * It returns PRECOPY_MEMORY_LENGTH or PRECOPY_PAGE_COUNT, as precopy_trace_check_piece does, and changes nothing then.
+ */
+PRECOPY_ANSWERS PRECOPY_NOT_NULL(1)
+uint32_t precopy_trace_check_base(const struct precopy_trace *trace, uint64_t tick, uint32_t *greatest,
+                                  size_t greatest_length, uint8_t *memory, size_t memory_length);
+
+/*
+ * Checks a page that comes without a stamp, as from an engine that knows its dirty pages alone. Its bytes are right if
+ * the page has them after some of its writes: no fewer than `memory` has it after, and none behind the first `stop` of
+ * the trace. The least such version, plus 1, is then the page's word of `greatest`, and `memory` has the bytes. Words
+ * and memory are those of precopy_trace_check_piece. At the end precopy_trace_differs tells if the memory is right.
+ *
+ * Before it checks anything it may return PRECOPY_MEMORY_LENGTH, PRECOPY_PAGE_COUNT, PRECOPY_NO_PAGE, or
+ * PRECOPY_PAGE_LENGTH, in this order. It returns PRECOPY_OTHER_BYTES if the page has the bytes at no such version.
+ * Whatever it returns but PRECOPY_OK, nothing changes.
+ */
+PRECOPY_ANSWERS PRECOPY_NOT_NULL(1)
+uint32_t precopy_trace_check_bytes(const struct precopy_trace *trace, uint32_t stop, uint32_t page,
+                                   const uint8_t *content, size_t content_length, uint32_t *greatest,
+                                   size_t greatest_length, uint8_t *memory, size_t memory_length);
+
+/*
+ * Compares memory with that after the first `count` writes of the trace, in `room`, which has the bytes of a page and
+ * is written over. It returns PRECOPY_OK if they are equal. Otherwise it returns PRECOPY_PAGE_BEHIND and sets *found:
+ * `offset` is the first byte of memory that differs, `page` its page, `wanted` the page's version, and `missing` and
+ * `tick` those of the last write to that byte, or 0 if none of these writes wrote it.
+ *
+ * Before that it may return PRECOPY_MEMORY_LENGTH, or PRECOPY_PAGE_LENGTH for `room`. *found stays then.
+ */
+PRECOPY_ANSWERS PRECOPY_NOT_NULL(1, 7)
+uint32_t precopy_trace_differs(const struct precopy_trace *trace, uint32_t count, const uint8_t *memory,
+                               size_t memory_length, uint8_t *room, size_t room_length, struct precopy_finding *found);
 
 /* ---- traces that are written */
 

@@ -125,16 +125,16 @@ def try_library(tally, folder, files):
 
 def try_symbols(tally, files):
     """Programs that are linked with the library depend on it by its symbols: those are the calls of the header."""
-    (package,) = (path for path in files if os.path.basename(path).startswith("libprecopy4_"))
+    (package,) = (path for path in files if os.path.basename(path).startswith("libprecopy5_"))
     told = run("dpkg-deb", "--info", package, "symbols").stdout
-    listed = re.findall(r"^ (precopy_\w+)@PRECOPY_4 \d", told, re.M)
+    listed = re.findall(r"^ (precopy_\w+)@PRECOPY_5 \d", told, re.M)
     with open(os.path.join(TOP, "include", "precopy.h"), encoding="utf-8") as file:
         called = re.findall(r"^(?:uint32_t |bool |const char \*)(precopy_\w+)\(", file.read(), re.M)
     tally.add(called and set(listed) == set(called), f"the symbols of {package} are {listed}, and not {called}")
 
 
 def try_loaded(tally, tree):
-    line = "import ctypes; it = ctypes.CDLL('libprecopy.so.4').precopy_version; it.restype = ctypes.c_char_p"
+    line = "import ctypes; it = ctypes.CDLL('libprecopy.so.5').precopy_version; it.restype = ctypes.c_char_p"
     ran = in_tree(tree, f'python3 -c "{line}; print(it().decode())"')
     tally.add(ran.stdout == f"{contents.version.VERSION}\n", f"in a fresh tree: the library loaded: {ran.stdout}")
     line = "import precopy; trace = open('/usr/share/doc/precopy/examples/gzip.pcwt', 'rb').read()"

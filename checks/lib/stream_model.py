@@ -161,9 +161,13 @@ def wrong_page(guest: Guest, stop: int, greatest: dict[int, int]) -> Optional[Wr
     return None
 
 
-def first_wrong(guest: Guest, stop: int, streams: list[bytes]) -> Optional[Wrong]:
-    """What is wrong first: in the streams, one after the other, and then at the stop, after so many writes."""
+def first_wrong(guest: Guest, stop: int, streams: list[bytes], base: Optional[int] = None) -> Optional[Wrong]:
+    """What is wrong first: in the streams, one after the other, and then at the stop, after so many writes. With a base
+    the destination has each page as it is before that tick."""
     greatest: dict[int, int] = {}
+    if base is not None:
+        count = guest.writes_before(base)
+        greatest = {number: page.version(count) for number, page in enumerate(guest.pages)}
     for number, data in enumerate(streams):
         if wrong := wrong_frame(guest, stop, number, data, greatest):
             return wrong

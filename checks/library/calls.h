@@ -7,7 +7,8 @@
 #include <string.h>
 
 struct guest {
-    struct room trace, settings, cases, question, starts, sizes, page, stream, streams, lengths, states;
+    struct room trace, settings, cases, question, starts, sizes, page, stream, streams, lengths, words, greatest;
+    struct precopy_trace held; /* the trace, which stays open over the words */
     uint64_t tick;
     uint32_t stamp; /* the last version of page 0 */
 };
@@ -109,24 +110,29 @@ static uint32_t memory_step(const struct guest *g, struct outputs *out) {
                                (void *)out->record.at);
 }
 
+/* What is written is the index, and what is told how many words it has. */
+static uint32_t trace_open(const struct guest *g, struct outputs *out) {
+    struct precopy_trace held;
+    return precopy_trace_open(g->trace.at, g->trace.length, (void *)out->room.at, out->room.length / sizeof(uint32_t),
+                              &held, (void *)out->told.at, (void *)out->record.at);
+}
+
 static uint32_t version_after(const struct guest *g, struct outputs *out) {
-    return precopy_version_after(g->trace.at, g->trace.length, 0, UINT32_MAX, (void *)out->told.at,
-                                 (void *)out->record.at);
+    return precopy_trace_version_after(&g->held, 0, UINT32_MAX, (void *)out->told.at);
 }
 
 static uint32_t versions_after(const struct guest *g, struct outputs *out) {
-    return precopy_versions_after(g->trace.at, g->trace.length, UINT32_MAX, (void *)out->room.at,
-                                  out->room.length / sizeof(uint32_t), (void *)out->told.at, (void *)out->record.at);
+    return precopy_trace_versions_after(&g->held, UINT32_MAX, (void *)out->room.at, out->room.length / sizeof(uint32_t),
+                                        (void *)out->told.at);
 }
 
 static uint32_t versions_before(const struct guest *g, struct outputs *out) {
-    return precopy_versions_before(g->trace.at, g->trace.length, g->tick, (void *)out->room.at,
-                                   out->room.length / sizeof(uint32_t), (void *)out->told.at, (void *)out->record.at);
+    return precopy_trace_versions_before(&g->held, g->tick, (void *)out->room.at, out->room.length / sizeof(uint32_t),
+                                         (void *)out->told.at);
 }
 
 static uint32_t page_at(const struct guest *g, struct outputs *out) {
-    return precopy_page_at(g->trace.at, g->trace.length, 0, g->stamp, out->room.at, out->room.length,
-                           (void *)out->record.at);
+    return precopy_trace_page_at(&g->held, 0, g->stamp, out->room.at, out->room.length);
 }
 
 static uint32_t page_writes(const struct guest *g, struct outputs *out) {
@@ -141,28 +147,23 @@ static uint32_t check_streams(const struct guest *g, struct outputs *out) {
                                  (void *)out->record.at);
 }
 
-/* The first stream of a guest in one piece. The states are what is told; if they stay zeros, they get their pattern
- * back. */
+/* The first stream of a guest in one piece. What is told is what is lent: the words of its last stamps, those of the
+ * greatest, and the memory. */
 static uint32_t check_piece(const struct guest *g, struct outputs *out) {
     struct precopy_progress progress = {0, 0, 0, UINT32_MAX};
     struct precopy_finding found;
-    size_t first = g->lengths.length ? *(const size_t *)(const void *)g->lengths.at : 0;
+    size_t first = *(const size_t *)(const void *)g->lengths.at, pages = g->held.sizes.pages;
+    uint32_t *last = (void *)out->told.at, *greatest = last + pages;
     memset(out->told.at, 0, out->told.length);
-    uint32_t status =
-        precopy_check_piece(g->trace.at, g->trace.length, g->streams.at, first, &progress, (void *)out->told.at,
-                            out->told.length / sizeof(struct precopy_page), &found, (void *)out->record.at);
-    if (status != PRECOPY_OK && precopy_is_zero(out->told.at, out->told.length)) {
-        memset(out->told.at, PATTERN, out->told.length);
-    }
-    return status;
+    return precopy_trace_check_piece(&g->held, g->streams.at, first, &progress, last, pages, greatest, pages,
+                                     (void *)(greatest + pages), pages << g->held.sizes.shift, &found);
 }
 
-/* The end of the streams, by the states that they leave. */
+/* The end of the streams, by the words of the greatest stamps that they leave. */
 static uint32_t check_pages(const struct guest *g, struct outputs *out) {
     struct precopy_progress progress = {2, 0, 0, UINT32_MAX};
-    return precopy_check_pages(g->trace.at, g->trace.length, &progress, (void *)g->states.at,
-                               g->states.length / sizeof(struct precopy_page), (void *)out->told.at,
-                               (void *)out->record.at);
+    return precopy_trace_check_pages(&g->held, &progress, (void *)g->greatest.at, g->greatest.length / sizeof(uint32_t),
+                                     (void *)out->told.at);
 }
 
 static uint32_t encode(const struct guest *g, struct outputs *out) {

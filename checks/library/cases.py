@@ -22,6 +22,7 @@ from checks.library import (
     starts,
     streams,
     traces,
+    unstamped,
 )
 from precopy_dev.tree import TOP
 from precopy_tools import version
@@ -30,6 +31,7 @@ WARNINGS = ["-Wall", "-Wextra", "-pedantic", "-Werror"]
 SANITIZERS = ["-fsanitize=address,undefined", "-fno-sanitize-recover=all", "-g", "-O1"]
 # The guard page at which the buffers of a call lie, as checks/library/fences.c is told.
 FENCES = ("front", "behind")
+ROWS = ("rows", "unstamped", "edges")
 WITHOUT_BUFFERS = {"precopy_strerror", "precopy_version", "precopy_abi"}
 
 
@@ -46,23 +48,23 @@ def names_of(header):
 def check_form(tally):
     header = read("include/precopy.h", "r")
     declared, numbers = names_of(header)
-    shared, archive = os.path.join(LIBRARY, "libprecopy.so.4"), os.path.join(LIBRARY, "libprecopy.a")
+    shared, archive = os.path.join(LIBRARY, "libprecopy.so.5"), os.path.join(LIBRARY, "libprecopy.a")
     found = run("nm", "-D", "--defined-only", "-f", "posix", shared).stdout.decode().split("\n")
     exported = {line.split()[0].split("@")[0] for line in found if line and " A " not in line}
-    tally.add(exported == declared, f"libprecopy.so.4 and the header differ in {sorted(exported ^ declared)}")
+    tally.add(exported == declared, f"libprecopy.so.5 and the header differ in {sorted(exported ^ declared)}")
     versions = {line.split()[0].partition("@")[2].lstrip("@") for line in found if line and " A " not in line}
     found = run("nm", "-g", "--defined-only", "-f", "posix", archive).stdout.decode().split("\n")
     exported = {line.split()[0] for line in found if " T " in line or " D " in line or " R " in line}
     tally.add(exported == declared, f"libprecopy.a and the header differ in {sorted(exported ^ declared)}")
     told = run("readelf", "-d", shared).stdout.decode()
-    tally.add("[libprecopy.so.4]" in told and "TEXTREL" not in told, f"readelf -d tells\n{told}")
+    tally.add("[libprecopy.so.5]" in told and "TEXTREL" not in told, f"readelf -d tells\n{told}")
     number = re.search(r"SONAME.*\[libprecopy\.so\.(\d+)\]", told)
     tally.add(number and versions == {f"PRECOPY_{number[1]}"}, f"the symbols have the versions {versions}, and\n{told}")
     needed = set(re.findall(r"NEEDED.*\[(.*)\]", told))
-    tally.add(needed <= {"libc.so.6"}, f"libprecopy.so.4 needs {sorted(needed)}")
+    tally.add(needed <= {"libc.so.6"}, f"libprecopy.so.5 needs {sorted(needed)}")
     size = os.path.getsize(shared)
-    tally.add(size < 136 * 1024, f"libprecopy.so.4 has {size} bytes")
-    print(f"libprecopy.so.4 has {size} bytes, libprecopy.a {os.path.getsize(archive)}", flush=True)
+    tally.add(size < 136 * 1024, f"libprecopy.so.5 has {size} bytes")
+    print(f"libprecopy.so.5 has {size} bytes, libprecopy.a {os.path.getsize(archive)}", flush=True)
     # The contracts say the same numbers, but for two that no call answers: a failed read, and threads out of range.
     names = ("Answers", "Places", "Predictions", "Starts", "StreamChecks")
     files = ["c_layout/specs/Refusals.antt", *(f"c_answers/specs/{name}.antt" for name in names)]
@@ -183,9 +185,7 @@ def check_fences(tally):
     declared = names_of(read("include/precopy.h", "r"))[0] - WITHOUT_BUFFERS
     differ = declared ^ set(fenced())
     tally.add(not differ, f"the header and checks/library/fences.c differ in {sorted(differ)}")
-    made = re.findall(
-        r"\b(precopy_\w+)\(", "".join(read(f"checks/library/{name}.c", "r") for name in ("rows", "edges"))
-    )
+    made = re.findall(r"\b(precopy_\w+)\(", "".join(read(f"checks/library/{name}.c", "r") for name in ROWS))
     tally.add(declared <= set(made), f"no row makes the calls {sorted(declared - set(made))}")
 
 
@@ -200,7 +200,7 @@ def is_compiled(tally, folder, source, *words):
 
 def check_rows(tally, folder):
     """Worked examples of each function; null pointers with length 0, and the order of refusals."""
-    for name in ("rows", "edges"):
+    for name in ROWS:
         source = f"checks/library/{name}.c"
         if is_compiled(tally, folder, source, "-std=c99"):
             for fence in FENCES:
@@ -334,6 +334,7 @@ def check(tally, folder, given):
         "streams": lambda: (check_streams(tally), streams.check(tally)),
         "places": lambda: places.check(tally),
         "opened": lambda: open_traces.check(tally),
+        "unstamped": lambda: unstamped.check(tally),
         "recordings": lambda: recordings.check(tally),
         "starts": lambda: starts.check(tally, folder, given.precopy_view),
         "python": lambda: python.check(tally, folder),

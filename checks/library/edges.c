@@ -57,20 +57,11 @@ static void nulls_of_traces(void) {
     ROW(precopy_sweep(trace, sizeof trace, &good, 1, NULL, 0, &count, &record) == PRECOPY_SHORT_BUFFER && count == 0);
     ROW(precopy_sweep(trace, sizeof trace, NULL, 0, &sums, 1, &count, &record) == PRECOPY_OK && count == 0);
     ROW(precopy_writes_before(NULL, 0, 1, &written, &record) == PRECOPY_SHORT_HEADER);
-    ROW(precopy_version_after(NULL, 0, 0, 1, &written, &record) == PRECOPY_SHORT_HEADER);
-    ROW(precopy_versions_after(NULL, 0, 1, NULL, 0, &count, &record) == PRECOPY_SHORT_HEADER && count == 0);
-    ROW(precopy_versions_after(trace, sizeof trace, 1, NULL, 0, &count, &record) == PRECOPY_SHORT_BUFFER && count == 1);
-    count = 0;
-    ROW(precopy_versions_before(NULL, 0, 8, NULL, 0, &count, &record) == PRECOPY_SHORT_HEADER && count == 0);
-    ROW(precopy_versions_before(trace, sizeof trace, 8, NULL, 0, &count, &record) == PRECOPY_SHORT_BUFFER
-        && count == 1);
-    count = 0;
-    ROW(precopy_page_at(NULL, 0, 0, 1, NULL, 0, &record) == PRECOPY_SHORT_HEADER);
-    ROW(precopy_page_at(trace, sizeof trace, 0, 1, NULL, 0, &record) == PRECOPY_SHORT_BUFFER);
     ROW(precopy_trace_open(NULL, 0, NULL, 0, &held, &count, &record) == PRECOPY_SHORT_HEADER && count == 0);
     ROW(precopy_trace_open(trace, sizeof trace, NULL, 0, &held, &count, &record) == PRECOPY_SHORT_BUFFER && count > 0);
     ROW(precopy_trace_open(trace, sizeof trace, words, count, &held, &count, &record) == PRECOPY_OK);
     ROW(precopy_trace_versions_after(&held, 1, NULL, 0, &count) == PRECOPY_SHORT_BUFFER && count == 1);
+    count = 0;
     ROW(precopy_trace_versions_before(&held, 1, NULL, 0, &count) == PRECOPY_SHORT_BUFFER && count == 1);
     ROW(precopy_trace_memory_before(&held, 1, NULL, 0, &count) == PRECOPY_SHORT_BUFFER && count == 16);
     ROW(precopy_trace_page_at(&held, 0, 1, NULL, 0) == PRECOPY_SHORT_BUFFER);
@@ -92,7 +83,6 @@ static void nulls_of_frames(void) {
     struct precopy_page state = {0, 0};
     struct precopy_finding found = {9, 9, 9, 9, 9, 9, 9, 9};
     struct precopy_progress progress = {0, 0, 0, 1};
-    struct precopy_page states[2] = {{0, 0}, {0, 0}};
     struct precopy_trace held;
     uint32_t words[4], last[1] = {0}, greatest[1] = {0};
     uint8_t memory[16] = {0};
@@ -104,6 +94,15 @@ static void nulls_of_frames(void) {
         == PRECOPY_PAGE_COUNT);
     ROW(precopy_trace_check_pages(&held, &progress, NULL, 0, &found) == PRECOPY_PAGE_COUNT);
     ROW(precopy_trace_check_piece(&held, NULL, 0, &progress, last, 1, greatest, 1, memory, 16, &found) == PRECOPY_OK);
+    ROW(precopy_trace_check_base(&held, 8, NULL, 0, NULL, 0) == PRECOPY_MEMORY_LENGTH);
+    ROW(precopy_trace_check_base(&held, 8, NULL, 0, memory, 16) == PRECOPY_PAGE_COUNT);
+    ROW(precopy_trace_check_bytes(&held, 1, 1, NULL, 0, NULL, 0, NULL, 0) == PRECOPY_MEMORY_LENGTH);
+    ROW(precopy_trace_check_bytes(&held, 1, 1, NULL, 0, NULL, 0, memory, 16) == PRECOPY_PAGE_COUNT);
+    ROW(precopy_trace_check_bytes(&held, 1, 1, NULL, 0, greatest, 1, memory, 16) == PRECOPY_NO_PAGE);
+    ROW(precopy_trace_check_bytes(&held, 1, 0, NULL, 0, greatest, 1, memory, 16) == PRECOPY_PAGE_LENGTH);
+    ROW(greatest[0] == 0 && precopy_is_zero(memory, 16));
+    ROW(precopy_trace_differs(&held, 1, NULL, 0, NULL, 0, &found) == PRECOPY_MEMORY_LENGTH && found.page == 9);
+    ROW(precopy_trace_differs(&held, 1, memory, 16, NULL, 0, &found) == PRECOPY_PAGE_LENGTH && found.page == 9);
     needed = 9;
     ROW(precopy_encode_frame(&sizes, 0, 1, NULL, 0, NULL, 0, &needed) == PRECOPY_PAGE_LENGTH && needed == 9);
     ROW(precopy_encode_frame(&sizes, 0, 1, page, 16, NULL, 0, &needed) == PRECOPY_SHORT_BUFFER && needed == 25);
@@ -116,14 +115,6 @@ static void nulls_of_frames(void) {
         && found.offset == 9);
     ROW(precopy_check_streams(trace, sizeof trace, 1, NULL, 0, NULL, 0, &found, &record) == PRECOPY_PAGE_MISSING);
     ROW(found.missing == 1 && found.tick == 7);
-    ROW(precopy_check_piece(NULL, 0, NULL, 0, &progress, NULL, 0, &found, &record) == PRECOPY_SHORT_HEADER);
-    ROW(precopy_check_piece(trace, sizeof trace, NULL, 0, &progress, NULL, 0, &found, &record) == PRECOPY_PAGE_COUNT);
-    ROW(precopy_check_piece(trace, sizeof trace, NULL, 0, &progress, states, 2, &found, &record) == PRECOPY_OK);
-    ROW(precopy_check_piece(trace, 20, NULL, 0, &progress, states, 1, &found, &record) == PRECOPY_SHORT_RECORD
-        && forget() == 0);
-    ROW(precopy_check_pages(trace, 20, &progress, states, 1, &found, &record) == PRECOPY_SHORT_RECORD && forget() == 0);
-    ROW(precopy_check_pages(NULL, 0, &progress, NULL, 0, &found, &record) == PRECOPY_SHORT_HEADER);
-    ROW(precopy_check_pages(trace, sizeof trace, &progress, NULL, 0, &found, &record) == PRECOPY_PAGE_COUNT);
     ROW(precopy_missing(NULL, 0, &needed) == PRECOPY_OK && needed == 25);
     ROW(precopy_is_zero(NULL, 0));
     ROW(precopy_refusal_text(PRECOPY_SHORT_HEADER, 0, NULL, 0, &needed) == PRECOPY_SHORT_BUFFER && needed > 25);
@@ -233,12 +224,13 @@ static void order_of_starts(void) {
 
 static void order_of_places(void) {
     struct precopy_write writes[1];
-    uint32_t version;
+    struct precopy_trace held;
+    uint32_t words[4];
     size_t count;
-    ROW(precopy_version_after(trace, 32, 1, 1, &version, &record) == PRECOPY_SHORT_RECORD && forget() == 0);
-    ROW(precopy_page_at(trace, 32, 1, 2, NULL, 0, &record) == PRECOPY_SHORT_RECORD && forget() == 0);
-    ROW(precopy_page_at(trace, sizeof trace, 1, 2, NULL, 0, &record) == PRECOPY_NO_PAGE);
-    ROW(precopy_page_at(trace, sizeof trace, 0, 2, NULL, 0, &record) == PRECOPY_NO_VERSION);
+    ROW(precopy_trace_open(trace, 32, NULL, 0, &held, &count, &record) == PRECOPY_SHORT_RECORD && forget() == 0);
+    ROW(precopy_trace_open(trace, sizeof trace, words, 4, &held, &count, &record) == PRECOPY_OK);
+    ROW(precopy_trace_page_at(&held, 1, 2, NULL, 0) == PRECOPY_NO_PAGE);
+    ROW(precopy_trace_page_at(&held, 0, 2, NULL, 0) == PRECOPY_NO_VERSION);
     ROW(precopy_page_writes(trace, 32, 1, writes, 0, &count, &record) == PRECOPY_SHORT_RECORD && forget() == 0);
     ROW(precopy_page_writes(trace, sizeof trace, 1, writes, 0, &count, &record) == PRECOPY_NO_PAGE);
     ROW(precopy_memory_step(trace, 32, 2, 1, NULL, 0, &record) == PRECOPY_BACKWARDS);

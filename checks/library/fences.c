@@ -9,104 +9,7 @@
  * written.
  */
 #define _GNU_SOURCE
-#include "precopy.h"
-
-#include <stdint.h>
-#include <stdio.h>
-#include <stdlib.h>
-#include <string.h>
-#include <sys/mman.h>
-#include <unistd.h>
-
-#define PATTERN 0xA5
-#define FRONT 64
-#define MOST_BUFFERS 9
-
-/* A buffer of a call, and the memory between two guard pages in which it lies meanwhile. */
-struct room {
-    void *of;    /* the caller's, if the call may write it */
-    uint8_t *at; /* where it lies meanwhile */
-    size_t length;
-    uint8_t *mapped; /* the page in front */
-    size_t inside;   /* how many bytes are between the pages */
-};
-
-struct fences {
-    struct room rooms[MOST_BUFFERS];
-    size_t count;
-};
-
-static size_t page_size(void) { return (size_t)sysconf(_SC_PAGESIZE); }
-
-static void stop(const char *what) {
-    fprintf(stderr, "FAILED fences: %s\n", what);
-    abort();
-}
-
-static struct room *fenced(struct fences *fences, const void *bytes, size_t length) {
-    size_t page = page_size(), inside = (length + FRONT + page - 1) / page * page;
-    const char *side = getenv("FENCE");
-    uint8_t *mapped = mmap(NULL, inside + 2 * page, PROT_NONE, MAP_PRIVATE | MAP_ANONYMOUS, -1, 0);
-    if (fences->count == MOST_BUFFERS || mapped == MAP_FAILED
-        || mprotect(mapped + page, inside, PROT_READ | PROT_WRITE)) {
-        stop("a buffer has no guard pages");
-    }
-    uint8_t *at = mapped + page + (side && !strcmp(side, "front") ? 0 : inside - length);
-    memset(mapped + page, PATTERN, inside);
-    memcpy(at, bytes, length);
-    fences->rooms[fences->count] = (struct room){NULL, at, length, mapped, inside};
-    return &fences->rooms[fences->count++];
-}
-
-/* A buffer that a call reads. A null pointer stays one. */
-static const void *read_only(struct fences *fences, const void *bytes, size_t length) {
-    if (!bytes) {
-        return NULL;
-    }
-    struct room *room = fenced(fences, bytes, length);
-    if (mprotect(room->mapped + page_size(), room->inside, PROT_READ)) {
-        stop("a buffer can be written");
-    }
-    return room->at;
-}
-
-/* A buffer that a call may write. */
-static void *writable(struct fences *fences, void *bytes, size_t length) {
-    if (!bytes) {
-        return NULL;
-    }
-    struct room *room = fenced(fences, bytes, length);
-    room->of = bytes;
-    return room->at;
-}
-
-static int is_pattern(const uint8_t *at, const uint8_t *end) {
-    while (at < end && *at == PATTERN) {
-        at++;
-    }
-    return at == end;
-}
-
-/* Gives the caller what a call wrote, and its status. */
-static uint32_t given_back(struct fences *fences, uint32_t status) {
-    for (struct room *room = fences->rooms; room < fences->rooms + fences->count; room++) {
-        const uint8_t *begin = room->mapped + page_size(), *end = room->at + room->length;
-        if (!is_pattern(begin, room->at) || !is_pattern(end, begin + room->inside)) {
-            stop("a call wrote beside a buffer");
-        }
-        if (room->of) {
-            memcpy(room->of, room->at, room->length);
-        }
-        munmap(room->mapped, room->inside + 2 * page_size());
-    }
-    return status;
-}
-
-/* The call itself, and the one that programs make in its place. */
-#define FENCED(name) extern __typeof__(precopy_##name) __real_precopy_##name, __wrap_precopy_##name
-/* Buffers of some elements, in a call whose fences are `all`. */
-#define IN(at, count) read_only(&all, at, (count) * sizeof *(at))
-#define OUT(at, count) writable(&all, at, (count) * sizeof *(at))
+#include "fences.h"
 
 FENCED(refusal_text);
 uint32_t __wrap_precopy_refusal_text(uint32_t status, uint32_t record, uint8_t *text, size_t text_length,
@@ -253,40 +156,6 @@ uint32_t __wrap_precopy_memory_step(const uint8_t *trace, size_t length, uint32_
                                                        memory_length, OUT(record, 1)));
 }
 
-FENCED(version_after);
-uint32_t __wrap_precopy_version_after(const uint8_t *trace, size_t length, uint32_t page, uint32_t count,
-                                      uint32_t *version, uint32_t *record) {
-    struct fences all = {.count = 0};
-    return given_back(
-        &all, __real_precopy_version_after(IN(trace, length), length, page, count, OUT(version, 1), OUT(record, 1)));
-}
-
-FENCED(versions_after);
-uint32_t __wrap_precopy_versions_after(const uint8_t *trace, size_t length, uint32_t count, uint32_t *versions,
-                                       size_t versions_length, size_t *needed, uint32_t *record) {
-    struct fences all = {.count = 0};
-    return given_back(&all,
-                      __real_precopy_versions_after(IN(trace, length), length, count, OUT(versions, versions_length),
-                                                    versions_length, OUT(needed, 1), OUT(record, 1)));
-}
-
-FENCED(versions_before);
-uint32_t __wrap_precopy_versions_before(const uint8_t *trace, size_t length, uint64_t tick, uint32_t *versions,
-                                        size_t versions_length, size_t *needed, uint32_t *record) {
-    struct fences all = {.count = 0};
-    return given_back(&all,
-                      __real_precopy_versions_before(IN(trace, length), length, tick, OUT(versions, versions_length),
-                                                     versions_length, OUT(needed, 1), OUT(record, 1)));
-}
-
-FENCED(page_at);
-uint32_t __wrap_precopy_page_at(const uint8_t *trace, size_t length, uint32_t page, uint32_t stamp, uint8_t *content,
-                                size_t content_length, uint32_t *record) {
-    struct fences all = {.count = 0};
-    return given_back(&all, __real_precopy_page_at(IN(trace, length), length, page, stamp, OUT(content, content_length),
-                                                   content_length, OUT(record, 1)));
-}
-
 FENCED(page_writes);
 uint32_t __wrap_precopy_page_writes(const uint8_t *trace, size_t length, uint32_t page, struct precopy_write *writes,
                                     size_t writes_length, size_t *count, uint32_t *record) {
@@ -404,6 +273,39 @@ uint32_t __wrap_precopy_trace_check_pages(const struct precopy_trace *trace, con
                                                        IN(greatest, greatest_length), greatest_length, OUT(found, 1)));
 }
 
+FENCED(trace_check_base);
+uint32_t __wrap_precopy_trace_check_base(const struct precopy_trace *trace, uint64_t tick, uint32_t *greatest,
+                                         size_t greatest_length, uint8_t *memory, size_t memory_length) {
+    struct fences all = {.count = 0};
+    struct precopy_trace meanwhile;
+    return given_back(&all, __real_precopy_trace_check_base(open_trace(&all, trace, &meanwhile), tick,
+                                                            OUT(greatest, greatest_length), greatest_length,
+                                                            OUT(memory, memory_length), memory_length));
+}
+
+FENCED(trace_check_bytes);
+uint32_t __wrap_precopy_trace_check_bytes(const struct precopy_trace *trace, uint32_t stop, uint32_t page,
+                                          const uint8_t *content, size_t content_length, uint32_t *greatest,
+                                          size_t greatest_length, uint8_t *memory, size_t memory_length) {
+    struct fences all = {.count = 0};
+    struct precopy_trace meanwhile;
+    return given_back(&all, __real_precopy_trace_check_bytes(open_trace(&all, trace, &meanwhile), stop, page,
+                                                             IN(content, content_length), content_length,
+                                                             OUT(greatest, greatest_length), greatest_length,
+                                                             OUT(memory, memory_length), memory_length));
+}
+
+FENCED(trace_differs);
+uint32_t __wrap_precopy_trace_differs(const struct precopy_trace *trace, uint32_t count, const uint8_t *memory,
+                                      size_t memory_length, uint8_t *room, size_t room_length,
+                                      struct precopy_finding *found) {
+    struct fences all = {.count = 0};
+    struct precopy_trace meanwhile;
+    return given_back(&all, __real_precopy_trace_differs(open_trace(&all, trace, &meanwhile), count,
+                                                         IN(memory, memory_length), memory_length,
+                                                         OUT(room, room_length), room_length, OUT(found, 1)));
+}
+
 FENCED(encode_frame);
 uint32_t __wrap_precopy_encode_frame(const struct precopy_sizes *sizes, uint32_t page, uint32_t stamp,
                                      const uint8_t *bytes, size_t bytes_length, uint8_t *frame, size_t frame_length,
@@ -446,26 +348,6 @@ uint32_t __wrap_precopy_check_streams(const uint8_t *trace, size_t length, uint3
     return given_back(&all, __real_precopy_check_streams(IN(trace, length), length, stop, IN(bytes, bytes_length),
                                                          bytes_length, IN(sizes, sizes_length), sizes_length,
                                                          OUT(found, 1), OUT(record, 1)));
-}
-
-FENCED(check_piece);
-uint32_t __wrap_precopy_check_piece(const uint8_t *trace, size_t length, const uint8_t *piece, size_t piece_length,
-                                    struct precopy_progress *progress, struct precopy_page *states,
-                                    size_t states_length, struct precopy_finding *found, uint32_t *record) {
-    struct fences all = {.count = 0};
-    return given_back(&all, __real_precopy_check_piece(IN(trace, length), length, IN(piece, piece_length), piece_length,
-                                                       OUT(progress, 1), OUT(states, states_length), states_length,
-                                                       OUT(found, 1), OUT(record, 1)));
-}
-
-FENCED(check_pages);
-uint32_t __wrap_precopy_check_pages(const uint8_t *trace, size_t length, const struct precopy_progress *progress,
-                                    const struct precopy_page *states, size_t states_length,
-                                    struct precopy_finding *found, uint32_t *record) {
-    struct fences all = {.count = 0};
-    return given_back(&all,
-                      __real_precopy_check_pages(IN(trace, length), length, IN(progress, 1), IN(states, states_length),
-                                                 states_length, OUT(found, 1), OUT(record, 1)));
 }
 
 FENCED(record_begin);

@@ -93,6 +93,7 @@ static void try_refusals(const struct guest *guest, const struct trial *trial) {
         uint32_t status = trial->call(guest, &out);
         int came = atomic_load(&asked) >= number;
         atomic_store(&refused_at, 0);
+        expect(!came || strncmp(trial->name, "trace_", 6), trial->name, "it takes memory");
         expect(atomic_load(&live) == 0, trial->name, "memory is not given back");
         expect(is_untouched(&out.record, 0), trial->name, "a record of a trace that is not refused");
         if (came) {
@@ -208,7 +209,7 @@ static void last_places(const struct room *trace, uint32_t writes, uint32_t *pla
     }
 }
 
-/* Makes two streams of a guest's last memory, in which all is right, and the states that they leave. */
+/* Makes two streams of a guest's last memory, in which all is right, and the words of the stamps that they leave. */
 static void make_streams(struct guest *guest, const struct precopy_sizes *sizes, const uint8_t *whole) {
     size_t size = (size_t)1 << sizes->shift, lengths[2] = {0, 0}, length = 0;
     uint8_t *stream = __real_malloc(sizes->pages * (size + 9));
@@ -223,16 +224,13 @@ static void make_streams(struct guest *guest, const struct precopy_sizes *sizes,
         lengths[page > sizes->pages / 2] += needed;
         length += needed;
     }
-    struct precopy_page *states = __real_malloc(2 * sizes->pages * sizeof *states);
-    for (uint32_t page = 0; page < sizes->pages; page++) {
-        states[page] = (struct precopy_page){0, 0};
-        states[sizes->pages + page] = (struct precopy_page){1, places[page]};
-    }
-    guest->states = input_of(states, 2 * sizes->pages * sizeof *states);
-    __real_free(states);
     guest->streams = input_of(stream, length);
     guest->lengths = input_of(lengths, sizeof lengths);
     guest->stamp = places[0];
+    for (uint32_t page = 0; page < sizes->pages; page++) {
+        places[page]++;
+    }
+    guest->greatest = input_of(places, sizes->pages * sizeof *places);
     __real_free(stream);
     __real_free(places);
 }
@@ -304,7 +302,7 @@ static void try_streams(const struct precopy_sizes *sizes, const uint8_t *earlie
 static void drop_guest(struct guest *guest) {
     struct room *rooms[] = {&guest->trace,   &guest->settings, &guest->cases, &guest->question,
                             &guest->starts,  &guest->sizes,    &guest->page,  &guest->stream,
-                            &guest->streams, &guest->lengths,  &guest->states};
+                            &guest->streams, &guest->lengths,  &guest->words, &guest->greatest};
     for (size_t i = 0; i < sizeof rooms / sizeof *rooms; i++) {
         drop(rooms[i]);
     }
@@ -326,10 +324,9 @@ static struct precopy_question question_of(uint64_t size, uint64_t pages) {
 
 /* Each call over a trace that is refused: the same number and record, and nothing else written. */
 static void try_refused(const struct guest *guest, uint32_t status, const struct room *record) {
-    call_of *calls[] = {plan,        rounds,        report,        sweep,       predict,        enough,
-                        memory,      memory_before, writes_before, memory_step, version_after,  page_at,
-                        page_writes, check_streams, check_piece,   check_pages, versions_after, versions_before,
-                        agreement,   forecast,      link_shares,   best_start};
+    call_of *calls[] = {plan,          rounds,        report,        sweep,       predict,    enough,
+                        memory,        memory_before, writes_before, memory_step, trace_open, page_writes,
+                        check_streams, agreement,     forecast,      link_shares, best_start};
     for (size_t i = 0; i < sizeof calls / sizeof *calls; i++) {
         struct outputs out = outputs_of(1920, sizeof(struct precopy_prediction) + sizeof(struct precopy_errors));
         uint32_t told = calls[i](guest, &out);
@@ -337,19 +334,25 @@ static void try_refused(const struct guest *guest, uint32_t status, const struct
         expect(!memcmp(out.record.at, record->at, record->length), "a refused trace", "its record");
         drop_outputs(&out);
     }
-    call_of *tests_first[] = {check_piece, check_pages};
-    for (size_t i = 0; i < sizeof tests_first / sizeof *tests_first; i++) {
-        struct outputs out = outputs_of(0, sizeof(struct precopy_finding));
-        atomic_store(&asked, 0);
-        expect(tests_first[i](guest, &out) == status, "a refused trace", "in pieces");
-        expect(atomic_load(&asked) == 0, "a refused trace", "memory for a check in pieces");
-        drop_outputs(&out);
-    }
+}
+
+/* Opens the trace of a guest over as many words as its index has. Returns how many bytes these are. */
+static size_t open_guest(struct guest *guest) {
+    const struct room *trace = &guest->trace;
+    size_t needed = 0;
+    uint32_t record = 9, status;
+    status = precopy_trace_open(trace->at, trace->length, NULL, 0, &guest->held, &needed, &record);
+    expect(status == PRECOPY_SHORT_BUFFER, "trace_open", "over no words");
+    guest->words = room_of(needed * sizeof(uint32_t));
+    status =
+        precopy_trace_open(trace->at, trace->length, (void *)guest->words.at, needed, &guest->held, &needed, &record);
+    expect(status == PRECOPY_OK && record == 9, "trace_open", "over enough words");
+    return needed * sizeof(uint32_t);
 }
 
 static void try_all(struct guest *guest, const struct precopy_sizes *sizes) {
     size_t bytes = (size_t)sizes->pages << sizes->shift, size = (size_t)1 << sizes->shift;
-    size_t row = sizeof(struct precopy_write);
+    size_t row = sizeof(struct precopy_write), word = sizeof(uint32_t), versions = sizes->pages * word;
     struct outputs whole = outputs_of(bytes, sizeof(size_t)), earlier = outputs_of(bytes, sizeof(size_t));
     expect(memory(guest, &whole) == PRECOPY_OK && memory_before(guest, &earlier) == PRECOPY_OK, "memory", "of a trace");
     uint8_t frame[9 + 4096];
@@ -362,6 +365,7 @@ static void try_all(struct guest *guest, const struct precopy_sizes *sizes) {
     expect(status == PRECOPY_OK, "encode_frame", "of page 0");
     guest->stream = input_of(frame, needed);
     make_streams(guest, sizes, whole.room.at);
+    size_t index = open_guest(guest);
     struct outputs none = outputs_of(0, sizeof(size_t));
     report(guest, &none);
     memcpy(&text, none.told.at, sizeof text);
@@ -385,14 +389,15 @@ static void try_all(struct guest *guest, const struct precopy_sizes *sizes) {
         {"memory", memory, bytes, sizeof(size_t), 1},
         {"memory_before", memory_before, bytes, sizeof(size_t), 1},
         {"writes_before", writes_before, 0, sizeof(uint32_t), 1},
-        {"version_after", version_after, 0, sizeof(uint32_t), 1},
-        {"versions_after", versions_after, sizes->pages * sizeof(uint32_t), sizeof(size_t), sizeof(uint32_t)},
-        {"versions_before", versions_before, sizes->pages * sizeof(uint32_t), sizeof(size_t), sizeof(uint32_t)},
-        {"page_at", page_at, size, 0, 1},
+        {"trace_open", trace_open, index, sizeof(size_t), word},
+        {"trace_version_after", version_after, 0, word, 1},
+        {"trace_versions_after", versions_after, versions, sizeof(size_t), word},
+        {"trace_versions_before", versions_before, versions, sizeof(size_t), word},
+        {"trace_page_at", page_at, size, 0, 1},
         {"page_writes", page_writes, writes * row, sizeof(size_t), row},
         {"check_streams", check_streams, 0, sizeof(struct precopy_finding), 1},
-        {"check_piece", check_piece, 0, 2 * sizes->pages * sizeof(struct precopy_page), 1},
-        {"check_pages", check_pages, 0, sizeof(struct precopy_finding), 1},
+        {"trace_check_piece", check_piece, 0, 2 * versions + bytes, 1},
+        {"trace_check_pages", check_pages, 0, sizeof(struct precopy_finding), 1},
         {"encode_frame", encode, needed, sizeof(size_t), 1},
         {"decode_frame", decode, size, sizeof(struct precopy_frame), 1},
     };

@@ -1,5 +1,5 @@
-"""Traces that stay open, over random traces: what they answer must be what stream_model.py works out from the bytes,
-what the calls over bytes answer, and for damaged traces the same refusals."""
+"""Traces that stay open, over random traces: what they answer must be what stream_model.py works out from the bytes.
+Memory and the refusals of damaged traces are also those of the calls over bytes."""
 
 import threading
 
@@ -35,7 +35,8 @@ def check_page(tally, opened, guest, number, chosen):
 
 def check_all(tally, opened, trace, guest, chosen):
     """All pages, after some writes and before some ticks."""
-    for count in {0, guest.write_count, (1 << 32) - 1, chosen.randint(0, guest.write_count + 2)}:
+    drawn_places = (chosen.randint(0, guest.write_count + 2) for _ in range(3))
+    for count in {0, guest.write_count, (1 << 32) - 1, *drawn_places}:
         found, wanted = opened.versions_after(count), [it.version(count) for it in guest.pages]
         tally.add(found == wanted, f"versions after {count} writes: {found}, not {wanted}")
     ticks = sorted(tick for page in guest.pages for tick, _, _ in page.writes)

@@ -1,5 +1,5 @@
-"""Versions and writes of pages, and memory that is brought on from place to place, over random traces. stream_model.py
-works them out from the bytes of the trace."""
+"""Writes of pages, and memory that is brought on from place to place, over random traces. stream_model.py works them
+out from the bytes of the trace."""
 
 import precopy
 from checks.lib import stream_model
@@ -7,7 +7,7 @@ from checks.lib.harness import drawn
 from checks.lib.traces import generated
 
 TRACES = 150
-NO_PAGE, BACKWARDS, NO_VERSION = 67, 68, 71
+NO_PAGE, BACKWARDS = 67, 68
 
 
 def status_of(call, *words):
@@ -18,34 +18,11 @@ def status_of(call, *words):
         return refused.status
 
 
-def check_page(tally, trace, guest, number, chosen):
+def check_page(tally, trace, guest, number):
     page = guest.pages[number]
     rows = [precopy.Write(place, tick, at, len(data)) for place, (tick, at, data) in zip(page.places, page.writes)]
     found = precopy.page_writes(trace, number)
     tally.add(found == rows, f"writes to page {number}: {found}, not {rows}")
-    for count in {0, 1, guest.write_count, guest.write_count + 1, chosen.randrange(1 << 32), *page.places}:
-        found, wanted = precopy.version_after(trace, number, count), page.version(count)
-        tally.add(found == wanted, f"page {number} after {count} writes: version {found}, not {wanted}")
-    for stamp in {0, 1, guest.write_count, guest.write_count + 1, chosen.randrange(1 << 32), *page.places}:
-        found = status_of(precopy.page_at, trace, number, stamp)
-        wanted = bytes(page.after(stamp)) if page.version(stamp) == stamp else NO_VERSION
-        tally.add(found == wanted, f"page {number} at {stamp}: {found}, not {wanted}")
-
-
-def check_versions(tally, trace, guest, chosen):
-    """Those of all pages, after some writes and before some ticks."""
-    drawn_places = (chosen.randint(0, guest.write_count + 2) for _ in range(3))
-    for count in {0, guest.write_count, (1 << 32) - 1, *drawn_places}:
-        found, wanted = precopy.versions_after(trace, count), [it.version(count) for it in guest.pages]
-        tally.add(found == wanted, f"versions after {count} writes: {found}, not {wanted}")
-    ticks = sorted({tick for page in guest.pages for tick, _, _ in page.writes})
-    for tick in {0, (1 << 64) - 1, *(tick + chosen.randint(0, 1) for tick in chosen.sample(ticks, min(len(ticks), 4)))}:
-        wanted = [
-            max((place for place, (at, _, _) in zip(page.places, page.writes) if at < tick), default=0)
-            for page in guest.pages
-        ]
-        found = precopy.versions_before(trace, tick)
-        tally.add(found == wanted, f"versions before tick {tick}: {found}, not {wanted}")
 
 
 def check_steps(tally, trace, guest, chosen):
@@ -82,10 +59,8 @@ def check_trace(tally, trace, chosen):
     guest = stream_model.Guest(trace)
     numbers = range(len(guest.pages))
     for number in chosen.sample(numbers, min(len(numbers), 5)):
-        check_page(tally, trace, guest, number, chosen)
-    check_versions(tally, trace, guest, chosen)
+        check_page(tally, trace, guest, number)
     check_steps(tally, trace, guest, chosen)
     for number in (len(numbers), chosen.randrange(len(numbers), 1 << 32)):
-        found = [status_of(precopy.version_after, trace, number, 1), status_of(precopy.page_at, trace, number, 0)]
-        found.append(status_of(precopy.page_writes, trace, number))
-        tally.add(set(found) == {NO_PAGE}, f"page {number} of {len(numbers)}: {found}")
+        found = status_of(precopy.page_writes, trace, number)
+        tally.add(found == NO_PAGE, f"writes to page {number} of {len(numbers)}: {found}")

@@ -21,7 +21,7 @@ from checks.lib.traces import header, record
 from checks.library import python_edges, traces
 from precopy_dev.tree import TOP
 
-LIBRARY = os.path.join(TOP, "out", "library", "libprecopy.so.4")
+LIBRARY = os.path.join(TOP, "out", "library", "libprecopy.so.5")
 SECONDS = 300
 HOSTILE = [-1, 1 << 31, 1 << 32, (1 << 32) + 1, (1 << 32) + 4, 1 << 63, 1 << 64, (1 << 64) + 1, 10**5000]
 HOSTILE += [-(1 << 31), -(1 << 32), -(1 << 63), -(1 << 64), -(10**30)]
@@ -49,21 +49,34 @@ def taking_numbers(trace):
         yield f"Sizes, {name}", lambda it, n=name: precopy.Sizes(**{"shift": 4, "pages": 1, "writes": 0, n: it}), ends
     yield "writes_before, tick", lambda it: precopy.writes_before(trace, it), (0, (1 << 64) - 1)
     pages, memory = precopy.check_trace(trace).pages, precopy.memory(trace)
-    yield "version_after, page", lambda it: precopy.version_after(trace, it, 1), (0, pages - 1)
-    yield "version_after, count", lambda it: precopy.version_after(trace, 0, it), (0, (1 << 32) - 1)
-    yield "versions_after, count", lambda it: precopy.versions_after(trace, it), (0, (1 << 32) - 1)
-    yield "versions_before, tick", lambda it: precopy.versions_before(trace, it), (0, (1 << 64) - 1)
-    yield "page_at, page", lambda it: precopy.page_at(trace, it, 0), (0, pages - 1)
-    quiet = quiet_page(trace)
-    yield "page_at, stamp", lambda it: precopy.page_at(trace, quiet, it), (0, 0)
     yield "page_writes, page", lambda it: precopy.page_writes(trace, it), (0, pages - 1)
     yield "memory_step, start", lambda it: precopy.memory_step(trace, it, 7, memory), (0, 7)
     yield "memory_step, end", lambda it: precopy.memory_step(trace, 7, it, memory), (7, (1 << 32) - 1)
     yield from numbers_of_questions(trace)
+    yield from numbers_of_open_traces(precopy.OpenTrace(trace), quiet_page(trace), memory)
     yield "check_streams, stop", lambda it: precopy.check_streams(trace, it, []), (0, (1 << 32) - 1)
     yield "encode_frame, page", lambda it: precopy.encode_frame(SIZES, it, 0, PAGE), (0, 2)
     yield "encode_frame, stamp", lambda it: precopy.encode_frame(SIZES, 0, it, PAGE), (0, 20)
     yield "stamp, page", precopy.FlatMemory(SIZES).stamp, (0, 2)
+
+
+def numbers_of_open_traces(opened, quiet, memory):
+    """Each number that a call over an open trace takes. To its page `quiet` no write goes."""
+    pages, page, counts, ticks = (0, opened.pages - 1), opened.page_at(quiet, 0), (0, (1 << 32) - 1), (0, (1 << 64) - 1)
+    yield "OpenTrace.writes_before, tick", opened.writes_before, ticks
+    yield "OpenTrace.memory_before, tick", opened.memory_before, ticks
+    yield "version_after, page", lambda it: opened.version_after(it, 1), pages
+    yield "version_after, count", lambda it: opened.version_after(0, it), counts
+    yield "versions_after, count", opened.versions_after, counts
+    yield "versions_before, tick", opened.versions_before, ticks
+    yield "page_at, page", lambda it: opened.page_at(it, 0), pages
+    yield "page_at, stamp", lambda it: opened.page_at(quiet, it), (0, 0)
+    yield "OpenTrace.check, stop", opened.check, counts
+    yield "OpenTrace.check, base", lambda it: opened.check(0, it), ticks
+    yield "take, stream", lambda it: opened.check(0).take(it, b""), ticks
+    yield "end_stream, stream", lambda it: opened.check(0).end_stream(it), ticks
+    yield "take_page, page", lambda it: opened.check(0).take_page(it, page), pages
+    yield "difference, count", lambda it: opened.difference(it, memory), counts
 
 
 def numbers_of_questions(trace):
@@ -161,15 +174,15 @@ def taking_bytes(trace, stream):
         yield call.__name__, trace, call
     yield "memory_before", trace, lambda it: precopy.memory_before(it, 700)
     yield "writes_before", trace, lambda it: precopy.writes_before(it, 700)
-    yield "version_after", trace, lambda it: precopy.version_after(it, 0, 9)
-    yield "versions_after", trace, lambda it: precopy.versions_after(it, 9)
-    yield "versions_before", trace, lambda it: precopy.versions_before(it, 700)
-    yield "page_at", trace, lambda it: precopy.page_at(it, 0, 0)
+    yield "OpenTrace", trace, lambda it: precopy.OpenTrace(it).versions_after(9)
     yield "page_writes", trace, lambda it: precopy.page_writes(it, 0)
     yield "memory_step", trace, step_of
     yield "check_streams, trace", trace, lambda it: precopy.check_streams(it, 9, [b""])
     for name, call in taking_streams():
         yield name, stream, call
+    opened = precopy.OpenTrace(header(3, 0))
+    yield "take_page", PAGE, lambda it: opened.check(0).take_page(1, it)
+    yield "difference", 3 * PAGE, lambda it: opened.difference(0, it)
     yield "encode_frame", PAGE, lambda it: precopy.encode_frame(SIZES, 2, 3, it)
     yield "decode_frame", stream, lambda it: precopy.decode_frame(SIZES, it)
     yield "accept", stream, lambda it: (lambda flat: (flat.accept(it), traces.state(flat)))(precopy.FlatMemory(SIZES))
@@ -178,15 +191,14 @@ def taking_bytes(trace, stream):
 def taking_streams():
     """Each call over streams of a guest without writes: its name, and the call."""
     trace = header(3, 0)
+    opened = precopy.OpenTrace(trace)
     yield "check_streams, a stream", lambda it: precopy.check_streams(trace, 0, [it])
     yield "check_streams, streams", lambda it: precopy.check_streams(trace, 0, [b"", it])
-    yield "take", lambda it: precopy.StreamCheck(trace, 0).take(it)
-    yield "take, behind a byte", lambda it: (lambda check: (check.take(b"\0"), check.take(it)))(
-        precopy.StreamCheck(trace, 0)
-    )
-    yield "take, after a finding", lambda it: (lambda check: (check.take(b"\4" * 9), check.take(it)))(
-        precopy.StreamCheck(trace, 0)
-    )
+    yield "take", lambda it: opened.check(0).take(0, it)
+    for name, first in (("behind a byte", b"\0"), ("after a finding", b"\4" * 9)):
+        yield f"take, {name}", lambda it, f=first: (lambda check: (check.take(0, f), check.take(0, it)))(
+            opened.check(0)
+        )
 
 
 def step_of(data):
@@ -285,7 +297,7 @@ def longest_reports():
 
 def check_refusal(tally, trace, wanted):
     for name, _, call in taking_bytes(trace, b""):
-        over_others = ("is_zero", "encode_frame", "decode_frame", "accept", "check_trace")
+        over_others = ("is_zero", "encode_frame", "decode_frame", "accept", "check_trace", "take_page", "difference")
         if name not in (*over_others, *(it for it, _ in taking_streams())):
             try:
                 call(trace)

@@ -36,7 +36,7 @@ def outcome(call, *words):
 def script(python, text, *words):
     """What a program in Python prints, with this module on its path."""
     paths = os.pathsep.join([TOP, *(os.path.join(TOP, it) for it in ("python", "bindings/python"))])
-    environment = {**os.environ, "PYTHONPATH": paths, "PRECOPY_LIBRARY": os.path.join(LIBRARY, "libprecopy.so.4")}
+    environment = {**os.environ, "PYTHONPATH": paths, "PRECOPY_LIBRARY": os.path.join(LIBRARY, "libprecopy.so.5")}
     how = {"stdin": subprocess.DEVNULL, "capture_output": True, "text": True, "timeout": SECONDS}
     return subprocess.run([python, "-Bc", text, *words], env=environment, check=False, **how)
 
@@ -88,14 +88,14 @@ import precopy
 pages = 65536
 empty = b"PCWT" + bytes([1, 12, 0, 0]) + pages.to_bytes(4, "little") + bytes(4)
 sizes, half, small = precopy.check_trace(empty), bytes(1 << 27), b"PCWT" + bytes([1, 4, 0, 0, 1]) + bytes(7)
-check, long = precopy.StreamCheck(small, 0), bytes(17 << 20)
-check.take(b"\\0")
+check, long = precopy.OpenTrace(small).check(0), bytes(17 << 20)
+check.take(0, b"\\0")
 with open("/proc/self/statm") as file:
     now = int(file.read().split()[0]) * resource.getpagesize()
 resource.setrlimit(resource.RLIMIT_AS, (now + (64 << 20), now + (64 << 20)))
 for call in (
     lambda: precopy.memory(empty), lambda: precopy.memory_before(empty, 5), lambda: precopy.FlatMemory(sizes),
-    lambda: precopy.check_streams(empty, 0, [half, half]), lambda: check.take(half),
+    lambda: precopy.check_streams(empty, 0, [half, half]), lambda: check.take(0, half),
     lambda: precopy.report(long, precopy.Settings()),
 ):
     try:
@@ -105,7 +105,7 @@ for call in (
         print("NoMemory", fault.status.name, fault)
     except Exception as fault:
         print(type(fault).__name__)
-print(check.take(bytes(8)), check.finish())
+print(check.take(0, bytes(8)), check.finish())
 """
 
 
@@ -122,7 +122,7 @@ def check_memory(tally):
 
 
 def fresh():
-    return precopy.StreamCheck(read("examples/a.pcwt"), STOP)
+    return precopy.OpenTrace(read("examples/a.pcwt")).check(STOP)
 
 
 def check_cut(tally):
@@ -131,56 +131,60 @@ def check_cut(tally):
     cut = (41, 0, 6, len(right) + 25, 0, 0, 0, 0, 0)
     ways = {
         "finish": lambda it: None,
-        "end_stream": lambda it: it.end_stream(),
-        "end_stream twice": lambda it: (it.end_stream(), it.end_stream()),
-        "another stream": lambda it: (it.end_stream(), it.take(right), it.end_stream()),
-        "no more bytes": lambda it: (it.take(b""), it.finish()),
+        "end_stream": lambda it: it.end_stream(0),
+        "end_stream twice": lambda it: (it.end_stream(0), it.end_stream(0)),
+        "another stream": lambda it: (it.end_stream(0), it.take(1, right), it.end_stream(1)),
+        "a stream meanwhile": lambda it: (it.take(1, right), it.end_stream(1)),
+        "no more bytes": lambda it: (it.take(0, b""), it.finish()),
     }
     for name, act in ways.items():
         check = fresh()
-        tally.add(check.take(right + more) is None, "all pages, and 30 bytes that are a frame and a part of one")
+        tally.add(check.take(0, right + more) is None, "all pages, and 30 bytes that are a frame and a part of one")
         act(check)
         found = stream_rows.told_by_library(check.finish())
         tally.add(found == cut, f"a stream that is cut off, {name}: {found}, not {cut}")
     check = fresh()
-    check.take(right + more)
-    tally.add(check.finish() and not check.take(frame(1, 3, NEW)[5:]) and not check.finish(), "a frame that comes late")
+    check.take(0, right + more)
+    found = check.finish()
+    tally.add(found and check.take(0, frame(1, 3, NEW)[5:]) == found == check.finish(), "a frame that comes late")
 
 
 def check_found(tally):
     """What was found first stays, and nothing is kept after it."""
     right, check = stream_rows.stream(RIGHT), fresh()
-    first = check.take(right + frame(4, 0, NEW))
+    first = check.take(0, right + frame(4, 0, NEW))
     tally.add(first and first.status is precopy.Status.FRAME_PAGE, f"a frame of a page that is not there: {first}")
     piece = random.Random(1).randbytes(1 << 16)
     tracemalloc.start()
     for _ in range(100):
-        tally.add(check.take(piece) == first, "bytes after a finding")
+        tally.add(check.take(0, piece) == first, "bytes after a finding")
     kept = tracemalloc.get_traced_memory()[0]
     tracemalloc.stop()
     tally.add(kept < 1 << 16, f"after a finding and 100 pieces of 64 KiB {kept} bytes are kept")
-    tally.add(check.end_stream() == check.take(right) == check.finish() == first, "what was found is told by each call")
+    good = check.end_stream(0) == check.take(0, right) == check.finish() == first
+    tally.add(good, "what was found is told by each call")
+    tally.add(check.take(1, right) is None and check.finish() == first, "what was found in another stream")
 
 
 def check_threads(tally, check_turns):
     """Several threads may share a check: their pieces are taken one after the other."""
     trace, pages = header(64, 0), 64
     frames = [frame(number % pages, 0, bytes(16)) for number in range(8 * pages)]
-    check_turns(tally, "precopy_check_piece", precopy.StreamCheck(trace, 0).take, frames[:100])
-    check = precopy.StreamCheck(trace, 0)
+    taking, check = precopy.OpenTrace(trace).check(0), precopy.OpenTrace(trace).check(0)
+    check_turns(tally, "precopy_trace_check_piece", lambda it: taking.take(0, it), frames[:100])
     with concurrent.futures.ThreadPoolExecutor(8) as threads:
-        found = list(threads.map(check.take, frames))
-    good = not any(found) and check.end_stream() is None and check.finish() is None
+        found = list(threads.map(lambda it: check.take(0, it), frames))
+    good = not any(found) and check.end_stream(0) is None and check.finish() is None
     tally.add(good, f"frames of eight threads in one check: {check.finish()}")
 
 
 def check_copies(tally):
     """What comes behind whole frames is not copied, nor is a single stream."""
     trace, data = header(64, 0), frame(0, 0, bytes(16)) * (1 << 20)
-    check, small = precopy.StreamCheck(trace, 0), 1 << 20
+    check, small = precopy.OpenTrace(trace).check(0), 1 << 20
     for name, call in (
-        ("take", check.take),
-        ("take of a view", lambda it: check.take(memoryview(it)[:-1])),
+        ("take", lambda it: check.take(0, it)),
+        ("take of a view", lambda it: check.take(0, memoryview(it)[:-1])),
         ("check_streams", lambda it: precopy.check_streams(trace, 0, [it])),
     ):
         tracemalloc.start()
@@ -222,9 +226,9 @@ import precopy
 trace = open(sys.argv[1], "rb").read()
 sizes, whole = precopy.check_trace(trace), precopy.memory(trace)
 size = sizes.page_length
+versions = precopy.OpenTrace(trace).versions_after(sizes.writes)
 stream = b"".join(
-    precopy.encode_frame(sizes, page, precopy.version_after(trace, page, sizes.writes), whole[page * size :][:size])
-    for page in range(sizes.pages)
+    precopy.encode_frame(sizes, page, version, whole[page * size :][:size]) for page, version in enumerate(versions)
 )
 def same(name, good):
     print(name if good else f"not {name}")
@@ -237,8 +241,8 @@ wide = numpy.frombuffer(bytes(whole), ">u4")
 same("wide", precopy.is_zero(wide[:0]) and not precopy.is_zero(wide))
 frames = numpy.frombuffer(stream, numpy.uint8)
 tracemalloc.start()
-check = precopy.StreamCheck(array, sizes.writes)
-found = check.take(frames), precopy.check_streams(array, sizes.writes, [frames]), precopy.FlatMemory(sizes)
+check = precopy.OpenTrace(array).check(sizes.writes)
+found = check.take(0, frames), precopy.check_streams(array, sizes.writes, [frames]), precopy.FlatMemory(sizes)
 found[2].accept(frames)
 same("streams", found[:2] == (None, None) and check.finish() is None and found[2].memory == whole)
 same("not copied", tracemalloc.get_traced_memory()[1] < len(whole) + (1 << 20))

@@ -415,9 +415,8 @@ static void memories(void) {
 
 /* The worked trace, which stays open: 5 writes to 4 pages make an index of 19 words. */
 static void open_traces(void) {
-    static const uint32_t after_four[5] = {1, 3, 0, 4, 9}, before_last[5] = {1, 3, 0, 0, 9};
-    uint32_t words[20], versions[5] = {9, 9, 9, 9, 9}, count = 9, version = 9;
-    uint8_t content[17], memory[65], wanted[65];
+    uint32_t words[20], count = 9;
+    uint8_t memory[65], wanted[65];
     struct precopy_trace held = {0}, none = {0};
     size_t needed = 9;
     words[19] = 9;
@@ -431,20 +430,6 @@ static void open_traces(void) {
     ROW(19 <= PRECOPY_WORDS_BOUND(sizeof trace));
     ROW(precopy_trace_writes_before(&held, 2500, &count) == PRECOPY_OK && count == 3);
     ROW(precopy_trace_writes_before(&held, 2501, &count) == PRECOPY_OK && count == 5);
-    ROW(precopy_trace_version_after(&held, 1, 4, &version) == PRECOPY_OK && version == 3);
-    ROW(precopy_trace_version_after(&held, 4, 5, &version) == PRECOPY_NO_PAGE && version == 3);
-    ROW(precopy_trace_versions_after(&held, 4, versions, 5, &needed) == PRECOPY_OK && needed == 4);
-    ROW(!memcmp(versions, after_four, sizeof versions));
-    ROW(precopy_trace_versions_before(&held, 2500, versions, 5, &needed) == PRECOPY_OK && needed == 4);
-    ROW(!memcmp(versions, before_last, sizeof versions));
-    ROW(precopy_trace_versions_before(&held, 0, versions, 3, &needed) == PRECOPY_SHORT_BUFFER && needed == 4);
-    ROW(!memcmp(versions, before_last, sizeof versions));
-    memset(content, 9, sizeof content);
-    ROW(precopy_trace_page_at(&held, 1, 4, content, 17) == PRECOPY_NO_VERSION && content[0] == 9);
-    ROW(precopy_trace_page_at(&held, 4, 0, content, 17) == PRECOPY_NO_PAGE && content[0] == 9);
-    ROW(precopy_trace_page_at(&held, 1, 3, content, 15) == PRECOPY_SHORT_BUFFER && content[0] == 9);
-    ROW(precopy_trace_page_at(&held, 1, 3, content, 17) == PRECOPY_OK && content[0] == 3 && content[15] == 2);
-    ROW(content[16] == 9);
     memset(memory, 9, sizeof memory), memset(wanted, 9, sizeof wanted);
     ROW(precopy_memory_before(trace, sizeof trace, 2500, wanted, 65, &needed, &record) == PRECOPY_OK);
     ROW(precopy_trace_memory_before(&held, 2500, memory, 65, &needed) == PRECOPY_OK && needed == 64);
@@ -452,44 +437,64 @@ static void open_traces(void) {
     ROW(precopy_trace_memory_before(&held, 2500, memory, 63, &needed) == PRECOPY_SHORT_BUFFER && needed == 64);
 }
 
-static void pages(void) {
-    static const uint8_t first[16] = {1};
+static int is_opened(struct precopy_trace *held, uint32_t *words) {
+    size_t needed = 9;
+    return precopy_trace_open(trace, sizeof trace, words, 19, held, &needed, &record) == PRECOPY_OK && needed == 19;
+}
+
+static void versions_of_pages(void) {
     static const uint32_t after_four[5] = {1, 3, 0, 4, 9}, after_all[5] = {1, 5, 0, 4, 9};
     static const uint32_t before_last[5] = {1, 3, 0, 0, 9};
-    uint32_t versions[5] = {9, 9, 9, 9, 9};
-    struct precopy_write writes[4] = {{0, 9, 9, 9}, {0, 9, 9, 9}, {0, 9, 9, 9}, {0, 9, 9, 9}};
-    uint8_t content[17], memory[64] = {0}, wanted[64] = {0};
-    uint32_t version = 9;
-    size_t count = 9;
-    ROW(precopy_version_after(trace, sizeof trace, 1, 0, &version, &record) == PRECOPY_OK && version == 0);
-    ROW(precopy_version_after(trace, sizeof trace, 1, 4, &version, &record) == PRECOPY_OK && version == 3);
-    ROW(precopy_version_after(trace, sizeof trace, 1, 5, &version, &record) == PRECOPY_OK && version == 5);
-    ROW(precopy_version_after(trace, sizeof trace, 1, UINT32_MAX, &version, &record) == PRECOPY_OK && version == 5);
-    ROW(precopy_version_after(trace, sizeof trace, 2, 5, &version, &record) == PRECOPY_OK && version == 0);
-    ROW(precopy_version_after(trace, sizeof trace, 4, 5, &version, &record) == PRECOPY_NO_PAGE && version == 0);
-    ROW(precopy_versions_after(trace, sizeof trace, 4, versions, 5, &count, &record) == PRECOPY_OK && count == 4);
+    uint32_t words[19], versions[5] = {9, 9, 9, 9, 9}, version = 9;
+    struct precopy_trace held;
+    size_t needed = 9;
+    ROW(is_opened(&held, words));
+    ROW(precopy_trace_version_after(&held, 1, 0, &version) == PRECOPY_OK && version == 0);
+    ROW(precopy_trace_version_after(&held, 1, 4, &version) == PRECOPY_OK && version == 3);
+    ROW(precopy_trace_version_after(&held, 4, 5, &version) == PRECOPY_NO_PAGE && version == 3);
+    ROW(precopy_trace_version_after(&held, 1, 5, &version) == PRECOPY_OK && version == 5);
+    ROW(precopy_trace_version_after(&held, 1, UINT32_MAX, &version) == PRECOPY_OK && version == 5);
+    ROW(precopy_trace_version_after(&held, 2, 5, &version) == PRECOPY_OK && version == 0);
+    ROW(precopy_trace_versions_after(&held, 4, versions, 5, &needed) == PRECOPY_OK && needed == 4);
     ROW(!memcmp(versions, after_four, sizeof versions));
-    ROW(precopy_versions_after(trace, sizeof trace, UINT32_MAX, versions, 4, &count, &record) == PRECOPY_OK);
+    ROW(precopy_trace_versions_after(&held, UINT32_MAX, versions, 4, &needed) == PRECOPY_OK);
     ROW(!memcmp(versions, after_all, sizeof versions));
-    ROW(precopy_versions_after(trace, sizeof trace, 0, versions, 3, &count, &record) == PRECOPY_SHORT_BUFFER);
-    ROW(count == 4 && !memcmp(versions, after_all, sizeof versions));
-    ROW(precopy_versions_before(trace, sizeof trace, 2500, versions, 4, &count, &record) == PRECOPY_OK && count == 4);
+    needed = 9;
+    ROW(precopy_trace_versions_after(&held, 0, versions, 3, &needed) == PRECOPY_SHORT_BUFFER && needed == 4);
+    ROW(!memcmp(versions, after_all, sizeof versions));
+    needed = 9;
+    ROW(precopy_trace_versions_before(&held, 2500, versions, 5, &needed) == PRECOPY_OK && needed == 4);
     ROW(!memcmp(versions, before_last, sizeof versions));
-    ROW(precopy_versions_before(trace, sizeof trace, 2501, versions, 4, &count, &record) == PRECOPY_OK);
+    needed = 9;
+    ROW(precopy_trace_versions_before(&held, 0, versions, 3, &needed) == PRECOPY_SHORT_BUFFER && needed == 4);
+    ROW(!memcmp(versions, before_last, sizeof versions));
+    ROW(precopy_trace_versions_before(&held, 2501, versions, 4, &needed) == PRECOPY_OK);
     ROW(!memcmp(versions, after_all, sizeof versions));
+}
+
+static void pages_at_stamps(void) {
+    static const uint8_t first[16] = {1};
+    uint32_t words[19];
+    uint8_t content[17];
+    struct precopy_trace held;
+    ROW(is_opened(&held, words));
     memset(content, 9, sizeof content);
-    ROW(precopy_page_at(trace, sizeof trace, 0, 1, content, 17, &record) == PRECOPY_OK);
+    ROW(precopy_trace_page_at(&held, 0, 1, content, 17) == PRECOPY_OK);
     ROW(!memcmp(content, first, 16) && content[16] == 9);
-    ROW(precopy_page_at(trace, sizeof trace, 1, 3, content, 16, &record) == PRECOPY_OK && content[0] == 3
-        && content[15] == 2);
-    ROW(precopy_page_at(trace, sizeof trace, 1, 5, content, 16, &record) == PRECOPY_OK && content[0] == 0
-        && content[15] == 2);
-    ROW(precopy_page_at(trace, sizeof trace, 1, 0, content, 16, &record) == PRECOPY_OK && precopy_is_zero(content, 16));
+    ROW(precopy_trace_page_at(&held, 1, 3, content, 16) == PRECOPY_OK && content[0] == 3 && content[15] == 2);
+    ROW(precopy_trace_page_at(&held, 1, 5, content, 16) == PRECOPY_OK && content[0] == 0 && content[15] == 2);
+    ROW(precopy_trace_page_at(&held, 1, 0, content, 16) == PRECOPY_OK && precopy_is_zero(content, 16));
     memset(content, 9, sizeof content);
-    ROW(precopy_page_at(trace, sizeof trace, 1, 4, content, 16, &record) == PRECOPY_NO_VERSION);
-    ROW(precopy_page_at(trace, sizeof trace, 1, 6, content, 16, &record) == PRECOPY_NO_VERSION);
-    ROW(precopy_page_at(trace, sizeof trace, 4, 0, content, 16, &record) == PRECOPY_NO_PAGE);
-    ROW(precopy_page_at(trace, sizeof trace, 1, 3, content, 15, &record) == PRECOPY_SHORT_BUFFER && content[0] == 9);
+    ROW(precopy_trace_page_at(&held, 1, 4, content, 16) == PRECOPY_NO_VERSION && content[0] == 9);
+    ROW(precopy_trace_page_at(&held, 1, 6, content, 16) == PRECOPY_NO_VERSION && content[0] == 9);
+    ROW(precopy_trace_page_at(&held, 4, 0, content, 16) == PRECOPY_NO_PAGE && content[0] == 9);
+    ROW(precopy_trace_page_at(&held, 1, 3, content, 15) == PRECOPY_SHORT_BUFFER && content[0] == 9);
+}
+
+static void pages(void) {
+    struct precopy_write writes[4] = {{0, 9, 9, 9}, {0, 9, 9, 9}, {0, 9, 9, 9}, {0, 9, 9, 9}};
+    uint8_t memory[64] = {0}, wanted[64] = {0};
+    size_t count = 9;
     ROW(precopy_page_writes(trace, sizeof trace, 1, writes, 2, &count, &record) == PRECOPY_SHORT_BUFFER && count == 3);
     ROW(writes[0].size == 9);
     ROW(precopy_page_writes(trace, sizeof trace, 1, writes, 4, &count, &record) == PRECOPY_OK && count == 3);
@@ -618,37 +623,15 @@ static void streams(void) {
     ROW(is_page(&found, 0, 0, 1, 1, 0));
 }
 
-/* The same streams, in pieces. */
+/* The same streams in two pieces, over an open trace: first alone, and then with another stream between them. */
 static void pieces(void) {
-    struct precopy_finding found = {9, 9, 9, 9, 9, 9, 9, 9};
-    for (size_t cut = 0; cut <= 93; cut++) {
-        struct precopy_progress progress = {0, 0, 0, 3};
-        struct precopy_page states[8] = {{0, 0}};
-        ROW(precopy_check_piece(trace, sizeof trace, sent, cut, &progress, states, 8, &found, &record) == PRECOPY_OK);
-        uint32_t ends = precopy_check_pages(trace, sizeof trace, &progress, states, 8, &found, &record);
-        ROW(progress.bytes <= cut && (ends == PRECOPY_OK) == (progress.frames == 5));
-        size_t taken = progress.bytes;
-        ROW(precopy_check_piece(trace, sizeof trace, sent + taken, 118 - taken, &progress, states, 8, &found, &record)
-            == PRECOPY_OLDER);
-        ROW(is_frame(&found, 0, 5, 93, 1, 2, 3) && progress.bytes == taken);
-        ROW(precopy_check_pages(trace, sizeof trace, &progress, states, 8, &found, &record) == PRECOPY_OK);
-    }
-    struct precopy_progress progress = {0, 0, 0, 3};
-    struct precopy_page states[8] = {{0, 0}};
-    ROW(precopy_check_piece(trace, sizeof trace, sent, 93, &progress, states, 7, &found, &record)
-        == PRECOPY_PAGE_COUNT);
-    ROW(precopy_check_pages(trace, sizeof trace, &progress, states, 8, &found, &record) == PRECOPY_PAGE_MISSING);
-    ROW(is_page(&found, 0, 0, 1, 1, 0));
-}
-
-/* The same streams over an open trace, and the second in two pieces, around the first. */
-static void open_pieces(void) {
     struct precopy_finding found = {9, 9, 9, 9, 9, 9, 9, 9};
     struct precopy_trace held;
     uint32_t words[19];
     size_t needed;
-    ROW(precopy_trace_open(trace, sizeof trace, words, 19, &held, &needed, &record) == PRECOPY_OK);
-    for (size_t cut = 0; cut <= 93; cut++) {
+    ROW(is_opened(&held, words));
+    for (size_t number = 0; number < 2 * 94; number++) {
+        size_t cut = number % 94;
         struct precopy_progress progress = {0, 0, 0, 3}, other = {1, 0, 0, 3};
         uint32_t last[4] = {0}, second[4] = {0}, greatest[4] = {0};
         uint8_t memory[64] = {0}, wanted[64];
@@ -659,12 +642,15 @@ static void open_pieces(void) {
         ROW(taken <= cut && (ends == PRECOPY_OK) == (progress.frames == 5));
         ROW((precopy_end_stream(&progress, cut - taken, &found) == PRECOPY_OK) == (taken == cut));
         ROW(taken == cut || is_frame(&found, 0, progress.frames, taken, 0, 0, 0));
-        ROW(precopy_trace_check_piece(&held, sent, 93, &other, second, 4, greatest, 4, memory, 64, &found)
-            == PRECOPY_OK);
+        if (number >= 94) {
+            ROW(precopy_trace_check_piece(&held, sent, 93, &other, second, 4, greatest, 4, memory, 64, &found)
+                == PRECOPY_OK);
+            ROW(other.bytes == 93);
+        }
         ROW(precopy_trace_check_piece(&held, sent + taken, 118 - taken, &progress, last, 4, greatest, 4, memory, 64,
                                       &found)
             == PRECOPY_OLDER);
-        ROW(is_frame(&found, 0, 5, 93, 1, 2, 3) && progress.bytes == taken && other.bytes == 93);
+        ROW(is_frame(&found, 0, 5, 93, 1, 2, 3) && progress.bytes == taken);
         ROW(precopy_trace_check_pages(&held, &progress, greatest, 4, &found) == PRECOPY_OK);
         ROW(precopy_trace_memory_before(&held, 2500, wanted, 64, &needed) == PRECOPY_OK);
         ROW(!memcmp(memory, wanted, sizeof memory) && greatest[0] == 2 && greatest[1] == 4 && greatest[3] == 1);
@@ -790,7 +776,6 @@ int main(void) {
     ROW(precopy_abi() == PRECOPY_ABI);
     streams();
     pieces();
-    open_pieces();
     plans();
     reports();
     sweeps();
@@ -805,6 +790,8 @@ int main(void) {
     looks();
     questions();
     memories();
+    versions_of_pages();
+    pages_at_stamps();
     pages();
     open_traces();
     traces();

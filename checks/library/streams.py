@@ -139,7 +139,7 @@ def trial(chosen, tally):
     pieces = stream_rows.told_by_library(in_pieces(chosen, trace, stop, sent))
     tally.add(pieces == told, f"{name}: in pieces the library tells {pieces}, and at once {told}")
     mixed = stream_rows.told_by_library(in_any_order(chosen, trace, stop, sent))
-    tally.add(mixed == told, f"{name}: over an open trace the library tells {mixed}, and at once {told}")
+    tally.add(mixed == told, f"{name}: in pieces in any order the library tells {mixed}, and at once {told}")
     if wrong is None:
         return None
     named = told and is_named(told, streams[at][place][0], at, place, offset, len(texts[at][place]))
@@ -148,24 +148,24 @@ def trial(chosen, tally):
 
 
 def in_pieces(chosen, trace, stop, streams):
-    """What is wrong first in streams that come in pieces of random lengths, or None. Often only the last call is asked,
-    and it finds what a call before it found."""
-    check, is_asked, last = precopy.StreamCheck(trace, stop), chosen.random() < 0.5, len(streams) - 1
+    """What is wrong first in streams that come one after the other, in pieces of random lengths, or None. Often only
+    the last call is asked, and it finds what a call before it found."""
+    check, is_asked, last = precopy.OpenTrace(trace).check(stop), chosen.random() < 0.5, len(streams) - 1
     for number, stream in enumerate(streams):
         while stream:
             length = chosen.choice([1, 8, 30, 500])
-            if (found := check.take(stream[:length])) and is_asked:
+            if (found := check.take(number, stream[:length])) and is_asked:
                 return found
             stream = stream[length:]
         # The end of the last stream may be left out.
-        if (number < last or chosen.random() < 0.5) and (found := check.end_stream()) and is_asked:
+        if (number < last or chosen.random() < 0.5) and (found := check.end_stream(number)) and is_asked:
             return found
     return check.finish()
 
 
-def in_any_order(chosen, trace, stop, streams):
-    """What is found in streams over an open trace, of which pieces of random lengths come in a random order."""
-    check, left = precopy.OpenTrace(trace).check(stop), dict(enumerate(streams))
+def in_any_order(chosen, trace, stop, streams, base=None):
+    """What is found in streams of which pieces of random lengths come in a random order."""
+    check, left = precopy.OpenTrace(trace).check(stop, base), dict(enumerate(streams))
     while left:
         number, length = chosen.choice([*left]), chosen.choice([1, 8, 30, 500])
         check.take(number, left[number][:length])

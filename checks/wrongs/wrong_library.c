@@ -6,11 +6,11 @@
 #include <stdlib.h>
 #include <string.h>
 
-#define READS_BEHIND 1   /* check_pages: a byte behind the states is read */
-#define READS_BEFORE 2   /* check_piece: a byte in front of the progress is read */
+#define READS_BEHIND 1   /* trace_check_pages: a byte behind the words is read */
+#define READS_BEFORE 2   /* trace_check_piece: a byte in front of the progress is read */
 #define WRITES_BEHIND 3  /* predict: a word behind the standard errors is written */
 #define WRITES_BEFORE 4  /* page_writes: a byte in front of the writes is written */
-#define WRITES_INPUT 5   /* check_pages: the progress, which it only reads, is written */
+#define WRITES_INPUT 5   /* trace_check_pages: the progress, which it only reads, is written */
 #define KEEPS_MEMORY 6   /* plan: memory is not given back */
 #define WRITES_REFUSED 7 /* sweep: the best case is written of a trace that is refused */
 #define ALL_RIGHT 8      /* check_streams: nothing is ever wrong */
@@ -21,28 +21,29 @@
 static inline void touch(const void *at) { (void)*(const volatile uint8_t *)at; }
 
 #if WRONG == READS_BEHIND || WRONG == WRITES_INPUT
-__typeof__(precopy_check_pages) right_check_pages;
+__typeof__(precopy_trace_check_pages) right_trace_check_pages;
 
-uint32_t precopy_check_pages(const uint8_t *trace, size_t trace_length, const struct precopy_progress *progress,
-                             const struct precopy_page *states, size_t states_length, struct precopy_finding *found,
-                             uint32_t *record) {
+uint32_t precopy_trace_check_pages(const struct precopy_trace *trace, const struct precopy_progress *progress,
+                                   const uint32_t *greatest, size_t greatest_length, struct precopy_finding *found) {
     if (WRONG == READS_BEHIND) {
-        touch(states + states_length);
+        touch(greatest + greatest_length);
     } else {
         ((volatile struct precopy_progress *)progress)->stop = progress->stop;
     }
-    return right_check_pages(trace, trace_length, progress, states, states_length, found, record);
+    return right_trace_check_pages(trace, progress, greatest, greatest_length, found);
 }
 #endif
 
 #if WRONG == READS_BEFORE
-__typeof__(precopy_check_piece) right_check_piece;
+__typeof__(precopy_trace_check_piece) right_trace_check_piece;
 
-uint32_t precopy_check_piece(const uint8_t *trace, size_t trace_length, const uint8_t *piece, size_t piece_length,
-                             struct precopy_progress *progress, struct precopy_page *states, size_t states_length,
-                             struct precopy_finding *found, uint32_t *record) {
+uint32_t precopy_trace_check_piece(const struct precopy_trace *trace, const uint8_t *piece, size_t piece_length,
+                                   struct precopy_progress *progress, uint32_t *last, size_t last_length,
+                                   uint32_t *greatest, size_t greatest_length, uint8_t *memory, size_t memory_length,
+                                   struct precopy_finding *found) {
     touch((const uint8_t *)progress - 1);
-    return right_check_piece(trace, trace_length, piece, piece_length, progress, states, states_length, found, record);
+    return right_trace_check_piece(trace, piece, piece_length, progress, last, last_length, greatest, greatest_length,
+                                   memory, memory_length, found);
 }
 #endif
 

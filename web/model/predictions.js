@@ -146,7 +146,7 @@ export function warningsOf(prediction) {
     warnings.push("Rounds ran out, so nothing bounds the downtime: allow more rounds.");
   }
   if (!plan.isStopped) {
-    warnings.push("The guest is not stopped, so nothing bounds the downtime: give more of the link.");
+    warnings.push("A hypervisor goes on, and takes longer: give more of the link.");
   }
   return warnings;
 }

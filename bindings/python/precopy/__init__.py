@@ -1,4 +1,4 @@
-"""Plans of pre-copy live migrations, memory of recorded guests, and frames of pages: the library libprecopy.so.4.
+"""Plans of pre-copy live migrations, memory of recorded guests, and frames of pages: the library libprecopy.so.5.
 
     import precopy
 
@@ -69,17 +69,16 @@ from ._refusals import apart as _apart
 from ._refusals import check as _check
 from ._refusals import check_over as _check_over
 from ._refusals import room as _room
-from ._streams import Finding, StreamCheck, check_streams, writes_before
+from ._streams import Difference, Finding, Unstamped, check_streams, writes_before
 
 __all__ = [
-    "Agreement", "Amounts", "BestStart", "BufferRefused", "Errors", "Finding", "FlatMemory", "Forecast", "ForecastEnd",
-    "Frame", "FrameRefused", "LinkShares", "NoMemory", "OpenCheck", "OpenTrace", "Overlap", "PlaceRefused",
-    "Prediction", "Question", "QuestionRefused", "Reason", "Recording", "Refused", "Round", "Settings",
-    "SettingsRefused", "Sizes", "Status", "StreamCheck", "Sums", "Taken", "TraceRefused", "Verdict", "Write",
+    "Agreement", "Amounts", "BestStart", "BufferRefused", "Difference", "Errors", "Finding", "FlatMemory", "Forecast",
+    "ForecastEnd", "Frame", "FrameRefused", "LinkShares", "NoMemory", "OpenCheck", "OpenTrace", "Overlap",
+    "PlaceRefused", "Prediction", "Question", "QuestionRefused", "Reason", "Recording", "Refused", "Round", "Settings",
+    "SettingsRefused", "Sizes", "Status", "Sums", "Taken", "TraceRefused", "Unstamped", "Verdict", "Write",
     "agreement", "best_start", "check_settings", "check_streams", "check_trace", "decode_frame", "encode_frame",
-    "enough", "forecast", "is_zero", "link_shares", "memory", "memory_before", "memory_step", "page_at", "page_writes",
-    "plan", "predict", "report", "rounds", "sweep", "version", "version_after", "versions_after", "versions_before",
-    "writes_before",
+    "enough", "forecast", "is_zero", "link_shares", "memory", "memory_before", "memory_step", "page_writes", "plan",
+    "predict", "report", "rounds", "sweep", "version", "writes_before",
 ]  # fmt: skip
 
 
@@ -275,40 +274,6 @@ def memory_step(trace: Bytes, start: int, end: int, memory: Bytes) -> None:
     with _lent(memory, _calls.WRITABLE) as written, _lent(trace) as read:
         _apart(written, read)
         _check_over(_LIBRARY.precopy_memory_step, trace, *where, *written)
-
-
-def version_after(trace: Bytes, page: int, count: int) -> int:
-    """Returns the version of a page after the first `count` writes of a trace: the place of the last of them that is to
-    the page, or 0."""
-    version, where = ctypes.c_uint32(), (_number("page", page, 32), _number("count", count, 32))
-    _check_over(_LIBRARY.precopy_version_after, trace, *where, version)
-    return version.value
-
-
-def _versions(call: Any, trace: Bytes, place: int) -> List[int]:
-    """Returns the versions of all pages that a call writes."""
-    found, needed = _room(ctypes.c_uint32 * check_trace(trace).pages), ctypes.c_size_t()
-    _check_over(call, trace, place, found, len(found), needed)
-    return list(found)
-
-
-def versions_after(trace: Bytes, count: int) -> List[int]:
-    """Returns the versions of all pages after the first `count` writes of a trace."""
-    return _versions(_LIBRARY.precopy_versions_after, trace, _number("count", count, 32))
-
-
-def versions_before(trace: Bytes, tick: int) -> List[int]:
-    """Returns the versions of all pages after the writes before a tick: those of a right migration that stops the guest
-    there."""
-    return _versions(_LIBRARY.precopy_versions_before, trace, _number("tick", tick, 64))
-
-
-def page_at(trace: Bytes, page: int, stamp: int) -> bytes:
-    """Returns the bytes of a page at a stamp: as the write to it with this place leaves them, or zeros for 0."""
-    room = _room(ctypes.create_string_buffer, check_trace(trace).page_length)
-    where = _number("page", page, 32), _number("stamp", stamp, 32)
-    _check_over(_LIBRARY.precopy_page_at, trace, *where, ctypes.addressof(room), len(room))
-    return room.raw
 
 
 def page_writes(trace: Bytes, page: int) -> List[Write]:

@@ -3,7 +3,7 @@
 from ctypes import POINTER, Structure, c_size_t, c_uint32, c_uint64, c_void_p
 from enum import IntEnum
 
-ABI, TEXT_BOUND = 4, 320
+ABI, TEXT_BOUND = 5, 320
 REPORT_BOUND = (72, 11, 128, 67)
 
 
@@ -174,10 +174,6 @@ class Finding(Structure):
     ]
 
 
-class Progress(Structure):
-    _fields_ = [*_of(c_size_t, "stream", "frames", "bytes"), *_of(c_uint32, "stop")]
-
-
 class Trace(Structure):
     _fields_ = [
         *_of(Sizes, "sizes"),
@@ -187,6 +183,10 @@ class Trace(Structure):
         *_of(POINTER(c_uint32), "words"),
         *_of(c_size_t, "words_length"),
     ]
+
+
+class Progress(Structure):
+    _fields_ = [*_of(c_size_t, "stream", "frames", "bytes"), *_of(c_uint32, "stop")]
 
 
 class Recording(Structure):
@@ -231,26 +231,6 @@ CALLS = {
     "memory": [c_void_p, c_size_t, c_void_p, c_size_t, POINTER(c_size_t), POINTER(c_uint32)],
     "memory_before": [c_void_p, c_size_t, c_uint64, c_void_p, c_size_t, POINTER(c_size_t), POINTER(c_uint32)],
     "memory_step": [c_void_p, c_size_t, c_uint32, c_uint32, c_void_p, c_size_t, POINTER(c_uint32)],
-    "version_after": [c_void_p, c_size_t, c_uint32, c_uint32, POINTER(c_uint32), POINTER(c_uint32)],
-    "versions_after": [
-        c_void_p,
-        c_size_t,
-        c_uint32,
-        POINTER(c_uint32),
-        c_size_t,
-        POINTER(c_size_t),
-        POINTER(c_uint32),
-    ],
-    "versions_before": [
-        c_void_p,
-        c_size_t,
-        c_uint64,
-        POINTER(c_uint32),
-        c_size_t,
-        POINTER(c_size_t),
-        POINTER(c_uint32),
-    ],
-    "page_at": [c_void_p, c_size_t, c_uint32, c_uint32, c_void_p, c_size_t, POINTER(c_uint32)],
     "page_writes": [c_void_p, c_size_t, c_uint32, POINTER(Write), c_size_t, POINTER(c_size_t), POINTER(c_uint32)],
     "encode_frame": [POINTER(Sizes), c_uint32, c_uint32, c_void_p, c_size_t, c_void_p, c_size_t, POINTER(c_size_t)],
     "decode_frame": [POINTER(Sizes), c_void_p, c_size_t, POINTER(Frame), c_void_p, c_size_t],
@@ -263,26 +243,6 @@ CALLS = {
         c_void_p,
         c_size_t,
         POINTER(c_size_t),
-        c_size_t,
-        POINTER(Finding),
-        POINTER(c_uint32),
-    ],
-    "check_piece": [
-        c_void_p,
-        c_size_t,
-        c_void_p,
-        c_size_t,
-        POINTER(Progress),
-        POINTER(Page),
-        c_size_t,
-        POINTER(Finding),
-        POINTER(c_uint32),
-    ],
-    "check_pages": [
-        c_void_p,
-        c_size_t,
-        POINTER(Progress),
-        POINTER(Page),
         c_size_t,
         POINTER(Finding),
         POINTER(c_uint32),
@@ -317,6 +277,19 @@ CALLS = {
     ],
     "end_stream": [POINTER(Progress), c_size_t, POINTER(Finding)],
     "trace_check_pages": [POINTER(Trace), POINTER(Progress), POINTER(c_uint32), c_size_t, POINTER(Finding)],
+    "trace_check_base": [POINTER(Trace), c_uint64, POINTER(c_uint32), c_size_t, c_void_p, c_size_t],
+    "trace_check_bytes": [
+        POINTER(Trace),
+        c_uint32,
+        c_uint32,
+        c_void_p,
+        c_size_t,
+        POINTER(c_uint32),
+        c_size_t,
+        c_void_p,
+        c_size_t,
+    ],
+    "trace_differs": [POINTER(Trace), c_uint32, c_void_p, c_size_t, c_void_p, c_size_t, POINTER(Finding)],
     "record_begin": [c_void_p, c_size_t, c_uint32, c_uint32, POINTER(Recording)],
     "record_write": [c_void_p, c_size_t, POINTER(Recording), c_uint64, c_uint32, c_uint32, c_void_p, c_size_t],
     "record_release": [c_void_p, c_size_t, POINTER(Recording), c_uint64, c_uint32],

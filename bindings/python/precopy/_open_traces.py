@@ -3,17 +3,18 @@
 from __future__ import annotations
 
 import ctypes
-from typing import Any, List
+from typing import Any, List, Optional
 
 from . import _calls, _interface
 from ._calls import LIBRARY as _LIBRARY
 from ._calls import lent as _lent
 from ._calls import number as _number
-from ._open_checks import OpenCheck
+from ._open_checks import OpenCheck, difference
 from ._refusals import Bytes
 from ._refusals import check as _check
 from ._refusals import check_over as _check_over
 from ._refusals import room as _room
+from ._streams import Finding
 
 
 class OpenTrace:
@@ -70,7 +71,8 @@ class OpenTrace:
         return self._versions(_LIBRARY.precopy_trace_versions_after, _number("count", count, 32))
 
     def versions_before(self, tick: int) -> List[int]:
-        """Returns the versions of all pages after the writes before a tick."""
+        """Returns the versions of all pages after the writes before a tick: those of a right migration that stops the
+        guest there."""
         return self._versions(_LIBRARY.precopy_trace_versions_before, _number("tick", tick, 64))
 
     def page_at(self, page: int, stamp: int) -> bytes:
@@ -80,9 +82,18 @@ class OpenTrace:
         _check(_LIBRARY.precopy_trace_page_at(self._trace, *where, ctypes.addressof(room), len(room)))
         return room.raw
 
-    def check(self, stop: int) -> OpenCheck:
-        """Returns a check of the streams of a migration that stops its guest after the first `stop` writes."""
-        return OpenCheck(self, self._trace, stop)
+    def difference(self, count: int, memory: Bytes) -> Optional[Finding]:
+        """Returns the first byte of memory that is not as the first `count` writes leave it, as a `Difference`,
+        or None. Memory that has not the bytes of all pages is a `BufferRefused`."""
+        place = _number("count", count, 32)
+        with _lent(memory) as lent:
+            return difference(self._trace, place, *lent)
+
+    def check(self, stop: int, base: Optional[int] = None) -> OpenCheck:
+        """Returns a check of the streams of a migration that stops its guest after the first `stop` writes. With a base
+        the destination has the memory before that tick, so a page that is not written from there to the stop need not
+        come."""
+        return OpenCheck(self, self._trace, stop, base)
 
     def _versions(self, call: Any, place: int) -> List[int]:
         found, needed = _room(ctypes.c_uint32 * self.pages), ctypes.c_size_t()

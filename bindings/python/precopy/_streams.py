@@ -1,11 +1,10 @@
-"""Streams of a migration, checked against a trace: all at once, or as they come."""
+"""Streams of a migration, checked against a trace all at once, and what is wrong in them."""
 
 from __future__ import annotations
 
 import ctypes
-import threading
 from dataclasses import dataclass
-from typing import Any, Optional, Sequence
+from typing import Optional, Sequence, Type
 
 from . import _calls, _interface
 from ._calls import LIBRARY as _LIBRARY
@@ -44,6 +43,33 @@ class Finding:
         return f"page {self.page} at {self.stamp} for {self.wanted}, {text}{lacks}"
 
 
+@dataclass(frozen=True)
+class Unstamped(Finding):
+    """What is wrong with a page that came without a stamp: it has its bytes at no version of it from `stamp` to
+    `wanted`, which are those that it had come at, or 0, and that at the stop."""
+
+    @property
+    def place(self) -> str:
+        return f"page {self.page} without a stamp"
+
+    def __str__(self) -> str:
+        return f"its bytes are those of no version from {self.stamp} to {self.wanted}"
+
+
+@dataclass(frozen=True)
+class Difference(Finding):
+    """Where memory differs first from that after some writes: `offset` is the byte of memory, `page` its page, `wanted`
+    the page's version, and `missing` and `tick` are those of the last write to that byte, or 0 if none wrote it."""
+
+    @property
+    def place(self) -> str:
+        return f"byte {self.offset} of memory"
+
+    def __str__(self) -> str:
+        wrote = f"which write {self.missing} wrote at tick {self.tick}" if self.missing else "which no write wrote"
+        return f"it is not that of page {self.page} at {self.wanted}, {wrote}"
+
+
 def writes_before(trace: Bytes, tick: int) -> int:
     """Returns how many writes of a trace are before a tick."""
     count = ctypes.c_uint32()
@@ -51,18 +77,12 @@ def writes_before(trace: Bytes, tick: int) -> int:
     return count.value
 
 
-def told(status: int, found: _interface.Finding) -> Optional[Finding]:
-    """What a call with this status found, or None."""
+def told(status: int, found: _interface.Finding, kind: Type[Finding] = Finding) -> Optional[Finding]:
+    """What a call with this status found, of some kind, or None."""
     if status not in _calls.WRONG:
         check(status)
         return None
-    return Finding(Status(status), *(getattr(found, name) for name, _ in _interface.Finding._fields_))
-
-
-def _found(call: Any, trace: Bytes, *words: Any) -> Optional[Finding]:
-    """Makes a call over a trace whose last word but the record is what it finds."""
-    found = _interface.Finding()
-    return told(call_over(call, trace, *words, found), found)
+    return kind(Status(status), *(getattr(found, name) for name, _ in _interface.Finding._fields_))
 
 
 def check_streams(trace: Bytes, stop: int, streams: Sequence[Bytes]) -> Optional[Finding]:
@@ -73,65 +93,7 @@ def check_streams(trace: Bytes, stop: int, streams: Sequence[Bytes]) -> Optional
         with _lent(stream) as (_, length):
             sizes[place] = length
     whole = streams[0] if len(streams) == 1 else room(b"".join, streams)
+    found = _interface.Finding()
     with _lent(whole) as (start, total):
-        return _found(_LIBRARY.precopy_check_streams, trace, where, start, total, sizes, len(sizes))
-
-
-class StreamCheck:
-    """A check of the streams of a migration as they come, one after the other. It finds what `check_streams` finds in
-    all of them at once. What it finds first is what each later call returns, and no more is taken then. Several threads
-    may call at once, and wait for each other. The trace must stay as it is: no copy is kept, and each call takes memory
-    as `check_streams` does."""
-
-    def __init__(self, trace: Bytes, stop: int) -> None:
-        sizes, self._trace = _interface.Sizes(), trace
-        self._progress = _interface.Progress(stop=_number("stop", stop, 32))
-        check_over(_LIBRARY.precopy_check_trace, trace, sizes)
-        self._states = room(_interface.Page * (2 * sizes.pages))
-        self._first: Optional[Finding] = None
-        # The beginning of a frame, whose end did not come.
-        self._left = b""
-        self._only_call = threading.Lock()
-
-    def _found(self, call: Any, *words: Any) -> Optional[Finding]:
-        return _found(call, self._trace, *words, self._progress, self._states, len(self._states))
-
-    def take(self, data: Bytes) -> Optional[Finding]:
-        """Takes the next bytes of a stream, and returns the first frame that is wrong, or None. It keeps the beginning
-        of a frame at their end, and copies the bytes that come behind one."""
-        with self._only_call, _lent(data) as piece:
-            if self._first is None and self._left:
-                start, length = piece
-                whole = room(b"".join, (self._left, (ctypes.c_char * length).from_address(start)))
-                with _lent(whole) as piece:
-                    self._take(*piece)
-            elif self._first is None:
-                self._take(*piece)
-            return self._first
-
-    def _take(self, start: int, length: int) -> None:
-        before = self._progress.bytes
-        self._first = self._found(_LIBRARY.precopy_check_piece, start, length)
-        taken = self._progress.bytes - before
-        self._left = b"" if self._first else ctypes.string_at(start + taken, length - taken)
-
-    def _cut(self) -> Optional[Finding]:
-        """The frame that did not come to its end, or None."""
-        at = self._progress
-        return Finding(Status.FRAME_SHORT, at.stream, at.frames, at.bytes, 0, 0, 0, 0, 0) if self._left else None
-
-    def end_stream(self) -> Optional[Finding]:
-        """Ends a stream, and returns the frame that is cut off at its end, or what was found before, or None."""
-        with self._only_call:
-            self._first, self._left = self._first or self._cut(), b""
-            if self._first is None:
-                at = self._progress
-                at.stream, at.frames, at.bytes = at.stream + 1, 0, 0
-                ctypes.memset(self._states, 0, ctypes.sizeof(self._states) // 2)
-            return self._first
-
-    def finish(self) -> Optional[Finding]:
-        """Returns, when all streams have ended, what was found before, or a frame that is cut off at the end of the
-        last one, or else the first page that is not at its version at the stop, or None."""
-        with self._only_call:
-            return self._first or self._cut() or self._found(_LIBRARY.precopy_check_pages)
+        words = where, start, total, sizes, len(sizes), found
+        return told(call_over(_LIBRARY.precopy_check_streams, trace, *words), found)

@@ -146,9 +146,10 @@ fn print_amounts(trace: &[u8], question: &Question) -> Result<(), Refused> {
 /// in the first, and without the last byte, in pieces.
 fn print_findings(trace: &[u8], stop: u32, memory: &[u8]) -> Result<(), Refused> {
     let sizes = precopy::check_trace(trace)?;
+    let opened = precopy::OpenTrace::open(trace)?;
     let (mut stream, mut first) = (Vec::new(), 0);
     for (page, content) in (0..sizes.pages()).zip(memory.chunks(sizes.page_length())) {
-        let stamp = precopy::version_after(trace, page, stop)?;
+        let stamp = opened.version_after(page, stop)?;
         stream.extend(precopy::encode_frame(&sizes, page, stamp, content)?);
         first = if page == 0 { stream.len() } else { first };
     }
@@ -158,11 +159,11 @@ fn print_findings(trace: &[u8], stop: u32, memory: &[u8]) -> Result<(), Refused>
     stream[4] ^= 1;
     print_finding(precopy::check_streams(trace, stop, &stream, &[stream.len()])?);
     stream[4] ^= 1;
-    let mut check = precopy::StreamCheck::new(trace, stop)?;
+    let mut check = opened.check(stop)?;
     for piece in stream[..stream.len() - 1].chunks(50) {
-        check.take(piece)?;
+        check.take(0, piece)?;
     }
-    check.end_stream();
+    check.end_stream(0)?;
     print_finding(check.finish()?);
     Ok(())
 }

@@ -330,41 +330,6 @@ extern "C" {
         memory_length: usize,
         record: *mut u32,
     ) -> u32;
-    pub fn precopy_version_after(
-        trace: *const u8,
-        trace_length: usize,
-        page: u32,
-        count: u32,
-        version: *mut u32,
-        record: *mut u32,
-    ) -> u32;
-    pub fn precopy_versions_after(
-        trace: *const u8,
-        trace_length: usize,
-        count: u32,
-        versions: *mut u32,
-        versions_length: usize,
-        needed: *mut usize,
-        record: *mut u32,
-    ) -> u32;
-    pub fn precopy_versions_before(
-        trace: *const u8,
-        trace_length: usize,
-        tick: u64,
-        versions: *mut u32,
-        versions_length: usize,
-        needed: *mut usize,
-        record: *mut u32,
-    ) -> u32;
-    pub fn precopy_page_at(
-        trace: *const u8,
-        trace_length: usize,
-        page: u32,
-        stamp: u32,
-        content: *mut u8,
-        content_length: usize,
-        record: *mut u32,
-    ) -> u32;
     pub fn precopy_page_writes(
         trace: *const u8,
         trace_length: usize,
@@ -411,26 +376,6 @@ extern "C" {
         bytes_length: usize,
         sizes: *const usize,
         sizes_length: usize,
-        found: *mut Finding,
-        record: *mut u32,
-    ) -> u32;
-    pub fn precopy_check_piece(
-        trace: *const u8,
-        trace_length: usize,
-        piece: *const u8,
-        piece_length: usize,
-        progress: *mut Progress,
-        states: *mut Page,
-        states_length: usize,
-        found: *mut Finding,
-        record: *mut u32,
-    ) -> u32;
-    pub fn precopy_check_pages(
-        trace: *const u8,
-        trace_length: usize,
-        progress: *const Progress,
-        states: *const Page,
-        states_length: usize,
         found: *mut Finding,
         record: *mut u32,
     ) -> u32;
@@ -492,6 +437,34 @@ extern "C" {
         progress: *const Progress,
         greatest: *const u32,
         greatest_length: usize,
+        found: *mut Finding,
+    ) -> u32;
+    pub fn precopy_trace_check_base(
+        trace: *const Trace,
+        tick: u64,
+        greatest: *mut u32,
+        greatest_length: usize,
+        memory: *mut u8,
+        memory_length: usize,
+    ) -> u32;
+    pub fn precopy_trace_check_bytes(
+        trace: *const Trace,
+        stop: u32,
+        page: u32,
+        content: *const u8,
+        content_length: usize,
+        greatest: *mut u32,
+        greatest_length: usize,
+        memory: *mut u8,
+        memory_length: usize,
+    ) -> u32;
+    pub fn precopy_trace_differs(
+        trace: *const Trace,
+        count: u32,
+        memory: *const u8,
+        memory_length: usize,
+        room: *mut u8,
+        room_length: usize,
         found: *mut Finding,
     ) -> u32;
     pub fn precopy_record_begin(

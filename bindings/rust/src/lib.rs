@@ -18,10 +18,7 @@ pub use flat::{
 };
 pub use open_check::OpenCheck;
 pub use open_trace::OpenTrace;
-pub use places::{
-    memory_step, page_at, page_at_into, page_writes, page_writes_into, version_after, versions_after,
-    versions_after_into, versions_before, versions_before_into, Write,
-};
+pub use places::{memory_step, page_writes, page_writes_into, Write};
 pub use predictions::{
     agreement, best_start, enough, forecast, link_shares, predict, Agreement, Amounts, BestStart, Errors, Forecast,
     ForecastEnd, LinkShares, Prediction, Question, Starts, Verdict,
@@ -29,7 +26,7 @@ pub use predictions::{
 pub use recordings::Recording;
 pub use refusals::Refused;
 pub use status::Status;
-pub use streams::{check_streams, writes_before, Finding, FramePlace, StreamCheck};
+pub use streams::{check_streams, writes_before, Finding, FramePlace};
 
 use open_trace::Trace;
 use refusals::{checked, checked_buffer, with_record, NO_RECORD};
@@ -46,7 +43,7 @@ pub fn version() -> &'static str {
 }
 
 /// The number of the interface that this crate was written for.
-pub const ABI: u32 = 4;
+pub const ABI: u32 = 5;
 
 /// Returns the number of the library's interface. If it is not [`ABI`], call nothing else.
 pub fn abi() -> u32 {

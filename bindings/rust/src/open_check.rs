@@ -1,8 +1,8 @@
 //! Streams of a migration, checked over a trace that stays open, in any order.
 
-use crate::refusals::{Refused, NO_RECORD};
+use crate::refusals::{checked, Refused, NO_RECORD};
 use crate::streams::told;
-use crate::{calls, room, Finding, OpenTrace};
+use crate::{calls, room, Finding, OpenTrace, Status};
 
 /// What is known of one stream.
 struct Stream {
@@ -15,13 +15,17 @@ struct Stream {
 
 /// A check of the streams of a migration as they come, whose pieces may come in any order. At the end it has found what
 /// [`check_streams`](crate::check_streams) finds in all of them at once. What is wrong first in a stream is what each
-/// later call for it returns, and no more of it is taken then. [`OpenTrace::check`] makes it.
+/// later call for it returns, and no more of it is taken then. So it is with pages that come without stamps.
+/// [`OpenTrace::check`] makes it, and [`OpenTrace::check_with_base`].
 pub struct OpenCheck<'t> {
     trace: &'t OpenTrace<'t>,
     stop: u32,
     greatest: Vec<u32>,
     memory: Vec<u8>,
     streams: Vec<Stream>,
+    first_page: Option<Finding>,
+    /// Whether pages came without stamps, so that versions do not tell if memory is right.
+    has_pages: bool,
 }
 
 impl Stream {
@@ -47,6 +51,24 @@ impl<'t> OpenCheck<'t> {
             greatest: room::filled(sizes.pages() as usize, 0)?,
             memory: room::zeros(sizes.memory_length())?,
             streams: Vec::new(),
+            first_page: None,
+            has_pages: false,
+        })
+    }
+
+    /// Begins with the memory before a tick.
+    pub(crate) fn begin_at(&mut self, base: u64) -> Result<(), Refused> {
+        // SAFETY: the trace is as it was opened, each slice is there for its length, and no other reference reaches
+        // what is written.
+        checked(unsafe {
+            calls::precopy_trace_check_base(
+                self.trace.shown(),
+                base,
+                self.greatest.as_mut_ptr(),
+                self.greatest.len(),
+                self.memory.as_mut_ptr(),
+                self.memory.len(),
+            )
         })
     }
 
@@ -94,8 +116,8 @@ impl<'t> OpenCheck<'t> {
         let stream = &mut self.streams[place];
         let mut found = calls::Finding::default();
         let before = stream.progress.bytes;
-        // SAFETY: the trace is as it was opened, each slice is there for its length, and no other reference reaches
-        // what is written. The words and the memory began as zeros, and only this call changes them.
+        // SAFETY: as in `begin_at`. The words and the memory began as zeros or there, and only this call and that of
+        // `take_page` change them.
         let status = unsafe {
             calls::precopy_trace_check_piece(
                 self.trace.shown(),
@@ -127,14 +149,55 @@ impl<'t> OpenCheck<'t> {
         self.streams[place].end()
     }
 
-    /// Returns, when all streams have ended, what was found in the first of them in which something is wrong, or else
-    /// the first page that is not at its version at the stop, or `None`.
+    /// Takes a page that comes without a stamp, as from an engine that knows its dirty pages alone. It is right if it
+    /// has its bytes at a version of the page: none below the one that was taken last, and none after the stop. Then
+    /// the least of these is taken. It returns a [`Finding::Unstamped`] of the first page that is not, or `None`.
+    pub fn take_page(&mut self, page: u32, content: &[u8]) -> Result<Option<Finding>, Refused> {
+        if self.first_page.is_some() {
+            return Ok(self.first_page);
+        }
+        // SAFETY: as in `take_behind`.
+        let status = unsafe {
+            calls::precopy_trace_check_bytes(
+                self.trace.shown(),
+                self.stop,
+                page,
+                content.as_ptr(),
+                content.len(),
+                self.greatest.as_mut_ptr(),
+                self.greatest.len(),
+                self.memory.as_mut_ptr(),
+                self.memory.len(),
+            )
+        };
+        if Status::of(status) == Status::OtherBytes {
+            self.first_page = Some(Finding::Unstamped {
+                page,
+                stamp: self.greatest.get(page as usize).map_or(0, |it| it.saturating_sub(1)),
+                wanted: self.trace.version_after(page, self.stop)?,
+            });
+        } else {
+            checked(status)?;
+        }
+        self.has_pages = true;
+        Ok(self.first_page)
+    }
+
+    /// Ends all streams. It returns what was found in the first of them in which something is wrong, or else in the
+    /// pages without stamps, or else the first page that is not at its version at the stop, or `None`. If pages came
+    /// without stamps, it returns a [`Finding::Difference`] of memory and that at the stop in place of such a page.
     pub fn finish(&mut self) -> Result<Option<Finding>, Refused> {
         self.streams.sort_unstable_by_key(|it| it.progress.stream);
         for stream in &mut self.streams {
             if let Some(found) = stream.end()? {
                 return Ok(Some(found));
             }
+        }
+        if self.first_page.is_some() {
+            return Ok(self.first_page);
+        }
+        if self.has_pages {
+            return self.trace.difference(self.stop, &self.memory);
         }
         let progress = calls::Progress {
             stop: self.stop,

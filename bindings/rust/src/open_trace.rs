@@ -1,7 +1,7 @@
 //! A trace that stays open between calls.
 
 use crate::refusals::{checked, checked_buffer, with_record, Refused, NO_RECORD};
-use crate::{calls, room, OpenCheck, Sizes};
+use crate::{calls, room, Finding, OpenCheck, Sizes, Status};
 use std::marker::PhantomData;
 
 /// C's `struct precopy_trace`.
@@ -82,6 +82,42 @@ impl<'a> OpenTrace<'a> {
         OpenCheck::new(self, stop)
     }
 
+    /// Returns such a check of a migration to a destination that has the memory before the tick `base`. A page that is
+    /// not written from there to the stop need not come.
+    pub fn check_with_base(&self, stop: u32, base: u64) -> Result<OpenCheck<'_>, Refused> {
+        let mut check = OpenCheck::new(self, stop)?;
+        check.begin_at(base)?;
+        Ok(check)
+    }
+
+    /// Returns the first byte of memory that is not as the first `count` writes leave it, as a [`Finding::Difference`],
+    /// or `None`.
+    pub fn difference(&self, count: u32, memory: &[u8]) -> Result<Option<Finding>, Refused> {
+        let mut room = room::zeros(self.sizes().page_length())?;
+        let mut found = calls::Finding::default();
+        // SAFETY: as in `memory_before_into`, for both slices.
+        let status = unsafe {
+            calls::precopy_trace_differs(
+                &self.shown,
+                count,
+                memory.as_ptr(),
+                memory.len(),
+                room.as_mut_ptr(),
+                room.len(),
+                &mut found,
+            )
+        };
+        if Status::of(status) != Status::PageBehind {
+            return checked(status).map(|()| None);
+        }
+        Ok(Some(Finding::Difference {
+            offset: found.offset,
+            page: found.page,
+            wanted: found.wanted,
+            missing: (found.missing != 0).then_some((found.missing, found.tick)),
+        }))
+    }
+
     /// Returns the number of writes before a tick.
     pub fn writes_before(&self, tick: u64) -> Result<u32, Refused> {
         let mut count = 0;
@@ -114,12 +150,22 @@ impl<'a> OpenTrace<'a> {
         checked(status).map(|()| version)
     }
 
-    fn versions<P>(&self, call: VersionsCall<P>, place: P) -> Result<Vec<u32>, Refused> {
-        let mut versions = room::filled(self.sizes().pages() as usize, 0)?;
+    fn versions_into<P>(&self, call: VersionsCall<P>, place: P, versions: &mut [u32]) -> Result<usize, Refused> {
         let mut needed = 0;
         // SAFETY: as in `memory_before_into`.
         let status = unsafe { call(&self.shown, place, versions.as_mut_ptr(), versions.len(), &mut needed) };
-        checked_buffer(status, needed).map(|_| versions)
+        checked_buffer(status, needed)
+    }
+
+    fn versions<P>(&self, call: VersionsCall<P>, place: P) -> Result<Vec<u32>, Refused> {
+        let mut versions = room::filled(self.sizes().pages() as usize, 0)?;
+        self.versions_into(call, place, &mut versions).map(|_| versions)
+    }
+
+    /// Writes the versions of all pages after the first `count` writes to the front of a slice, and returns how many
+    /// they are.
+    pub fn versions_after_into(&self, count: u32, versions: &mut [u32]) -> Result<usize, Refused> {
+        self.versions_into(calls::precopy_trace_versions_after, count, versions)
     }
 
     /// Returns the versions of all pages after the first `count` writes.
@@ -127,7 +173,14 @@ impl<'a> OpenTrace<'a> {
         self.versions(calls::precopy_trace_versions_after, count)
     }
 
-    /// Returns the versions of all pages after the writes before a tick.
+    /// Writes the versions of all pages after the writes before a tick to the front of a slice, and returns how many
+    /// they are.
+    pub fn versions_before_into(&self, tick: u64, versions: &mut [u32]) -> Result<usize, Refused> {
+        self.versions_into(calls::precopy_trace_versions_before, tick, versions)
+    }
+
+    /// Returns the versions of all pages after the writes before a tick: those of a right migration that stops the
+    /// guest there.
     pub fn versions_before(&self, tick: u64) -> Result<Vec<u32>, Refused> {
         self.versions(calls::precopy_trace_versions_before, tick)
     }

@@ -1,7 +1,7 @@
 //! Streams of a migration, checked against a trace.
 
 use crate::refusals::{checked, with_record, write_sentence, Refused, NO_RECORD};
-use crate::{calls, check_trace, room, Page, Status};
+use crate::{calls, Status};
 use std::fmt;
 
 /// A frame of some streams.
@@ -34,6 +34,19 @@ pub enum Finding {
     Page {
         page: u32,
         stamp: Option<u32>,
+        wanted: u32,
+        missing: Option<(u32, u64)>,
+    },
+    /// A page that came without a stamp has its bytes at no version of it from `stamp`, at which it had come, or 0, to
+    /// `wanted`, that at the stop.
+    #[allow(missing_docs)]
+    Unstamped { page: u32, stamp: u32, wanted: u32 },
+    /// Memory differs from that after some writes, first at its byte `offset`, which is of `page`. `wanted` is the
+    /// page's version, and `missing` the place and the tick of the last write to that byte, if any wrote it.
+    #[allow(missing_docs)]
+    Difference {
+        offset: usize,
+        page: u32,
         wanted: u32,
         missing: Option<(u32, u64)>,
     },
@@ -84,6 +97,8 @@ impl Finding {
                 missing: missing.map_or(0, |(place, _)| place),
                 ..Default::default()
             },
+            // Neither is a sentence of the library.
+            Finding::Unstamped { .. } | Finding::Difference { .. } => calls::Finding::default(),
         }
     }
 
@@ -92,7 +107,8 @@ impl Finding {
         match *self {
             Finding::Frame { status, .. } => status,
             Finding::Page { stamp: None, .. } => Status::PageMissing,
-            Finding::Page { .. } => Status::PageBehind,
+            Finding::Unstamped { .. } => Status::OtherBytes,
+            Finding::Page { .. } | Finding::Difference { .. } => Status::PageBehind,
         }
     }
 }
@@ -116,6 +132,33 @@ impl calls::Finding {
 /// The line that `tools/check` prints: where it is, and what is wrong.
 impl fmt::Display for Finding {
     fn fmt(&self, f: &mut fmt::Formatter<'_>) -> fmt::Result {
+        match *self {
+            Finding::Unstamped { page, stamp, wanted } => write!(
+                f,
+                "page {page} without a stamp: its bytes are those of no version from {stamp} to {wanted}"
+            ),
+            Finding::Difference {
+                offset,
+                page,
+                wanted,
+                missing,
+            } => {
+                write!(
+                    f,
+                    "byte {offset} of memory: it is not that of page {page} at {wanted}, "
+                )?;
+                match missing {
+                    Some((place, tick)) => write!(f, "which write {place} wrote at tick {tick}"),
+                    None => f.write_str("which no write wrote"),
+                }
+            }
+            _ => self.write_by_library(f),
+        }
+    }
+}
+
+impl Finding {
+    fn write_by_library(&self, f: &mut fmt::Formatter<'_>) -> fmt::Result {
         let found = self.as_c();
         // SAFETY: the struct is there, and the text for its length; nothing else reaches what is written.
         write_sentence(f, self.status(), |text, length, needed| unsafe {
@@ -163,126 +206,4 @@ pub fn check_streams(trace: &[u8], stop: u32, bytes: &[u8], sizes: &[usize]) -> 
         )
     };
     told(status, &found, record)
-}
-
-/// A check of the streams of a migration as they come, one after the other. It finds what [`check_streams`] finds in
-/// all of them at once. What it finds first is what each later call returns, and no more is taken then.
-pub struct StreamCheck<'a> {
-    trace: &'a [u8],
-    progress: calls::Progress,
-    states: Vec<Page>,
-    /// The beginning of a frame, whose end did not come. It has room for a whole frame.
-    left: Vec<u8>,
-    first: Option<Finding>,
-}
-
-impl<'a> StreamCheck<'a> {
-    /// Returns a check to which nothing came, of a migration that stops its guest after the first `stop` writes of a
-    /// trace.
-    pub fn new(trace: &'a [u8], stop: u32) -> Result<StreamCheck<'a>, Refused> {
-        let sizes = check_trace(trace)?;
-        Ok(StreamCheck {
-            trace,
-            progress: calls::Progress {
-                stop,
-                ..Default::default()
-            },
-            states: room::filled(2 * sizes.pages() as usize, Page::default())?,
-            left: room::empty(9 + sizes.page_length())?,
-            first: None,
-        })
-    }
-
-    /// Takes the next bytes of a stream, and returns the first frame that is wrong, or `None`. It keeps the beginning
-    /// of a frame at their end, and copies the bytes that come behind one. If it is refused, nothing is taken.
-    pub fn take(&mut self, piece: &[u8]) -> Result<Option<Finding>, Refused> {
-        if self.first.is_some() {
-            return Ok(self.first);
-        }
-        if self.left.is_empty() {
-            return self.take_behind(piece);
-        }
-        let mut whole = room::empty(self.left.len() + piece.len())?;
-        whole.extend_from_slice(&self.left);
-        whole.extend_from_slice(piece);
-        self.take_behind(&whole)
-    }
-
-    /// Takes bytes that begin where the whole frames that were taken end.
-    fn take_behind(&mut self, bytes: &[u8]) -> Result<Option<Finding>, Refused> {
-        let mut found = calls::Finding::default();
-        let (mut record, before) = (NO_RECORD, self.progress.bytes);
-        // SAFETY: each slice is there for its length, and no other reference reaches what is written.
-        let status = unsafe {
-            calls::precopy_check_piece(
-                self.trace.as_ptr(),
-                self.trace.len(),
-                bytes.as_ptr(),
-                bytes.len(),
-                &mut self.progress,
-                self.states.as_mut_ptr(),
-                self.states.len(),
-                &mut found,
-                &mut record,
-            )
-        };
-        self.first = told(status, &found, record)?;
-        self.left.clear();
-        if self.first.is_none() {
-            let taken = self.progress.bytes.wrapping_sub(before);
-            self.left.extend_from_slice(bytes.get(taken..).unwrap_or_default());
-        }
-        Ok(self.first)
-    }
-
-    /// The frame whose end did not come.
-    fn cut(&self) -> Option<Finding> {
-        let frame = calls::Finding {
-            stream: self.progress.stream,
-            frame: self.progress.frames,
-            offset: self.progress.bytes,
-            ..Default::default()
-        };
-        (!self.left.is_empty()).then(|| frame.frame(Status::FrameShort))
-    }
-
-    /// Ends a stream, and begins the next one. It returns the frame that is cut off at its end, or what was found
-    /// before, or `None`.
-    pub fn end_stream(&mut self) -> Option<Finding> {
-        self.first = self.first.or_else(|| self.cut());
-        self.left.clear();
-        if self.first.is_none() {
-            self.progress = calls::Progress {
-                stream: self.progress.stream.wrapping_add(1),
-                stop: self.progress.stop,
-                ..Default::default()
-            };
-            let pages = self.states.len() / 2;
-            self.states.iter_mut().take(pages).for_each(|it| *it = Page::default());
-        }
-        self.first
-    }
-
-    /// Returns, when all streams have ended, what was found before, or a frame that is cut off at the end of the last
-    /// one, or else the first page that is not at its version at the stop, or `None`.
-    pub fn finish(&self) -> Result<Option<Finding>, Refused> {
-        if let Some(finding) = self.first.or_else(|| self.cut()) {
-            return Ok(Some(finding));
-        }
-        let mut found = calls::Finding::default();
-        let mut record = NO_RECORD;
-        // SAFETY: as in `take_behind`.
-        let status = unsafe {
-            calls::precopy_check_pages(
-                self.trace.as_ptr(),
-                self.trace.len(),
-                &self.progress,
-                self.states.as_ptr(),
-                self.states.len(),
-                &mut found,
-                &mut record,
-            )
-        };
-        told(status, &found, record)
-    }
 }

@@ -340,25 +340,35 @@ fn memories() {
 
 #[test]
 fn pages() {
-    assert_eq!(precopy::version_after(&TRACE, 1, 4), Ok(3));
-    assert_eq!(precopy::version_after(&TRACE, 1, u32::MAX), Ok(5));
-    assert_eq!(precopy::versions_after(&TRACE, 4).as_deref(), Ok(&[1, 3, 0, 4][..]));
-    assert_eq!(precopy::versions_before(&TRACE, 2500).as_deref(), Ok(&[1, 3, 0, 0][..]));
+    let held = OpenTrace::open(&TRACE).unwrap();
+    assert_eq!(
+        (held.version_after(1, 4), held.version_after(1, u32::MAX)),
+        (Ok(3), Ok(5))
+    );
+    assert_eq!(held.versions_after(4).as_deref(), Ok(&[1, 3, 0, 4][..]));
+    assert_eq!(held.versions_before(2500).as_deref(), Ok(&[1, 3, 0, 0][..]));
     let mut versions = [9; 5];
-    let short = precopy::versions_after_into(&TRACE, 4, &mut versions[..3]);
+    let short = held.versions_after_into(4, &mut versions[..3]);
     assert_eq!((short, versions), (Err(Refused::ShortBuffer { needed: 4 }), [9; 5]));
-    let short = precopy::versions_before_into(&TRACE, 2500, &mut versions[..3]);
+    let short = held.versions_before_into(2500, &mut versions[..3]);
     assert_eq!((short, versions), (Err(Refused::ShortBuffer { needed: 4 }), [9; 5]));
-    assert_eq!(precopy::versions_after_into(&TRACE, u32::MAX, &mut versions), Ok(4));
+    assert_eq!(held.versions_after_into(u32::MAX, &mut versions), Ok(4));
     assert_eq!(versions, [1, 5, 0, 4, 9]);
     let mut wanted = [0; 16];
     (wanted[0], wanted[15]) = (3, 2);
-    assert_eq!(precopy::page_at(&TRACE, 1, 3).as_deref(), Ok(&wanted[..]));
+    assert_eq!(held.page_at(1, 3).as_deref(), Ok(&wanted[..]));
     let mut content = [9; 17];
-    let short = precopy::page_at_into(&TRACE, 1, 3, &mut content[..15]);
+    let short = held.page_at_into(1, 3, &mut content[..15]);
     assert_eq!((short, content), (Err(Refused::ShortBuffer { needed: 16 }), [9; 17]));
-    assert_eq!(precopy::page_at_into(&TRACE, 1, 3, &mut content), Ok(16));
+    assert_eq!(held.page_at_into(1, 3, &mut content), Ok(16));
     assert_eq!((&content[..16], content[16]), (&wanted[..], 9));
+    let place = |status| Refused::Place { status };
+    assert_eq!(held.page_at(1, 4), Err(place(Status::NoVersion)));
+    assert_eq!(held.version_after(4, 0), Err(place(Status::NoPage)));
+}
+
+#[test]
+fn writes_and_steps() {
     let writes = precopy::page_writes(&TRACE, 1).unwrap();
     let found: Vec<_> = writes
         .iter()
@@ -369,9 +379,7 @@ fn pages() {
     let short = precopy::page_writes_into(&TRACE, 1, &mut [Write::default(); 2]);
     assert_eq!(short, Err(Refused::ShortBuffer { needed: 3 }));
     let place = |status| Refused::Place { status };
-    assert_eq!(precopy::page_at(&TRACE, 1, 4), Err(place(Status::NoVersion)));
     assert_eq!(precopy::page_writes(&TRACE, 4), Err(place(Status::NoPage)));
-    assert_eq!(precopy::version_after(&TRACE, 4, 0), Err(place(Status::NoPage)));
     let mut memory = [0; 64];
     assert_eq!(precopy::memory_step(&TRACE, 0, 3, &mut memory), Ok(()));
     assert_eq!(precopy::memory_before(&TRACE, 2500).as_deref(), Ok(&memory[..]));
@@ -391,10 +399,6 @@ fn open_traces() {
     let held = &opened;
     assert_eq!(held.sizes(), precopy::check_trace(&TRACE).unwrap());
     assert_eq!((held.writes_before(2500), held.writes_before(2501)), (Ok(3), Ok(5)));
-    assert_eq!(
-        (held.version_after(1, 4), held.version_after(1, u32::MAX)),
-        (Ok(3), Ok(5))
-    );
     // Several threads may ask at once.
     std::thread::scope(|scope| {
         let asked = [4, u32::MAX].map(|count| scope.spawn(move || held.versions_after(count)));
@@ -402,16 +406,9 @@ fn open_traces() {
         assert_eq!(four.as_deref(), Ok(&[1, 3, 0, 4][..]));
         assert_eq!(all.as_deref(), Ok(&[1, 5, 0, 4][..]));
     });
-    assert_eq!(held.versions_before(2500).as_deref(), Ok(&[1, 3, 0, 0][..]));
-    assert_eq!(held.page_at(1, 3), precopy::page_at(&TRACE, 1, 3));
     assert_eq!(held.memory_before(2500), precopy::memory_before(&TRACE, 2500));
-    let short = held.page_at_into(1, 3, &mut [0; 15]);
-    assert_eq!(short, Err(Refused::ShortBuffer { needed: 16 }));
     let short = held.memory_before_into(0, &mut [0; 63]);
     assert_eq!(short, Err(Refused::ShortBuffer { needed: 64 }));
-    let place = |status| Refused::Place { status };
-    assert_eq!(held.page_at(1, 4), Err(place(Status::NoVersion)));
-    assert_eq!(held.version_after(4, 0), Err(place(Status::NoPage)));
     let cut = Refused::Trace {
         status: Status::ShortRecord,
         record: Some(4),
@@ -440,10 +437,6 @@ fn traces() {
         precopy::memory_into(&TRACE[..101], &mut [0; 64]).map(|_| ()),
         precopy::memory_before(&TRACE[..101], 9).map(|_| ()),
         precopy::memory_step(&TRACE[..101], 0, 1, &mut [0; 64]),
-        precopy::version_after(&TRACE[..101], 0, 1).map(|_| ()),
-        precopy::versions_after(&TRACE[..101], 1).map(|_| ()),
-        precopy::versions_before(&TRACE[..101], 1).map(|_| ()),
-        precopy::page_at(&TRACE[..101], 0, 0).map(|_| ()),
         precopy::page_writes(&TRACE[..101], 0).map(|_| ()),
     ] {
         assert_eq!(refused, Err(cut));

@@ -108,8 +108,7 @@ test("a hypervisor that does not stop the guest is told as such", () => {
     const found = predicted("no", "no", none, { plan: looked(reason) });
     assert.equal(words(found), `It does not converge (it does from 0 of 9 starts): ${why}. The guest is not stopped, `
       + "and what is left would take 20 ms; the limit of 10 ms is not kept (it is from 0 of 9 starts).");
-    assert.ok(warningsOf(found).includes("The guest is not stopped, so nothing bounds the downtime: give more of the "
-      + "link."));
+    assert.ok(warningsOf(found).includes("A hypervisor goes on, and takes longer: give more of the link."));
     const [columns, [row]] = comparisonRows(found, []);
     const cell = (name) => row[columns.indexOf(name)];
     assert.deepEqual(["rounds", "stop_us", "reason", "plan_by"].map(cell), [2_000, "", reason, "looks"]);

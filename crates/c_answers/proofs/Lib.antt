@@ -4,14 +4,8 @@ pub mod Replayed
 pub mod Streams
 pub mod Given
 pub mod StartRefusals
-pub mod PageVersions
-pub mod PageVersionsAll
 pub mod PageRows
 pub mod MemorySteps
-pub mod PieceStates
-pub mod PieceRefusals
-pub mod PieceRuns
-pub mod PieceStreams
 pub mod TracePoints
 pub mod OneRefusal
 pub mod OneQuestion

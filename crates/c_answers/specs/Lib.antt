@@ -15,7 +15,7 @@ pub mod Frames
 pub mod FlatMemory
 pub mod StreamChecks
 pub mod Pieces
-pub mod PieceRuns
 pub mod Places
 pub mod Opened
 pub mod OpenPieces
+pub mod Unstamped

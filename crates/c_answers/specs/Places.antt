@@ -67,18 +67,6 @@ RefusesPage bytes page refusals.NoVersion = ⊥
 RefusesPage bytes page refusals.MemoryLength = ⊥
 RefusesPage bytes page refusals.ShortBuffer = ⊥
 
--- or else the page has no such version, or its bytes have no room
-abbrev pub RefusesVersion : List ℕ → ℕ → ℕ → ℕ → PlaceRefusal → Type 0
-RefusesVersion bytes page stamp room (refusals.Trace e) = Refuses bytes e
-RefusesVersion bytes page stamp room refusals.NoPage =
-    (trace : GuestTrace) × Spells bytes trace × (trace.pages ≤ page)
-RefusesVersion bytes page stamp room refusals.NoVersion = (trace : GuestTrace) × Spells bytes trace
-    × (page < trace.pages) × (version_after trace page stamp ≢ stamp)
-RefusesVersion bytes page stamp room refusals.ShortBuffer = (trace : GuestTrace) × Spells bytes trace
-    × IsVersion trace page stamp × (room < 2 ^ trace.shift)
-RefusesVersion bytes page stamp room refusals.Backwards = ⊥
-RefusesVersion bytes page stamp room refusals.MemoryLength = ⊥
-
 -- the step goes backwards, or else the bytes are not a trace, or there is not so much memory
 abbrev pub RefusesStep : List ℕ → ℕ → ℕ → ℕ → PlaceRefusal → Type 0
 RefusesStep bytes from to room refusals.Backwards = to < from

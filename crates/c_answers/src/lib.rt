@@ -33,4 +33,4 @@ pub mod settings;
 pub mod sizes;
 pub mod starts;
 pub mod sweeps;
-pub mod versions;
+pub mod unstamped;

@@ -29,7 +29,7 @@ pub fn open_count_before(trace: &OpenTrace<'_>, tick: u64) -> u32
 }
 
 /// Makes the memory after the writes before a tick.
-fn open_replay_before(trace: &OpenTrace<'_>, tick: u64, memory: &mut [u8])
+pub(crate) fn open_replay_before(trace: &OpenTrace<'_>, tick: u64, memory: &mut [u8])
     requires { length memory.old ≡ memory_length trace.now }
     ensures { memory.new ≡ (image_before trace.now tick).bytes }
 {

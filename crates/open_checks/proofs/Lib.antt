@@ -3,3 +3,7 @@ pub mod Words
 pub mod Kept
 pub mod Missing
 pub mod Fronts
+pub mod BaseWords
+pub mod Fitting
+pub mod WrongBytes
+pub mod Arrivals

@@ -1,11 +1,12 @@
 -- What a caller lends to a check over an open trace: words with the stamps of the pages that came, and memory with
 -- their bytes. All of it begins as zeros. This project's own.
-use Rattle.std.specs.Prelude.{◌≡◌, ℕ, ◌*◌, ◌-◌, ◌^◌, ◌<◌, ◌==◌, if◌then◌else◌, List, length, map, slice_index}
+use Rattle.std.specs.Prelude.{◌≡◌, ℕ, ◌+◌, ◌*◌, ◌-◌, ◌^◌, ◌<◌, ◌==◌, if◌then◌else◌, List, length, map, slice_index}
 use Rattle.std.specs.Prelude.{Option, Some, None}
 use Rattle.migration_model.specs.Final.{shape_of_trace}
 use Rattle.migration_model.specs.Memory.{memory_with, page_of}
 use Rattle.migration_model.specs.Trace.{GuestTrace}
 use Rattle.migration_model.specs.Versions.{page_at}
+use Rattle.open_traces.specs.Index.{versions_at}
 use Rattle.page_versions.specs.Index.{version_after}
 use Rattle.stream_check.specs.Checked.{Checked, checked_with}
 
@@ -37,3 +38,7 @@ pub record IsKept (trace : GuestTrace) (greatest memory : List ℕ) : Type 0 whe
   pub versions : AreVersions trace greatest
   pub bytes : (page : ℕ) → page < trace.pages
       → page_of (memory_with trace.shift trace.pages memory) page ≡ page_at trace page (kept_version greatest page)
+
+-- the words of pages that came as they are after the first `count` writes: their versions, plus 1
+abbrev pub words_at : GuestTrace → ℕ → List ℕ
+words_at trace count = map (λ version. version + 1) (versions_at trace count)

@@ -1,1 +1,4 @@
 pub mod Kept
+pub mod Unstamped
+pub mod Differences
+pub mod Arrivals

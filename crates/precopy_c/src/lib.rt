@@ -14,3 +14,4 @@ mod page_frames;
 mod stream_checks;
 mod trace_memory;
 mod trace_recordings;
+mod unstamped_checks;

@@ -15,8 +15,7 @@ ghost use Rattle.c_answers.specs.Answers.{number_of_frame};
 ghost use Rattle.c_answers.specs.OpenPieces.{FitsGuest, IsOpenPiece, KeepsPages, KeepsVersions, RefusesOpenPages};
 ghost use Rattle.c_answers.specs.OpenPieces.{RefusesOpenPiece, found_in_open, lent_with, number_of_open};
 ghost use Rattle.c_answers.specs.Opened.{IsOpened, Shows};
-ghost use Rattle.c_answers.specs.PieceRuns.{cut_frame};
-ghost use Rattle.c_answers.specs.Pieces.{gone_on};
+ghost use Rattle.c_answers.specs.Pieces.{cut_frame, gone_on};
 ghost use Rattle.c_answers.specs.StreamChecks.{frame_finding};
 
 use c_answers::answers::Refusal;
@@ -26,9 +25,13 @@ use c_answers::opened::TraceHandle;
 use c_answers::pieces::PieceProgress;
 use page_message::FrameError;
 
-/// Checks the next bytes of a stream, as [`precopy_check_piece`](crate::stream_checks::precopy_check_piece) does, in
-/// memory that is lent: `last` is the stream's own, and `greatest` and `memory` are those of all streams, whose pieces
-/// may come in any order. It allocates nothing.
+/// Checks the next bytes of a stream, of a guest that is stopped after so many writes of the trace as `progress` says:
+/// all whole frames of them. It sets `progress` to how far the stream has come then. What is behind them is the
+/// beginning of a frame, or nothing, and comes again at the front of the next bytes. If a frame is wrong, it returns
+/// the number of what is wrong with it and sets `found`.
+///
+/// It works in memory that is lent: `last` is the stream's own, and `greatest` and `memory` are those of all streams,
+/// whose pieces may come in any order. It allocates nothing.
 #[unsafe(no_mangle)]
 pub extern "C" fn precopy_trace_check_piece(
     trace: &TraceHandle<'_>,

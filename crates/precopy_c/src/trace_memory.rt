@@ -1,4 +1,4 @@
-//! Memory as the writes of a trace leave it, versions of pages, and the writes to a page.
+//! Memory as the writes of a trace leave it, and the writes to a page.
 
 // `Refuses` holds of one value alone: `TraceView::parse: first`.
 // `Spells` holds of one value alone: `one_trace`.
@@ -6,22 +6,17 @@
 ghost use Rattle.std.specs.Prelude.{◌≡◌, ◌≢◌, ◌*◌, ◌^◌, ◌<◌, ◌≤◌, ◌⊎◌, length};
 ghost use Rattle.migration_model.specs.Memory.{image_after, image_before, image_of};
 ghost use Rattle.migration_model.specs.Trace.{GuestTrace, Spells};
-ghost use Rattle.migration_model.specs.Versions.{page_at};
 ghost use Rattle.trace_codec.specs.Refusals.{Refuses};
 ghost use Rattle.trace_codec.specs.declared.error.TraceError.{TraceError};
-ghost use Rattle.page_versions.specs.Index.{version_after};
-ghost use Rattle.open_traces.specs.Index.{versions_at};
 ghost use Rattle.c_layout.specs.Refusals.{number_of_trace, record_after};
 ghost use Rattle.c_answers.specs.Buffers.{over};
 ghost use Rattle.c_answers.specs.Memories.{memory_length, writes_before};
-ghost use Rattle.c_answers.specs.Places.{IsStep, IsToldOf, RefusesStep, IsVersion, RefusesPage, RefusesVersion};
-ghost use Rattle.c_answers.specs.Places.{rows_of};
+ghost use Rattle.c_answers.specs.Places.{IsStep, IsToldOf, RefusesPage, RefusesStep, rows_of};
 
 use c_answers::memories::{answer_memory, count_before};
 use c_answers::memory_steps::answer_step;
 use c_answers::page_writes::{PageWrite, count_writes, put_writes};
 use c_answers::place_answers::{PlaceRefusal, trace_with_page};
-use c_answers::versions::{answer_page, answer_versions, version_to};
 use c_layout::refuse_trace;
 use trace_codec::TraceView;
 
@@ -120,118 +115,6 @@ pub extern "C" fn precopy_memory_step(
     ensures unchanged { result ≢ 0 → memory.new ≡ memory.old }
 {
     match answer_step(trace, from, to, memory) {
-        Ok(()) => 0,
-        Err(refusal) => refusal.told(record),
-    }
-}
-
-/// Sets `version` to the page's version after the first `count` writes of a trace: the place of the last of them that
-/// is to the page, or 0. It allocates nothing.
-#[unsafe(no_mangle)]
-pub extern "C" fn precopy_version_after(
-    trace: &[u8],
-    page: u32,
-    count: u32,
-    version: &mut u32,
-    record: &mut u32,
-) -> u32
-    ensures found { result ≡ 0 → (t : GuestTrace) × Spells trace.now t × (page < t.pages)
-        × (version.new ≡ version_after t page count) }
-    ensures refused { result ≢ 0
-        → IsToldOf result record.old record.new (RefusesPage trace.now page) × (version.new ≡ version.old) }
-    ensures not_told { result ≡ 0 → record.new ≡ record.old }
-    ensures only { (t : GuestTrace) → Spells trace.now t → page < t.pages → result ≡ 0 }
-{
-    match trace_with_page(trace, page) {
-        Ok(view) => {
-            *version = version_to(&view, page, count);
-            0
-        }
-        Err(refusal) => refusal.told(record),
-    }
-}
-
-/// Writes the versions of all pages after the first `count` writes of a trace, page by page, over the front of a
-/// buffer, and sets `needed` to their number. If the buffer is too short, it sets only that. It allocates nothing.
-#[unsafe(no_mangle)]
-pub extern "C" fn precopy_versions_after(
-    trace: &[u8],
-    count: u32,
-    versions: &mut [u32],
-    needed: &mut usize,
-    record: &mut u32,
-) -> u32
-    ensures made { result ≡ 0 → (t : GuestTrace) × Spells trace.now t × (needed.new ≡ t.pages)
-        × (versions.new ≡ over (versions_at t count) versions.old) }
-    ensures short { result ≡ 61 → (t : GuestTrace) × Spells trace.now t × (needed.new ≡ t.pages)
-        × (length versions.old < needed.new) }
-    ensures refused { result ≢ 0 → result ≢ 61 → (e : TraceError) × Refuses trace.now e × (result ≡ number_of_trace e)
-        × (needed.new ≡ needed.old) × (record.new ≡ record_after e record.old) }
-    ensures not_told { (result ≡ 0) ⊎ (result ≡ 61) → record.new ≡ record.old }
-    ensures only { (t : GuestTrace) → Spells trace.now t → (result ≡ 0) ⊎ (result ≡ 61) }
-    ensures unchanged { result ≢ 0 → versions.new ≡ versions.old }
-{
-    match TraceView::parse(trace) {
-        Ok(view) => match answer_versions(&view, count, versions, needed) {
-            Ok(()) => 0,
-            Err(refusal) => refusal.number(),
-        },
-        Err(error) => refuse_trace(error, record),
-    }
-}
-
-/// Writes the versions of all pages after the writes before a tick, as [`precopy_versions_after`] does after a number
-/// of writes.
-#[unsafe(no_mangle)]
-pub extern "C" fn precopy_versions_before(
-    trace: &[u8],
-    tick: u64,
-    versions: &mut [u32],
-    needed: &mut usize,
-    record: &mut u32,
-) -> u32
-    ensures made { result ≡ 0 → (t : GuestTrace) × Spells trace.now t × (needed.new ≡ t.pages)
-        × (versions.new ≡ over (versions_at t (writes_before t tick)) versions.old) }
-    ensures short { result ≡ 61 → (t : GuestTrace) × Spells trace.now t × (needed.new ≡ t.pages)
-        × (length versions.old < needed.new) }
-    ensures refused { result ≢ 0 → result ≢ 61 → (e : TraceError) × Refuses trace.now e × (result ≡ number_of_trace e)
-        × (needed.new ≡ needed.old) × (record.new ≡ record_after e record.old) }
-    ensures not_told { (result ≡ 0) ⊎ (result ≡ 61) → record.new ≡ record.old }
-    ensures only { (t : GuestTrace) → Spells trace.now t → (result ≡ 0) ⊎ (result ≡ 61) }
-    ensures unchanged { result ≢ 0 → versions.new ≡ versions.old }
-{
-    match TraceView::parse(trace) {
-        Ok(view) => {
-            let count = count_before(&view, tick);
-            match answer_versions(&view, count, versions, needed) {
-                Ok(()) => 0,
-                Err(refusal) => refusal.number(),
-            }
-        }
-        Err(error) => refuse_trace(error, record),
-    }
-}
-
-/// Writes the bytes of a page at a version, which is 0 or the place of a write to it, over the front of a buffer. It
-/// allocates nothing.
-#[unsafe(no_mangle)]
-pub extern "C" fn precopy_page_at(
-    trace: &[u8],
-    page: u32,
-    stamp: u32,
-    content: &mut [u8],
-    record: &mut u32,
-) -> u32
-    ensures made { result ≡ 0 → (t : GuestTrace) × Spells trace.now t × IsVersion t page stamp
-        × (content.new ≡ over (page_at t page stamp) content.old) }
-    ensures refused { result ≢ 0
-        → IsToldOf result record.old record.new (RefusesVersion trace.now page stamp (length content.old)) }
-    ensures not_told { result ≡ 0 → record.new ≡ record.old }
-    ensures only { (t : GuestTrace) → Spells trace.now t → IsVersion t page stamp
-        → 2 ^ t.shift ≤ length content.old → result ≡ 0 }
-    ensures unchanged { result ≢ 0 → content.new ≡ content.old }
-{
-    match answer_page(trace, page, stamp, content) {
         Ok(()) => 0,
         Err(refusal) => refusal.told(record),
     }

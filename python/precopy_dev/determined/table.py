@@ -210,7 +210,7 @@ class Reading:
                 by = set().union(*cases) if cases and None not in cases else None
         if by is not None:
             return (MEMORY, ()) if other.may_lack_memory else (LAW if by else FORM, tuple(by))
-        return self.by_only(solver, {"(IsOk result)": FORM})
+        return self.by_only(solver, {"(IsOk result)": FORM, "(IsSome result)": FORM})
 
     def by_only(self, solver, ends):
         """Returns how it is determined when the call succeeds, by a clause that says what it answers to some input,
