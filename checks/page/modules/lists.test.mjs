@@ -3,23 +3,13 @@ import { test } from "node:test";
 import { comeTo, lookPages, lookRows, lookSettings } from "../../../web/engine/look-lists.js";
 import { WritesMap } from "../../../web/engine/writes-map.js";
 import { roundsIn, roundsName, sumsOf, sumsWords } from "../../../web/model/round-words.js";
+import { drawing, drawnTrace } from "./drawing.mjs";
 
 const TRIES = 400;
 
-/** Random numbers below a bound, the same in each run. */
-function drawing(seed) {
-  let state = seed;
-  return (bound) => {
-    state = (Math.imul(state, 1_664_525) + 1_013_904_223) >>> 0;
-    return Math.floor((state / 2 ** 32) * bound);
-  };
-}
-
 /** A trace of few pages and writes, and settings of a hypervisor. */
 function tried(draw) {
-  const pageCount = 1 + draw(40);
-  const touches = Array.from({ length: draw(150) }, () => ({ tick: draw(500), page: draw(pageCount) }));
-  touches.sort((one, other) => one.tick - other.tick);
+  const { pageCount, touches } = drawnTrace(draw, 150, 500);
   const start = draw(200);
   const base = draw(3) === 0 ? draw(start + 1) : null;
   const end = Math.max(start, touches.at(-1)?.tick ?? 0);

@@ -2,6 +2,7 @@ import assert from "node:assert/strict";
 import { test } from "node:test";
 import { paintTurns, paintWrites } from "../../../web/views/map-canvas.js";
 import { heatOf } from "../../../web/model/heat.js";
+import { drawing } from "./drawing.mjs";
 
 const COLOURS = {
   "--paper": "#fffffe", "--sent": "#3f8cf0", "--dirtied": "#82071e", "--skipped": "#818b98",
@@ -29,15 +30,6 @@ function pixelOf(name) {
   return name === null ? [0, 0, 0, 0] : [...[1, 3, 5].map((at) => parseInt(COLOURS[name].slice(at, at + 2), 16)), 255];
 }
 
-/** Numbers from 0 up to a bound that look drawn, the same in each run. */
-function drawing() {
-  let state = 7;
-  return (bound) => {
-    state = (Math.imul(state, 1_664_525) + 1_013_904_223) >>> 0;
-    return Math.floor((state / 2 ** 32) * bound);
-  };
-}
-
 /** What a pixel has: rectangle by rectangle, first all halos, and then each kind of turn over those before it. */
 function wantedAt(x, line, boxes) {
   const isIn = ([left, top, right, bottom], across, down) =>
@@ -48,7 +40,7 @@ function wantedAt(x, line, boxes) {
 }
 
 test("turns are painted over their halo, and kinds over each other", () => {
-  const draw = drawing();
+  const draw = drawing(7);
   for (const [rows, high, lines] of [[1, 256, 8], [10, 64, 8], [40, 100, 5], [64, 128, 4], [64, 64, 3]]) {
     const grid = { columns: 12, rows };
     const cells = Uint8Array.from({ length: 12 * rows }, () => Math.max(0, draw(9) - 5));

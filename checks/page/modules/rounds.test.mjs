@@ -3,23 +3,13 @@ import { test } from "node:test";
 import { roundPages } from "../../../web/engine/round-pages.js";
 import { TURNS, WritesMap } from "../../../web/engine/writes-map.js";
 import { roundsIn, roundsName, sumsOf } from "../../../web/model/round-words.js";
+import { drawing, drawnTrace } from "./drawing.mjs";
 
 const TRIES = 400;
 
-/** Random numbers below a bound, the same in each run. */
-function drawing(seed) {
-  let state = seed;
-  return (bound) => {
-    state = (Math.imul(state, 1_664_525) + 1_013_904_223) >>> 0;
-    return Math.floor((state / 2 ** 32) * bound);
-  };
-}
-
 /** A trace of few pages and writes, and settings of a plan. */
 function tried(draw) {
-  const pageCount = 1 + draw(40);
-  const touches = Array.from({ length: draw(120) }, () => ({ tick: draw(400), page: draw(pageCount) }));
-  touches.sort((one, other) => one.tick - other.tick);
+  const { pageCount, touches } = drawnTrace(draw, 120, 400);
   const start = draw(200);
   const min = 1 + draw(400);
   return {
