@@ -4,6 +4,7 @@
 #     make lib                        builds the library for C in out/library, in the same way
 #     make scan                       builds the recorder's loop of system calls, out/scan.so, with a C compiler
 #     make page                       builds the planner as one page, out/precopy.html, and its WebAssembly module
+#     make js                         makes the package for Node, out/js, which npm installs without a network
 #     make docs                       makes docs/INDEX.md from the sources: public calls, clauses and definitions
 #     make install PREFIX=/usr        installs below PREFIX: programs, tools, manuals, completions, documents, examples,
 #                                     the page, the library with its header, and precopy.pc for pkg-config
@@ -44,6 +45,10 @@ page: notices
 	dev/page-module --if-needed out/browser_planner.wasm
 	dev/join-page out/browser_planner.wasm out/precopy.html
 
+js: notices
+	dev/page-module --if-needed out/browser_planner.wasm
+	dev/js-package out/browser_planner.wasm out/js
+
 docs:
 	dev/index
 
@@ -62,4 +67,4 @@ deb dist: all lib page
 release: all lib page
 	$(PACK) $@ --output out/release $(if $(MAINTAINER),--maintainer "$(MAINTAINER)")
 
-.PHONY: all notices lib scan page docs install install-lib uninstall uninstall-lib deb dist release
+.PHONY: all notices lib scan page js docs install install-lib uninstall uninstall-lib deb dist release

@@ -22,9 +22,9 @@
  * - It returns PRECOPY_OK, which is 0, or another number of enum precopy_status. If it isn't PRECOPY_OK, the
  *   function has written only what its comment names.
  * - Of several causes it returns the first in this order: the settings, the sizes or the question, then the trace or
- *   what its comment names, and last a buffer that is too short. Only precopy_sweep tests its buffer first.
+ *   what its comment names, and last a buffer that is too short. Only precopy_trace_sweep tests its buffer first.
  *   PRECOPY_NO_MEMORY comes as soon as memory runs out, before what is tested later.
- * - If it reads the bytes of a trace, it takes `record` too. Of one that is refused for a record,
+ * - If it tests the bytes of a trace, it takes `record` too. Of one that is refused for a record,
  *   PRECOPY_SHORT_RECORD to PRECOPY_OUT_OF_PAGE, *record is the number of that record, from 0. Else it stays.
  * - It keeps nothing between two calls, starts no thread, and doesn't block. Any number of threads may call at
  *   once.
@@ -55,8 +55,8 @@
 extern "C" {
 #endif
 
-/* The number in the name libprecopy.so.5: it changes when programs must be recompiled. */
-#define PRECOPY_ABI 5
+/* The number in the name libprecopy.so.6: it changes when programs must be recompiled. */
+#define PRECOPY_ABI 6
 
 /* The version of this header as a number, which is 10203 for 1.2.3. */
 #define PRECOPY_VERSION_NUMBER 600
@@ -196,11 +196,6 @@ struct precopy_sizes {
 PRECOPY_ANSWERS PRECOPY_NOT_NULL(3, 4)
 uint32_t precopy_check_trace(const uint8_t *trace, size_t trace_length, struct precopy_sizes *sizes, uint32_t *record);
 
-/* Sets *count to the number of writes before a tick: those with a lower tick. It takes no memory. */
-PRECOPY_ANSWERS PRECOPY_NOT_NULL(4, 5)
-uint32_t precopy_writes_before(const uint8_t *trace, size_t trace_length, uint64_t tick, uint32_t *count,
-                               uint32_t *record);
-
 /* ---- plans */
 
 /* The settings of a plan. Rates are in pages per 1,000 ticks. */
@@ -265,16 +260,6 @@ uint32_t precopy_plan(const uint8_t *trace, size_t trace_length, const struct pr
                       struct precopy_sums *sums, uint32_t *record);
 
 /*
- * Plans the migration of a trace, and writes its rounds into an array, in order. *count is how many there are.
- *
- * If the array has fewer elements, it returns PRECOPY_SHORT_BUFFER and writes only *count. There are at most 64 rounds.
- * It takes memory as precopy_plan does.
- */
-PRECOPY_ANSWERS PRECOPY_NOT_NULL(3, 6, 7)
-uint32_t precopy_rounds(const uint8_t *trace, size_t trace_length, const struct precopy_settings *settings,
-                        struct precopy_round *rounds, size_t rounds_length, size_t *count, uint32_t *record);
-
-/*
  * At least as many bytes as the report on a trace of this length has, as a constant if the length is one. A write has
  * at least 16 bytes in a trace. A report has a line of at most 72 bytes for each window with a write, one of at most 11
  * for each hot page, one for each round, and three more, all of at most 128.
@@ -299,318 +284,16 @@ PRECOPY_ANSWERS PRECOPY_NOT_NULL(3, 6, 7)
 uint32_t precopy_report(const uint8_t *trace, size_t trace_length, const struct precopy_settings *settings,
                         uint8_t *text, size_t text_length, size_t *needed, uint32_t *record);
 
-/*
- * Plans the migration of a trace with each of some settings. sums[i] are the sums of the plan of cases[i]. *best is the
- * number of the best case: the first with the least downtime, and of these the first with the fewest pages sent. With
- * no cases it is 0.
- *
- * If there are fewer sums than cases, it returns PRECOPY_SHORT_BUFFER, whatever else is refused; it needs as many sums
- * as cases. It refuses the first case that is out of range; precopy_check_settings finds which that is. It takes 20
- * bytes for each write, and memory for each case.
- */
-PRECOPY_ANSWERS PRECOPY_NOT_NULL(7, 8)
-uint32_t precopy_sweep(const uint8_t *trace, size_t trace_length, const struct precopy_settings *cases,
-                       size_t cases_length, struct precopy_sums *sums, size_t sums_length, size_t *best,
-                       uint32_t *record);
-
-/* ---- predictions */
-
-/*
- * What is asked of a migration, in bytes a second and microseconds: how much it may take, what ticks and pages of the
- * trace stand for, where it begins, and by whose plan it goes.
- *
- * A hypervisor like QEMU sends with the whole link, and looks at its dirty bitmap again when the pages that are left go
- * over it within the downtime. Clark's plan goes round by round, at rates that follow the guest's. `first`,
- * `increment`, `rounds` and `skip` are of his rounds alone; but the ranges of `increment` and `rounds` are tested of
- * both.
- */
-struct precopy_question {
-    uint64_t size;          /* sizeof(struct precopy_question), which grows if a version asks for more */
-    uint64_t link;          /* what the migration may use of the link, in bytes a second */
-    uint64_t first;         /* what its first round may use, if has_first isn't 0; else the whole link */
-    uint64_t downtime;      /* the longest downtime, in microseconds */
-    uint64_t reserve;       /* the part of it that goes to other things than pages, in microseconds */
-    uint64_t tick;          /* the length of a tick, in microseconds */
-    uint64_t page;          /* the bytes of a page of the trace */
-    uint64_t sampled;       /* how many of the guest's pages were recorded */
-    uint64_t guest;         /* how many pages the guest has; if as many were recorded, any equal numbers do */
-    uint64_t increment;     /* what is added to a dirtying rate, in pages per 1,000 ticks, if has_increment isn't 0 */
-    uint64_t rounds;        /* the most rounds */
-    uint64_t start;         /* the tick at which it begins */
-    uint64_t base;          /* the destination begins with the memory before this tick, if has_base isn't 0 */
-    uint32_t has_first;     /* 0: the first round uses the whole link */
-    uint32_t has_increment; /* 0: a tenth of what the link has above the first round */
-    uint32_t has_base;      /* 0: the destination begins with nothing */
-    uint32_t skip;          /* 0: all pages of a round are sent, even those that were written again */
-    uint32_t clark;         /* 0: it goes by a hypervisor's looks; else by Clark's rounds, as with --clark */
-};
-
-/*
- * A question to begin with: what `precopy-view predict` asks if no option is given, with pages of 4,096 bytes, of which
- * all were recorded. The link and the downtime are 0, and the caller's to set.
- */
-#define PRECOPY_QUESTION_DEFAULT                                                                                       \
-    {sizeof(struct precopy_question), 0, 0, 0, 0, 1000, 4096, 1, 1, 0, 30, 0, 0, 0, 0, 0, 0, 0}
-
-/* An answer that a trace may be too short to give. */
-enum precopy_verdict {
-    PRECOPY_YES = 0,
-    PRECOPY_NO = 1,
-    PRECOPY_UNKNOWN = 2,  /* the trace ends before the migration does */
-    PRECOPY_UNCERTAIN = 3 /* chance, or the start, decides: precopy_agreement alone tells it */
-};
-
-/*
- * What a migration will be. If a verdict is unknown, both are, and of the rest only `recorded` tells something: by
- * rounds the other numbers are of a plan that goes on without writes after the trace has ended, and by looks of a guest
- * that is stopped there. A number that 64 bits do not hold is 2^64 - 1.
- */
-struct precopy_prediction {
-    uint64_t rounds;    /* how many rounds or looks there are */
-    uint64_t reason;    /* of enum precopy_reason */
-    uint64_t stop;      /* the tick at which the guest is stopped */
-    uint64_t down;      /* how long the pages that are left take, in ticks */
-    uint64_t total;     /* the pages of the trace that are sent, before the stop and after it */
-    uint64_t left;      /* how many of them are sent after the stop */
-    uint64_t time;      /* from the start until the guest runs again, in microseconds */
-    uint64_t bytes;     /* how many bytes of the guest are sent */
-    uint64_t downtime;  /* how long the guest stands still, with the reserve, in microseconds */
-    uint64_t recorded;  /* how long the trace goes on after the start, in microseconds */
-    uint32_t converges; /* of enum precopy_verdict: whether it ends since few pages are left */
-    uint32_t kept;      /* of enum precopy_verdict: whether the guest is stopped, and for no longer than the limit */
-};
-
-/* How far the draw of a sample moves a prediction: standard errors. */
-struct precopy_errors {
-    uint64_t bytes;      /* of the bytes */
-    uint64_t time;       /* of the time, in microseconds */
-    uint64_t downtime;   /* of the downtime, in microseconds */
-    uint32_t has_errors; /* 0: there are none, since fewer than 2 pages were sampled, more than 65,536, or all */
-};
-
-/*
- * Predicts the migration of a trace with the limits of a question, as `precopy-view predict` does: sets *prediction,
- * and *errors to its standard errors, or to zeros.
- *
- * The question is tested first, then the trace, and then whether its pages are those of the question. It takes no more
- * memory than precopy_plan, and for standard errors 8 bytes for each sampled page and the time of 20 more plans.
- */
-PRECOPY_ANSWERS PRECOPY_NOT_NULL(3, 4, 5, 6)
-uint32_t precopy_predict(const uint8_t *trace, size_t trace_length, const struct precopy_question *question,
-                         struct precopy_prediction *prediction, struct precopy_errors *errors, uint32_t *record);
-
-/* How sure a prediction is. Of the starts those count from which the migration ends within the trace. */
-struct precopy_agreement {
-    uint64_t draws;             /* how often the pages of a sample are drawn again: 20, or 0 if there are no errors */
-    uint64_t draws_known;       /* in how many of these draws the migration ends within the trace */
-    uint64_t draws_converging;  /* in how many it converges */
-    uint64_t draws_kept;        /* in how many it keeps the downtime limit */
-    uint64_t starts;            /* from how many of at most 21 starts, spread over the trace, it ends within it */
-    uint64_t starts_converging; /* from how many it converges */
-    uint64_t starts_kept;       /* from how many it keeps the downtime limit */
-    uint32_t converges;         /* of enum precopy_verdict: whether it surely converges */
-    uint32_t kept;              /* of enum precopy_verdict: whether it surely keeps the downtime limit */
-};
-
-/*
- * Sets *agreement to how sure the verdicts of precopy_predict are, as `precopy-view predict` tells it: an answer is
- * uncertain unless 19 of 20 draws, and 19 in 20 of the starts, have it too. If a hypervisor's plan converges, draws
- * have a tenth less of the link. By rounds a limit is surely kept if two standard errors more of the downtime are
- * within it; a hypervisor stops the guest only when what is left fits it.
- *
- * It tests what precopy_predict does, in the same order. It takes memory as that does, and the time of 63 plans.
- */
-PRECOPY_ANSWERS PRECOPY_NOT_NULL(3, 4, 5)
-uint32_t precopy_agreement(const uint8_t *trace, size_t trace_length, const struct precopy_question *question,
-                           struct precopy_agreement *agreement, uint32_t *record);
-
-/*
- * What is enough for the downtime limit of a question, each amount by itself, in the question's units. A limit is kept
- * if the migration converges within the trace and its downtime is within the limit. An amount that was not found is 0.
- *
- * From a limit that is not kept the link and the downtime are searched upwards, by doublings to 64 times what is asked;
- * from one that is, downwards by halves, to a 64th; then between the two amounts, by 256ths. So the least is the
- * nearest: beyond it the limit may be missed or kept again.
- *
- * If the trace ends before the migration does, the link is searched in the same way with which it ends within the
- * trace, and the start from the question's (or the last tick) back to its base, or to tick 0, by 4,096ths. The limit
- * may be missed there.
- *
- * Links are whole kilobits a second, which are multiples of 125 bytes; what is asked counts as rounded up. So if the
- * limit is kept, the least link may be up to 124 bytes a second more than what is asked.
- */
-struct precopy_amounts {
-    uint64_t link;             /* the least link, in bytes a second, a multiple of 125, if has_link isn't 0 */
-    uint64_t downtime;         /* the least downtime, in microseconds, if has_downtime isn't 0 */
-    uint64_t speed;            /* to how many per cent of its speed the guest is slowed, if has_speed isn't 0 */
-    uint64_t ending_link;      /* the least link that ends the migration within the trace, if has_ending_link isn't 0 */
-    uint64_t ending_start;     /* the latest start that does, if has_ending_start isn't 0 */
-    uint32_t has_link;         /* 0: no link that was tried keeps the limit */
-    uint32_t has_downtime;     /* 0: no downtime that was tried keeps it */
-    uint32_t has_speed;        /* 0: no speed of 95, 90 .. 5 per cent keeps it, or it is kept at its own */
-    uint32_t has_ending_link;  /* 0: no link that was tried ends the migration within the trace, or its own does */
-    uint32_t has_ending_start; /* 0: no start that was tried does, or its own does */
-    uint32_t is_kept;          /* 0: the limit is not kept, or the trace ends before the migration does */
-    uint32_t ends;             /* 0: the trace ends before the migration does */
-};
-
-/*
- * Sets *amounts to what is enough for the downtime limit of a question, and to end within the trace, as the lines
- * `enough` of `precopy-view predict` tell it.
- *
- * It tests what precopy_predict does, in the same order. It takes memory as precopy_plan does, and the time of some 35
- * plans, at most 99; of a migration that ends after the trace at most 187.
- */
-PRECOPY_ANSWERS PRECOPY_NOT_NULL(3, 4, 5)
-uint32_t precopy_enough(const uint8_t *trace, size_t trace_length, const struct precopy_question *question,
-                        struct precopy_amounts *amounts, uint32_t *record);
-
-/* Why the migration of a hypervisor ends that looks at its dirty bitmap as QEMU does. */
-enum precopy_forecast_end {
-    PRECOPY_FEW_LEFT = 0,   /* few pages are left, so the guest is stopped */
-    PRECOPY_TRACE_ENDS = 1, /* the trace ends first: if the guest were stopped there, the other numbers would hold */
-    PRECOPY_NOT_BEGUN = 2   /* the question's start is after the trace: the other numbers are 0 */
-};
-
-/*
- * What a migration comes to if its hypervisor goes on as QEMU does. It sends with the whole link, asks each 100 ms how
- * many pages are left, and looks at its dirty bitmap again when these go over the link within the downtime. It never
- * stops since much was written.
- */
-struct precopy_forecast {
-    uint64_t looks;    /* how many looks there are */
-    uint64_t time;     /* from the start until the guest runs again, in microseconds */
-    uint64_t bytes;    /* how many bytes of the guest are sent */
-    uint64_t left;     /* how many of them are sent after the stop */
-    uint64_t downtime; /* how long the guest stands still, with the reserve, in microseconds */
-    uint32_t end;      /* of enum precopy_forecast_end */
-    uint32_t kept;     /* of enum precopy_verdict: whether the downtime is within its limit, if few pages are left */
-};
-
-/*
- * Sets *forecast to what a migration comes to like QEMU, as the line `like QEMU` of `precopy-view predict --clark`
- * tells it.
- *
- * It tests what precopy_predict does, in the same order. Of a question it does not use `first`, `increment`, `rounds`,
- * `skip` and `clark`. It takes 16 bytes for each write, and some 5 for each page.
- */
-PRECOPY_ANSWERS PRECOPY_NOT_NULL(3, 4, 5)
-uint32_t precopy_forecast(const uint8_t *trace, size_t trace_length, const struct precopy_question *question,
-                          struct precopy_forecast *forecast, uint32_t *record);
-
-/* Down to which share of its link a migration has the verdict that it has at all of it. */
-struct precopy_link_shares {
-    uint64_t percent;   /* the least share from which on each whole per cent has that verdict; 50 to 100 */
-    uint32_t converges; /* of enum precopy_verdict: whether it converges at all of the link */
-    uint32_t below;     /* whether it does at one per cent less; the same if percent is 50, since that is not tried */
-};
-
-/*
- * Sets *shares to the shares of the link of a question that have one verdict, as the line `share of the link` of
- * `precopy-view predict` tells them. A hypervisor may reach less of a link than is asked.
- *
- * It tests what precopy_predict does, in the same order. It takes memory as precopy_plan does, and the time of at most
- * 51 plans.
- */
-PRECOPY_ANSWERS PRECOPY_NOT_NULL(3, 4, 5)
-uint32_t precopy_link_shares(const uint8_t *trace, size_t trace_length, const struct precopy_question *question,
-                             struct precopy_link_shares *shares, uint32_t *record);
-
-/*
- * From which starts a migration is tried: that of its question, and then one after the other, at a fixed spacing, as
- * `precopy-view when` does.
- */
-struct precopy_starts {
-    uint64_t size;      /* sizeof(struct precopy_starts), which grows if a version has more fields */
-    uint64_t to;        /* the tick after which there is no other start, if has_to isn't 0; else the trace's last */
-    uint64_t every;     /* the ticks from one start to the next, if has_every isn't 0; a spacing of 0 counts as 1 */
-    uint32_t has_to;    /* 0: up to the last tick of the trace */
-    uint32_t has_every; /* 0: a 200th of the ticks up to the last start, rounded up */
-};
-
-/* Starts to begin with: at most 201, from that of the question to the last tick of the trace. */
-#define PRECOPY_STARTS_DEFAULT {sizeof(struct precopy_starts), 0, 0, 0, 0}
-
-/*
- * The best start of a migration, and what it costs from there. If the migration ends within the trace from no start,
- * `kept` is unknown, and all else is 0.
- */
-struct precopy_best_start {
-    uint64_t start;     /* its tick */
-    uint64_t rounds;    /* how many rounds or looks there are */
-    uint64_t time;      /* from the start until the guest runs again, in microseconds */
-    uint64_t bytes;     /* how many bytes of the guest are sent */
-    uint64_t downtime;  /* how long the guest stands still, with the reserve, in microseconds */
-    uint32_t kept;      /* of enum precopy_verdict: whether the downtime is within its limit */
-    uint32_t is_likely; /* 0: the limit is not kept, or by rounds not with two standard errors of the downtime */
-};
-
-/*
- * Sets *best to the best start of the migration of a question, as `precopy-view when` tells it, and *errors to the
- * standard errors from there, or to zeros. A start that is likely to keep the limit is better than one that is not: it
- * keeps it, by rounds with two standard errors. Of two that are not, the one with the lower sum of these is better.
- * Then the one that sends less is, then the quicker one, and of equals the first.
- *
- * It tests what precopy_predict does, in the same order, and then the starts, with PRECOPY_TOO_MANY_STARTS and
- * PRECOPY_BAD_START. It takes 16 bytes for each write, some 5 for each page, and memory for each start, and for
- * standard errors as precopy_predict does. It takes the time of a plan for each start, and of 20 more for each that is
- * better than all before it if pages were sampled.
- */
-PRECOPY_ANSWERS PRECOPY_NOT_NULL(3, 4, 5, 6, 7)
-uint32_t precopy_best_start(const uint8_t *trace, size_t trace_length, const struct precopy_question *question,
-                            const struct precopy_starts *starts, struct precopy_best_start *best,
-                            struct precopy_errors *errors, uint32_t *record);
-
 /* ---- memory */
 
 /*
- * Writes the memory after all writes of a trace, as `precopy image` does. *needed is its length, pages times
- * 2^shift.
+ * Writes the memory after all writes of a trace, as `precopy image` does. *needed is its length, pages times 2^shift.
  *
  * If the buffer is shorter, it returns PRECOPY_SHORT_BUFFER and writes only *needed. It takes no memory.
  */
 PRECOPY_ANSWERS PRECOPY_NOT_NULL(5, 6)
 uint32_t precopy_memory(const uint8_t *trace, size_t trace_length, uint8_t *memory, size_t memory_length,
                         size_t *needed, uint32_t *record);
-
-/*
- * Writes the memory before a tick, after the writes of all lower ticks; otherwise like precopy_memory. A migration that
- * stops its guest at that tick must leave this memory.
- */
-PRECOPY_ANSWERS PRECOPY_NOT_NULL(6, 7)
-uint32_t precopy_memory_before(const uint8_t *trace, size_t trace_length, uint64_t tick, uint8_t *memory,
-                               size_t memory_length, size_t *needed, uint32_t *record);
-
-/*
- * Brings memory after the first `from` writes of a trace on to that after the first `to` writes, in place. Memory after
- * 0 writes is all zeros. Each call reads the whole trace, but applies only the writes in between.
- *
- * It first returns PRECOPY_BACKWARDS if `to` is below `from`. Of a trace with fewer writes than `to` it applies all. If
- * the memory has not as many bytes as all pages, it returns PRECOPY_MEMORY_LENGTH. It takes no memory.
- */
-PRECOPY_ANSWERS PRECOPY_NOT_NULL(7)
-uint32_t precopy_memory_step(const uint8_t *trace, size_t trace_length, uint32_t from, uint32_t to, uint8_t *memory,
-                             size_t memory_length, uint32_t *record);
-
-/* ---- pages */
-
-/* A write to a page. */
-struct precopy_write {
-    uint64_t tick;   /* its tick */
-    size_t size;     /* how many bytes it writes; 0 if it releases the page, which becomes zeros */
-    uint32_t place;  /* its place in the trace, 1 for the first write */
-    uint32_t offset; /* the byte of the page at which it begins */
-};
-
-/*
- * Writes the writes to a page into an array, in their order. *count is how many there are.
- *
- * If the array has fewer elements, it returns PRECOPY_SHORT_BUFFER and writes only *count. After the trace the page is
- * tested, with PRECOPY_NO_PAGE. It takes no memory.
- */
-PRECOPY_ANSWERS PRECOPY_NOT_NULL(6, 7)
-uint32_t precopy_page_writes(const uint8_t *trace, size_t trace_length, uint32_t page, struct precopy_write *writes,
-                             size_t writes_length, size_t *count, uint32_t *record);
 
 /* ---- frames */
 
@@ -694,8 +377,8 @@ struct precopy_finding {
 
 /*
  * Checks the streams of a migration that stops its guest after the first `stop` writes of a trace. For a tick,
- * precopy_writes_before says how many these are. `bytes` are those of all streams, one after the other, and sizes[i] is
- * how many stream i has.
+ * precopy_trace_writes_before says how many these are. `bytes` are those of all streams, one after the other, and
+ * sizes[i] is how many stream i has.
  *
  * It returns PRECOPY_OK if each frame is right, and each page comes at its version at the stop. Then a receiver that
  * keeps the frame of a page with the greatest stamp has the memory at the stop, and if there is one stream, so has a
@@ -721,10 +404,10 @@ uint32_t precopy_check_streams(const uint8_t *trace, size_t trace_length, uint32
 /* ---- traces that stay open */
 
 /*
- * A trace that stays open between calls. Each call over it costs what it answers, and not another pass over the trace.
+ * A trace that stays open between calls. Each call over it costs what it answers, and not another test of the trace.
  * It borrows the bytes of the trace and the words of its index: both stay where they are, unchanged, as long as it is
- * used. There is nothing to close. No call changes it, so several threads may use it at once, and a copy is as good. No
- * call over it takes memory.
+ * used. There is nothing to close. No call changes it, so several threads may use it at once, and a copy is as good.
+ * Only plans and predictions over it take memory.
  */
 struct precopy_trace {
     struct precopy_sizes sizes; /* the sizes of the trace */
@@ -748,14 +431,48 @@ PRECOPY_ANSWERS PRECOPY_NOT_NULL(5, 6, 7)
 uint32_t precopy_trace_open(const uint8_t *bytes, size_t bytes_length, uint32_t *words, size_t words_length,
                             struct precopy_trace *trace, size_t *needed, uint32_t *record);
 
-/* What precopy_writes_before does, by binary search. It always returns PRECOPY_OK. */
+/* Sets *count to the number of writes before a tick: those with a lower tick. It always returns PRECOPY_OK. */
 PRECOPY_ANSWERS PRECOPY_NOT_NULL(1, 3)
 uint32_t precopy_trace_writes_before(const struct precopy_trace *trace, uint64_t tick, uint32_t *count);
 
-/* What precopy_memory_before does; it reads the writes before the tick alone. */
+/*
+ * Writes the memory before a tick, after the writes of all lower ticks, and reads these alone. A migration that stops
+ * its guest at that tick must leave this memory. *needed is its length, pages times 2^shift.
+ *
+ * If the buffer is shorter, it returns PRECOPY_SHORT_BUFFER and writes only *needed.
+ */
 PRECOPY_ANSWERS PRECOPY_NOT_NULL(1, 5)
 uint32_t precopy_trace_memory_before(const struct precopy_trace *trace, uint64_t tick, uint8_t *memory,
                                      size_t memory_length, size_t *needed);
+
+/*
+ * Brings memory after the first `from` writes on to that after the first `to` writes, in place. Memory after 0 writes
+ * is all zeros. It reads the writes in between alone.
+ *
+ * It first returns PRECOPY_BACKWARDS if `to` is below `from`. Of a trace with fewer writes than `to` it applies all. If
+ * the memory has not as many bytes as all pages, it returns PRECOPY_MEMORY_LENGTH.
+ */
+PRECOPY_ANSWERS PRECOPY_NOT_NULL(1)
+uint32_t precopy_trace_memory_step(const struct precopy_trace *trace, uint32_t from, uint32_t to, uint8_t *memory,
+                                   size_t memory_length);
+
+/* A write to a page. */
+struct precopy_write {
+    uint64_t tick;   /* its tick */
+    size_t size;     /* how many bytes it writes; 0 if it releases the page, which becomes zeros */
+    uint32_t place;  /* its place in the trace, 1 for the first write */
+    uint32_t offset; /* the byte of the page at which it begins */
+};
+
+/*
+ * Writes the writes to a page into an array, in their order, and reads these alone. *count is how many there are.
+ *
+ * If there is no such page, it returns PRECOPY_NO_PAGE. If the array has fewer elements, it returns
+ * PRECOPY_SHORT_BUFFER and writes only *count.
+ */
+PRECOPY_ANSWERS PRECOPY_NOT_NULL(1, 5)
+uint32_t precopy_trace_page_writes(const struct precopy_trace *trace, uint32_t page, struct precopy_write *writes,
+                                   size_t writes_length, size_t *count);
 
 /*
  * Sets *version to the version of a page after the first `count` writes: the place of the last of them that is to the
@@ -871,6 +588,287 @@ uint32_t precopy_trace_check_bytes(const struct precopy_trace *trace, uint32_t s
 PRECOPY_ANSWERS PRECOPY_NOT_NULL(1, 7)
 uint32_t precopy_trace_differs(const struct precopy_trace *trace, uint32_t count, const uint8_t *memory,
                                size_t memory_length, uint8_t *room, size_t room_length, struct precopy_finding *found);
+
+/* ---- plans of an open trace */
+
+/* Do what precopy_plan and precopy_report do, and take memory as those do. PRECOPY_REPORT_BOUND takes bytes_length. */
+PRECOPY_ANSWERS PRECOPY_NOT_NULL(1, 2, 3)
+uint32_t precopy_trace_plan(const struct precopy_trace *trace, const struct precopy_settings *settings,
+                            struct precopy_sums *sums);
+PRECOPY_ANSWERS PRECOPY_NOT_NULL(1, 2, 5)
+uint32_t precopy_trace_report(const struct precopy_trace *trace, const struct precopy_settings *settings, uint8_t *text,
+                              size_t text_length, size_t *needed);
+
+/*
+ * Plans the migration of a trace, and writes its rounds into an array, in order. *count is how many there are.
+ *
+ * If the array has fewer elements, it returns PRECOPY_SHORT_BUFFER and writes only *count. There are at most 64 rounds.
+ * It takes memory as precopy_plan does.
+ */
+PRECOPY_ANSWERS PRECOPY_NOT_NULL(1, 2, 5)
+uint32_t precopy_trace_rounds(const struct precopy_trace *trace, const struct precopy_settings *settings,
+                              struct precopy_round *rounds, size_t rounds_length, size_t *count);
+
+/*
+ * Plans the migration of a trace with each of some settings. sums[i] are the sums of the plan of cases[i]. *best is the
+ * number of the best case: the first with the least downtime, and of these the first with the fewest pages sent. With
+ * no cases it is 0.
+ *
+ * If there are fewer sums than cases, it returns PRECOPY_SHORT_BUFFER, whatever else is refused; it needs as many sums
+ * as cases. It refuses the first case that is out of range; precopy_check_settings finds which that is. It takes 20
+ * bytes for each write, and memory for each case.
+ */
+PRECOPY_ANSWERS PRECOPY_NOT_NULL(1, 6)
+uint32_t precopy_trace_sweep(const struct precopy_trace *trace, const struct precopy_settings *cases,
+                             size_t cases_length, struct precopy_sums *sums, size_t sums_length, size_t *best);
+
+/* ---- predictions */
+
+/*
+ * What is asked of a migration, in bytes a second and microseconds: how much it may take, what ticks and pages of the
+ * trace stand for, where it begins, and by whose plan it goes.
+ *
+ * A hypervisor like QEMU sends with the whole link, and looks at its dirty bitmap again when the pages that are left go
+ * over it within the downtime. Clark's plan goes round by round, at rates that follow the guest's. `first`,
+ * `increment`, `rounds` and `skip` are of his rounds alone; but the ranges of `increment` and `rounds` are tested of
+ * both.
+ */
+struct precopy_question {
+    uint64_t size;          /* sizeof(struct precopy_question), which grows if a version asks for more */
+    uint64_t link;          /* what the migration may use of the link, in bytes a second */
+    uint64_t first;         /* what its first round may use, if has_first isn't 0; else the whole link */
+    uint64_t downtime;      /* the longest downtime, in microseconds */
+    uint64_t reserve;       /* the part of it that goes to other things than pages, in microseconds */
+    uint64_t tick;          /* the length of a tick, in microseconds */
+    uint64_t page;          /* the bytes of a page of the trace */
+    uint64_t sampled;       /* how many of the guest's pages were recorded */
+    uint64_t guest;         /* how many pages the guest has; if as many were recorded, any equal numbers do */
+    uint64_t increment;     /* what is added to a dirtying rate, in pages per 1,000 ticks, if has_increment isn't 0 */
+    uint64_t rounds;        /* the most rounds */
+    uint64_t start;         /* the tick at which it begins */
+    uint64_t base;          /* the destination begins with the memory before this tick, if has_base isn't 0 */
+    uint32_t has_first;     /* 0: the first round uses the whole link */
+    uint32_t has_increment; /* 0: a tenth of what the link has above the first round */
+    uint32_t has_base;      /* 0: the destination begins with nothing */
+    uint32_t skip;          /* 0: all pages of a round are sent, even those that were written again */
+    uint32_t clark;         /* 0: it goes by a hypervisor's looks; else by Clark's rounds, as with --clark */
+};
+
+/*
+ * A question to begin with: what `precopy-view predict` asks if no option is given, with pages of 4,096 bytes, of which
+ * all were recorded. The link and the downtime are 0, and the caller's to set.
+ */
+#define PRECOPY_QUESTION_DEFAULT                                                                                       \
+    {sizeof(struct precopy_question), 0, 0, 0, 0, 1000, 4096, 1, 1, 0, 30, 0, 0, 0, 0, 0, 0, 0}
+
+/* An answer that a trace may be too short to give. */
+enum precopy_verdict {
+    PRECOPY_YES = 0,
+    PRECOPY_NO = 1,
+    PRECOPY_UNKNOWN = 2,  /* the trace ends before the migration does */
+    PRECOPY_UNCERTAIN = 3 /* chance, or the start, decides: precopy_trace_agreement alone tells it */
+};
+
+/*
+ * What a migration will be. If a verdict is unknown, both are, and of the rest only `recorded` tells something: by
+ * rounds the other numbers are of a plan that goes on without writes after the trace has ended, and by looks of a guest
+ * that is stopped there. A number that 64 bits do not hold is 2^64 - 1.
+ */
+struct precopy_prediction {
+    uint64_t rounds;    /* how many rounds or looks there are */
+    uint64_t reason;    /* of enum precopy_reason */
+    uint64_t stop;      /* the tick at which the guest is stopped */
+    uint64_t down;      /* how long the pages that are left take, in ticks */
+    uint64_t total;     /* the pages of the trace that are sent, before the stop and after it */
+    uint64_t left;      /* how many of them are sent after the stop */
+    uint64_t time;      /* from the start until the guest runs again, in microseconds */
+    uint64_t bytes;     /* how many bytes of the guest are sent */
+    uint64_t downtime;  /* how long the guest stands still, with the reserve, in microseconds */
+    uint64_t recorded;  /* how long the trace goes on after the start, in microseconds */
+    uint32_t converges; /* of enum precopy_verdict: whether it ends since few pages are left */
+    uint32_t kept;      /* of enum precopy_verdict: whether the guest is stopped, and for no longer than the limit */
+};
+
+/* How far the draw of a sample moves a prediction: standard errors. */
+struct precopy_errors {
+    uint64_t bytes;      /* of the bytes */
+    uint64_t time;       /* of the time, in microseconds */
+    uint64_t downtime;   /* of the downtime, in microseconds */
+    uint32_t has_errors; /* 0: there are none, since fewer than 2 pages were sampled, more than 65,536, or all */
+};
+
+/*
+ * Predicts the migration of a trace with the limits of a question, as `precopy-view predict` does: sets *prediction,
+ * and *errors to its standard errors, or to zeros.
+ *
+ * The question is tested first, and then whether the trace's pages are those of the question. It takes no more memory
+ * than precopy_trace_plan, and for standard errors 8 bytes for each sampled page and the time of 20 more plans.
+ */
+PRECOPY_ANSWERS PRECOPY_NOT_NULL(1, 2, 3, 4)
+uint32_t precopy_trace_predict(const struct precopy_trace *trace, const struct precopy_question *question,
+                               struct precopy_prediction *prediction, struct precopy_errors *errors);
+
+/* How sure a prediction is. Of the starts those count from which the migration ends within the trace. */
+struct precopy_agreement {
+    uint64_t draws;             /* how often the pages of a sample are drawn again: 20, or 0 if there are no errors */
+    uint64_t draws_known;       /* in how many of these draws the migration ends within the trace */
+    uint64_t draws_converging;  /* in how many it converges */
+    uint64_t draws_kept;        /* in how many it keeps the downtime limit */
+    uint64_t starts;            /* from how many of at most 21 starts, spread over the trace, it ends within it */
+    uint64_t starts_converging; /* from how many it converges */
+    uint64_t starts_kept;       /* from how many it keeps the downtime limit */
+    uint32_t converges;         /* of enum precopy_verdict: whether it surely converges */
+    uint32_t kept;              /* of enum precopy_verdict: whether it surely keeps the downtime limit */
+};
+
+/*
+ * Sets *agreement to how sure the verdicts of precopy_trace_predict are, as `precopy-view predict` tells it: an answer
+ * is uncertain unless 19 of 20 draws, and 19 in 20 of the starts, have it too. If a hypervisor's plan converges, draws
+ * have a tenth less of the link. By rounds a limit is surely kept if two standard errors more of the downtime are
+ * within it; a hypervisor stops the guest only when what is left fits it.
+ *
+ * It tests what precopy_trace_predict does, in the same order. It takes memory as that does, and the time of 63 plans.
+ */
+PRECOPY_ANSWERS PRECOPY_NOT_NULL(1, 2, 3)
+uint32_t precopy_trace_agreement(const struct precopy_trace *trace, const struct precopy_question *question,
+                                 struct precopy_agreement *agreement);
+
+/*
+ * What is enough for the downtime limit of a question, each amount by itself, in the question's units. A limit is kept
+ * if the migration converges within the trace and its downtime is within the limit. An amount that was not found is 0.
+ *
+ * From a limit that is not kept the link and the downtime are searched upwards, by doublings to 64 times what is asked;
+ * from one that is, downwards by halves, to a 64th; then between the two amounts, by 256ths. So the least is the
+ * nearest: beyond it the limit may be missed or kept again.
+ *
+ * If the trace ends before the migration does, the link is searched in the same way with which it ends within the
+ * trace, and the start from the question's (or the last tick) back to its base, or to tick 0, by 4,096ths. The limit
+ * may be missed there.
+ *
+ * Links are whole kilobits a second, which are multiples of 125 bytes; what is asked counts as rounded up. So if the
+ * limit is kept, the least link may be up to 124 bytes a second more than what is asked.
+ */
+struct precopy_amounts {
+    uint64_t link;             /* the least link, in bytes a second, a multiple of 125, if has_link isn't 0 */
+    uint64_t downtime;         /* the least downtime, in microseconds, if has_downtime isn't 0 */
+    uint64_t speed;            /* to how many per cent of its speed the guest is slowed, if has_speed isn't 0 */
+    uint64_t ending_link;      /* the least link that ends the migration within the trace, if has_ending_link isn't 0 */
+    uint64_t ending_start;     /* the latest start that does, if has_ending_start isn't 0 */
+    uint32_t has_link;         /* 0: no link that was tried keeps the limit */
+    uint32_t has_downtime;     /* 0: no downtime that was tried keeps it */
+    uint32_t has_speed;        /* 0: no speed of 95, 90 .. 5 per cent keeps it, or it is kept at its own */
+    uint32_t has_ending_link;  /* 0: no link that was tried ends the migration within the trace, or its own does */
+    uint32_t has_ending_start; /* 0: no start that was tried does, or its own does */
+    uint32_t is_kept;          /* 0: the limit is not kept, or the trace ends before the migration does */
+    uint32_t ends;             /* 0: the trace ends before the migration does */
+};
+
+/*
+ * Sets *amounts to what is enough for the downtime limit of a question, and to end within the trace, as the lines
+ * `enough` of `precopy-view predict` tell it.
+ *
+ * It tests what precopy_trace_predict does, in the same order. It takes memory as precopy_trace_plan does, and the time
+ * of some 35 plans, at most 99; of a migration that ends after the trace at most 187.
+ */
+PRECOPY_ANSWERS PRECOPY_NOT_NULL(1, 2, 3)
+uint32_t precopy_trace_enough(const struct precopy_trace *trace, const struct precopy_question *question,
+                              struct precopy_amounts *amounts);
+
+/* Why the migration of a hypervisor ends that looks at its dirty bitmap as QEMU does. */
+enum precopy_forecast_end {
+    PRECOPY_FEW_LEFT = 0,   /* few pages are left, so the guest is stopped */
+    PRECOPY_TRACE_ENDS = 1, /* the trace ends first: if the guest were stopped there, the other numbers would hold */
+    PRECOPY_NOT_BEGUN = 2   /* the question's start is after the trace: the other numbers are 0 */
+};
+
+/*
+ * What a migration comes to if its hypervisor goes on as QEMU does. It sends with the whole link, asks each 100 ms how
+ * many pages are left, and looks at its dirty bitmap again when these go over the link within the downtime. It never
+ * stops since much was written.
+ */
+struct precopy_forecast {
+    uint64_t looks;    /* how many looks there are */
+    uint64_t time;     /* from the start until the guest runs again, in microseconds */
+    uint64_t bytes;    /* how many bytes of the guest are sent */
+    uint64_t left;     /* how many of them are sent after the stop */
+    uint64_t downtime; /* how long the guest stands still, with the reserve, in microseconds */
+    uint32_t end;      /* of enum precopy_forecast_end */
+    uint32_t kept;     /* of enum precopy_verdict: whether the downtime is within its limit, if few pages are left */
+};
+
+/*
+ * Sets *forecast to what a migration comes to like QEMU, as the line `like QEMU` of `precopy-view predict --clark`
+ * tells it.
+ *
+ * It tests what precopy_trace_predict does, in the same order. Of a question it does not use `first`, `increment`,
+ * `rounds`, `skip` and `clark`. It takes 16 bytes for each write, and some 5 for each page.
+ */
+PRECOPY_ANSWERS PRECOPY_NOT_NULL(1, 2, 3)
+uint32_t precopy_trace_forecast(const struct precopy_trace *trace, const struct precopy_question *question,
+                                struct precopy_forecast *forecast);
+
+/* Down to which share of its link a migration has the verdict that it has at all of it. */
+struct precopy_link_shares {
+    uint64_t percent;   /* the least share from which on each whole per cent has that verdict; 50 to 100 */
+    uint32_t converges; /* of enum precopy_verdict: whether it converges at all of the link */
+    uint32_t below;     /* whether it does at one per cent less; the same if percent is 50, since that is not tried */
+};
+
+/*
+ * Sets *shares to the shares of the link of a question that have one verdict, as the line `share of the link` of
+ * `precopy-view predict` tells them. A hypervisor may reach less of a link than is asked.
+ *
+ * It tests what precopy_trace_predict does, in the same order. It takes memory as precopy_trace_plan does, and the time
+ * of at most 51 plans.
+ */
+PRECOPY_ANSWERS PRECOPY_NOT_NULL(1, 2, 3)
+uint32_t precopy_trace_link_shares(const struct precopy_trace *trace, const struct precopy_question *question,
+                                   struct precopy_link_shares *shares);
+
+/*
+ * From which starts a migration is tried: that of its question, and then one after the other, at a fixed spacing, as
+ * `precopy-view when` does.
+ */
+struct precopy_starts {
+    uint64_t size;      /* sizeof(struct precopy_starts), which grows if a version has more fields */
+    uint64_t to;        /* the tick after which there is no other start, if has_to isn't 0; else the trace's last */
+    uint64_t every;     /* the ticks from one start to the next, if has_every isn't 0; a spacing of 0 counts as 1 */
+    uint32_t has_to;    /* 0: up to the last tick of the trace */
+    uint32_t has_every; /* 0: a 200th of the ticks up to the last start, rounded up */
+};
+
+/* Starts to begin with: at most 201, from that of the question to the last tick of the trace. */
+#define PRECOPY_STARTS_DEFAULT {sizeof(struct precopy_starts), 0, 0, 0, 0}
+
+/*
+ * The best start of a migration, and what it costs from there. If the migration ends within the trace from no start,
+ * `kept` is unknown, and all else is 0.
+ */
+struct precopy_best_start {
+    uint64_t start;     /* its tick */
+    uint64_t rounds;    /* how many rounds or looks there are */
+    uint64_t time;      /* from the start until the guest runs again, in microseconds */
+    uint64_t bytes;     /* how many bytes of the guest are sent */
+    uint64_t downtime;  /* how long the guest stands still, with the reserve, in microseconds */
+    uint32_t kept;      /* of enum precopy_verdict: whether the downtime is within its limit */
+    uint32_t is_likely; /* 0: the limit is not kept, or by rounds not with two standard errors of the downtime */
+};
+
+/*
+ * Sets *best to the best start of the migration of a question, as `precopy-view when` tells it, and *errors to the
+ * standard errors from there, or to zeros. A start that is likely to keep the limit is better than one that is not: it
+ * keeps it, by rounds with two standard errors. Of two that are not, the one with the lower sum of these is better.
+ * Then the one that sends less is, then the quicker one, and of equals the first.
+ *
+ * It tests what precopy_trace_predict does, in the same order, and then the starts, with PRECOPY_TOO_MANY_STARTS and
+ * PRECOPY_BAD_START. It takes 16 bytes for each write, some 5 for each page, and memory for each start, and for
+ * standard errors as precopy_trace_predict does. It takes the time of a plan for each start, and of 20 more for each
+ * that is better than all before it if pages were sampled.
+ */
+PRECOPY_ANSWERS PRECOPY_NOT_NULL(1, 2, 3, 4, 5)
+uint32_t precopy_trace_best_start(const struct precopy_trace *trace, const struct precopy_question *question,
+                                  const struct precopy_starts *starts, struct precopy_best_start *best,
+                                  struct precopy_errors *errors);
 
 /* ---- traces that are written */
 

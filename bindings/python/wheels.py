@@ -17,7 +17,7 @@ import tarfile
 import zipfile
 
 HERE = os.path.dirname(os.path.abspath(__file__))
-NAME = "libprecopy.so.5"
+NAME = "libprecopy.so.6"
 LIBRARY = os.path.join(HERE, "..", "..", "out", "library", NAME)
 PARTS = sorted(it for it in os.listdir(os.path.join(HERE, "precopy")) if it.endswith((".py", ".typed")))
 MOMENT = (1980, 1, 1, 0, 0, 0)

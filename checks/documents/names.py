@@ -139,9 +139,12 @@ def named():
     text = " ".join(read("docs/PROOF.md").split())
     yield from pairs_in("docs/PROOF.md", text)
     for code in CODE.findall(text):
-        # An application, such as `page_at trace page version`, names its first word.
+        # An application, such as `page_at trace page version`, names its first word, and a law that is a clause, such
+        # as `TraceView::parse: first`, its call.
         word = code if OTHER.fullmatch(code) else code.split(" ")[0]
-        yield bool(is_known(word)), f"docs/PROOF.md names {word}, which is not there"
+        call, colon, clause = code.partition(": ")
+        is_there = clause in facts_of(call) if colon else is_known(word)
+        yield bool(is_there), f"docs/PROOF.md names {code if colon else word}, which is not there"
     for code in CODE.findall(table):
         yield bool(is_known(code)), f"README.md names {code}, which is not there"
 

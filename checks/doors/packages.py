@@ -11,7 +11,8 @@ import tarfile
 
 from checks.doors import documents
 from checks.lib.tally import has, left_out
-from precopy_dev.packaging import contents
+from precopy_dev import js_package
+from precopy_dev.packaging import contents, release
 from precopy_dev.tree import TOP
 
 SECONDS, SECONDS_TO_BEGIN = 400, 1500
@@ -125,16 +126,16 @@ def try_library(tally, folder, files):
 
 def try_symbols(tally, files):
     """Programs that are linked with the library depend on it by its symbols: those are the calls of the header."""
-    (package,) = (path for path in files if os.path.basename(path).startswith("libprecopy5_"))
+    (package,) = (path for path in files if os.path.basename(path).startswith("libprecopy6_"))
     told = run("dpkg-deb", "--info", package, "symbols").stdout
-    listed = re.findall(r"^ (precopy_\w+)@PRECOPY_5 \d", told, re.M)
+    listed = re.findall(r"^ (precopy_\w+)@PRECOPY_6 \d", told, re.M)
     with open(os.path.join(TOP, "include", "precopy.h"), encoding="utf-8") as file:
         called = re.findall(r"^(?:uint32_t |bool |const char \*)(precopy_\w+)\(", file.read(), re.M)
     tally.add(called and set(listed) == set(called), f"the symbols of {package} are {listed}, and not {called}")
 
 
 def try_loaded(tally, tree):
-    line = "import ctypes; it = ctypes.CDLL('libprecopy.so.5').precopy_version; it.restype = ctypes.c_char_p"
+    line = "import ctypes; it = ctypes.CDLL('libprecopy.so.6').precopy_version; it.restype = ctypes.c_char_p"
     ran = in_tree(tree, f'python3 -c "{line}; print(it().decode())"')
     tally.add(ran.stdout == f"{contents.version.VERSION}\n", f"in a fresh tree: the library loaded: {ran.stdout}")
     line = "import precopy; trace = open('/usr/share/doc/precopy/examples/gzip.pcwt', 'rb').read()"
@@ -215,10 +216,30 @@ def try_release(tally, folder, made):
     for path in made:
         at = os.path.join(folder, "release", os.path.basename(path))
         tally.add(os.path.exists(at) and same(path, at), f"{os.path.basename(path)} of a release differs")
-    others = {"CHANGES.md", "NOTICES", "SHA256SUMS", contents.PAGE}
+    others = {"CHANGES.md", "NOTICES", "SHA256SUMS", contents.PAGE, release.NODE}
     tally.add(set(names) == others | set(map(os.path.basename, made)), f"a release has {names}")
     ran = run("sha256sum", "--strict", "-c", "SHA256SUMS", cwd=os.path.join(folder, "release"))
     tally.add(ran.returncode == 0 and ran.stdout.count(": OK\n") == len(names) - 1, f"its checksums: {ran.stdout}")
+    if shutil.which("npm"):
+        try_node(tally, folder, os.path.join(folder, "release", release.NODE))
+    else:
+        left_out("the package for Node of a release, installed", "there is no npm")
+
+
+def try_node(tally, folder, package):
+    """The package for Node of a release is installed without a network, and has what `make js` makes."""
+    place = os.path.join(folder, "node")
+    os.makedirs(place)
+    words = ("--offline", "--no-audit", "--no-fund", "--no-update-notifier", "--cache", os.path.join(folder, "npm"))
+    ran = run("npm", "install", *words, package, cwd=place)
+    tally.add(ran.returncode == 0, f"npm install: {ran.stdout}")
+    top = os.path.join(place, "node_modules", "precopy-planner")
+    found = {os.path.relpath(os.path.join(at, name), top) for at, _, names in os.walk(top) for name in names}
+    wanted = js_package.package_of(contents.module())
+    tally.add(found == set(wanted), f"the package for Node has {sorted(found ^ set(wanted))} or lacks them")
+    for name in found & set(wanted):
+        with open(os.path.join(top, name), "rb") as file:
+            tally.add(file.read() == wanted[name], f"{name} of the package for Node differs")
 
 
 def check(tally, folder):

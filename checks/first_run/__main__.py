@@ -60,6 +60,7 @@ COMMANDS = (
     FirstRun("make lib", ("precopy_c", "library"), "out/library/libprecopy.so.*"),
     FirstRun("make install-lib DESTDIR=installed PREFIX=/usr", ("library",), "installed/usr/include/precopy.h"),
     FirstRun("make page", ("page",), "out/precopy.html"),
+    FirstRun("make js", ("page",), "out/js/planner.wasm"),
     FirstRun("make docs", (), "docs/INDEX.md"),
     FirstRun(f"make lib && cc {PLAN} -o plan && ./plan examples/gzip.pcwt > said", ("library",), "said"),
     FirstRun("make lib && cargo test --offline --manifest-path bindings/rust/Cargo.toml && touch done", (), "done"),

@@ -158,7 +158,7 @@ def without_tools(_, folder):
 def without_browsers(_, folder):
     need_built("out", "browser_planner.wasm")
     reason = rb"there is no (?:node with 64-bit memory|[\w-]+, and .* could not be installed)"
-    expect_left_out("page", PROGRAM, 9, 3, reason, env=few_tools(folder))
+    expect_left_out("page", PROGRAM, 9, 4, reason, env=few_tools(folder))
 
 
 def without_userfaultfd(_, __):

@@ -11,15 +11,16 @@ and each trial is made with both; for the library itself is the proved archive, 
 address and undefined-behaviour sanitizers watch the three programs around it. Frames are shuffled, repeated, damaged,
 and cut at every byte. Mistakes are planted in random frames of 2,000 streams, of which the library's check must name
 each (checks/library/streams.py). Writes and steps of memory are worked out once more for random traces
-(checks/library/places.py), and over open traces versions of pages too (checks/library/open_traces.py). So are pages
-that come without stamps, destinations that begin with memory, and memory that differs (checks/library/unstamped.py),
-and the best start of random migrations, which precopy-view tells too (checks/library/starts.py). Traces are written by
-random calls, in bytes that end at each place and from recordings that no call left (checks/library/recordings.py).
-Numbers out of range and bytes of all kinds go to Python, which pip installs in a fresh environment, and to Rust, whose
-answers must be the model's too. Python is also given memory that overlaps a trace, streams that are cut off, too little
-memory, and arrays of numpy if it has that. The crate is linked with each form of the library. The examples run, and so
-does what docs/LIBRARY.md and the head of the header show. The library is installed, used and taken away again. It needs
-`cc` and `make`.
+(checks/library/places.py), and versions of pages too. There eight threads make all calls over an open trace, which may
+not change, and its plans and reports are those of its bytes (checks/library/open_traces.py). So are pages that come
+without stamps, destinations that begin with memory, and memory that differs (checks/library/unstamped.py), and the best
+start of random migrations, which precopy-view tells too (checks/library/starts.py). Traces are written by random calls,
+in bytes that end at each place and from recordings that no call left (checks/library/recordings.py). Numbers out of
+range and bytes of all kinds go to Python, which pip installs in a fresh environment, and to Rust, whose answers must be
+the model's too. Python is also given memory that overlaps a trace, streams that are cut off, too little memory, and
+arrays of numpy if it has that. The crate is linked with each form of the library. The examples run, and so does what
+docs/LIBRARY.md and the head of the header show. The library is installed, used and taken away again. It needs `cc` and
+`make`.
 """
 
 import tempfile

@@ -74,34 +74,35 @@ def compare(case, program, text, settings):
         check_refused(case, program, text, settings, f"precopy: trace {why}")
         return
     trace = Trace(text)
-    check_report(case, program, trace, settings)
-    check_sweep(case, program, trace, settings)
-    check_memory(case, program, trace)
+    opened = precopy.OpenTrace(text)
+    check_report(case, program, trace, opened, settings)
+    check_sweep(case, program, trace, opened, settings)
+    check_memory(case, program, trace, opened)
 
 
 def check_refused(case, program, text, settings, line):
     for words in (["report", *options_of(settings)], ["image"]):
         expect_all(case, words[0], line, program=program_says(program, words, text))
-    for call in (precopy.report, precopy.plan, precopy.rounds):
+    for call in (precopy.report, precopy.plan):
         expect_all(case, call.__name__, line, library=refusal_by_library(call, text, settings))
-    expect_all(case, "sweep", line, library=refusal_by_library(precopy.sweep, text, [settings]))
-    expect_all(case, "memory", line, library=refusal_by_library(precopy.memory, text))
+    expect_all(case, "streams", line, library=refusal_by_library(precopy.check_streams, text, 0, []))
+    for call in (precopy.memory, precopy.OpenTrace):
+        expect_all(case, call.__name__, line, library=refusal_by_library(call, text))
 
 
-def check_report(case, program, trace, settings):
+def check_report(case, program, trace, opened, settings):
     model = report_of(trace, settings)
     told = program_says(program, ["report", *options_of(settings)], trace.text)
     wanted = report_text(model)
     expect_all(case, "report", wanted.encode(), program=told, library=precopy.report(trace.text, settings).encode())
+    expect_all(case, "report of an open trace", wanted.encode(), library=opened.report(settings).encode())
     names = {"start": "from", "end": "to"}
-    rounds = [
-        {names.get(name, name): number for name, number in vars(it).items()}
-        for it in precopy.rounds(trace.text, settings)
-    ]
+    rounds = [{names.get(name, name): number for name, number in vars(it).items()} for it in opened.rounds(settings)]
     numbered = [{"round": number, **it} for number, it in enumerate(rounds)]
     expect_all(case, "rounds", model["rounds"], library=numbered)
     plan = redrawn.planned(trace.guest, settings_of(settings))
     expect_all(case, "plan", sums_of(plan), library=sums_of(precopy.plan(trace.text, settings)))
+    expect_all(case, "plan of an open trace", sums_of(plan), library=sums_of(opened.plan(settings)))
 
 
 def sums_of(it):
@@ -110,26 +111,26 @@ def sums_of(it):
     return it.rounds, reason, it.stop, it.down, it.total
 
 
-def check_sweep(case, program, trace, settings):
+def check_sweep(case, program, trace, opened, settings):
     asked = traces.cases_like(settings)
     model = migration_model.sweep_of(trace, list(map(settings_of, asked)))
     base = [f"--base={settings.base}"] if settings.base is not None else []
     words = [*map(migration_model.case_word, map(settings_of, asked)), f"--start={settings.start}", *base]
     told = program_says(program, ["sweep", *words], trace.text)
     expect_all(case, "sweep", sweep_text(model).encode(), program=told)
-    sums, best = precopy.sweep(trace.text, asked)
+    sums, best = opened.sweep(asked)
     plans = [redrawn.planned(trace.guest, settings_of(it)) for it in asked]
     wanted = list(map(sums_of, plans)), model["best"]
     expect_all(case, "sweep", wanted, library=(list(map(sums_of, sums)), best))
 
 
-def check_memory(case, program, trace):
+def check_memory(case, program, trace, opened):
     whole = trace.memory()
     told = program_says(program, ["image"], trace.text)
     expect_all(case, "memory", whole, program=told, library=precopy.memory(trace.text))
     if len(trace.text) < 4096:
         for tick in {0, 1, trace.last, trace.last + 1, *(tick + 1 for tick, _ in trace.writes[:2])}:
-            found = precopy.memory_before(trace.text, tick)
+            found = opened.memory_before(tick)
             expect_all(case, f"memory before tick {tick}", trace.memory(tick), library=found)
 
 

@@ -29,21 +29,28 @@ static uint32_t plan(const struct guest *g, struct outputs *out) {
                         (void *)out->record.at);
 }
 
-static uint32_t rounds(const struct guest *g, struct outputs *out) {
-    return precopy_rounds(g->trace.at, g->trace.length, (void *)g->settings.at, (void *)out->room.at,
-                          out->room.length / sizeof(struct precopy_round), (void *)out->told.at,
-                          (void *)out->record.at);
-}
-
 static uint32_t report(const struct guest *g, struct outputs *out) {
     return precopy_report(g->trace.at, g->trace.length, (void *)g->settings.at, out->room.at, out->room.length,
                           (void *)out->told.at, (void *)out->record.at);
 }
 
+static uint32_t trace_plan(const struct guest *g, struct outputs *out) {
+    return precopy_trace_plan(&g->held, (void *)g->settings.at, (void *)out->told.at);
+}
+
+static uint32_t trace_report(const struct guest *g, struct outputs *out) {
+    return precopy_trace_report(&g->held, (void *)g->settings.at, out->room.at, out->room.length, (void *)out->told.at);
+}
+
+static uint32_t rounds(const struct guest *g, struct outputs *out) {
+    return precopy_trace_rounds(&g->held, (void *)g->settings.at, (void *)out->room.at,
+                                out->room.length / sizeof(struct precopy_round), (void *)out->told.at);
+}
+
 static uint32_t sweep(const struct guest *g, struct outputs *out) {
-    return precopy_sweep(g->trace.at, g->trace.length, (void *)g->cases.at,
-                         g->cases.length / sizeof(struct precopy_settings), (void *)out->room.at,
-                         out->room.length / sizeof(struct precopy_sums), (void *)out->told.at, (void *)out->record.at);
+    return precopy_trace_sweep(&g->held, (void *)g->cases.at, g->cases.length / sizeof(struct precopy_settings),
+                               (void *)out->room.at, out->room.length / sizeof(struct precopy_sums),
+                               (void *)out->told.at);
 }
 
 /* Puts the pattern back behind standard errors that were told, where no part of them is. */
@@ -58,36 +65,31 @@ static uint32_t with_pattern(uint32_t status, uint8_t *errors) {
 /* A prediction, and its standard errors behind it. */
 static uint32_t predict(const struct guest *g, struct outputs *out) {
     uint8_t *errors = out->told.at + sizeof(struct precopy_prediction);
-    uint32_t status = precopy_predict(g->trace.at, g->trace.length, (void *)g->question.at, (void *)out->told.at,
-                                      (void *)errors, (void *)out->record.at);
+    uint32_t status = precopy_trace_predict(&g->held, (void *)g->question.at, (void *)out->told.at, (void *)errors);
     return with_pattern(status, errors);
 }
 
 static uint32_t enough(const struct guest *g, struct outputs *out) {
-    return precopy_enough(g->trace.at, g->trace.length, (void *)g->question.at, (void *)out->told.at,
-                          (void *)out->record.at);
+    return precopy_trace_enough(&g->held, (void *)g->question.at, (void *)out->told.at);
 }
 
 static uint32_t agreement(const struct guest *g, struct outputs *out) {
-    return precopy_agreement(g->trace.at, g->trace.length, (void *)g->question.at, (void *)out->told.at,
-                             (void *)out->record.at);
+    return precopy_trace_agreement(&g->held, (void *)g->question.at, (void *)out->told.at);
 }
 
 static uint32_t forecast(const struct guest *g, struct outputs *out) {
-    return precopy_forecast(g->trace.at, g->trace.length, (void *)g->question.at, (void *)out->told.at,
-                            (void *)out->record.at);
+    return precopy_trace_forecast(&g->held, (void *)g->question.at, (void *)out->told.at);
 }
 
 static uint32_t link_shares(const struct guest *g, struct outputs *out) {
-    return precopy_link_shares(g->trace.at, g->trace.length, (void *)g->question.at, (void *)out->told.at,
-                               (void *)out->record.at);
+    return precopy_trace_link_shares(&g->held, (void *)g->question.at, (void *)out->told.at);
 }
 
 /* From starts at ticks that are few, so that a trial takes no longer than others. */
 static uint32_t best_start(const struct guest *g, struct outputs *out) {
     uint8_t *errors = out->told.at + sizeof(struct precopy_best_start);
-    uint32_t status = precopy_best_start(g->trace.at, g->trace.length, (void *)g->question.at, (void *)g->starts.at,
-                                         (void *)out->told.at, (void *)errors, (void *)out->record.at);
+    uint32_t status = precopy_trace_best_start(&g->held, (void *)g->question.at, (void *)g->starts.at,
+                                               (void *)out->told.at, (void *)errors);
     return with_pattern(status, errors);
 }
 
@@ -97,17 +99,15 @@ static uint32_t memory(const struct guest *g, struct outputs *out) {
 }
 
 static uint32_t memory_before(const struct guest *g, struct outputs *out) {
-    return precopy_memory_before(g->trace.at, g->trace.length, g->tick, out->room.at, out->room.length,
-                                 (void *)out->told.at, (void *)out->record.at);
+    return precopy_trace_memory_before(&g->held, g->tick, out->room.at, out->room.length, (void *)out->told.at);
 }
 
 static uint32_t writes_before(const struct guest *g, struct outputs *out) {
-    return precopy_writes_before(g->trace.at, g->trace.length, g->tick, (void *)out->told.at, (void *)out->record.at);
+    return precopy_trace_writes_before(&g->held, g->tick, (void *)out->told.at);
 }
 
 static uint32_t memory_step(const struct guest *g, struct outputs *out) {
-    return precopy_memory_step(g->trace.at, g->trace.length, 0, UINT32_MAX, out->room.at, out->room.length,
-                               (void *)out->record.at);
+    return precopy_trace_memory_step(&g->held, 0, UINT32_MAX, out->room.at, out->room.length);
 }
 
 /* What is written is the index, and what is told how many words it has. */
@@ -136,9 +136,8 @@ static uint32_t page_at(const struct guest *g, struct outputs *out) {
 }
 
 static uint32_t page_writes(const struct guest *g, struct outputs *out) {
-    return precopy_page_writes(g->trace.at, g->trace.length, 0, (void *)out->room.at,
-                               out->room.length / sizeof(struct precopy_write), (void *)out->told.at,
-                               (void *)out->record.at);
+    return precopy_trace_page_writes(&g->held, 0, (void *)out->room.at, out->room.length / sizeof(struct precopy_write),
+                                     (void *)out->told.at);
 }
 
 static uint32_t check_streams(const struct guest *g, struct outputs *out) {

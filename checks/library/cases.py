@@ -48,23 +48,23 @@ def names_of(header):
 def check_form(tally):
     header = read("include/precopy.h", "r")
     declared, numbers = names_of(header)
-    shared, archive = os.path.join(LIBRARY, "libprecopy.so.5"), os.path.join(LIBRARY, "libprecopy.a")
+    shared, archive = os.path.join(LIBRARY, "libprecopy.so.6"), os.path.join(LIBRARY, "libprecopy.a")
     found = run("nm", "-D", "--defined-only", "-f", "posix", shared).stdout.decode().split("\n")
     exported = {line.split()[0].split("@")[0] for line in found if line and " A " not in line}
-    tally.add(exported == declared, f"libprecopy.so.5 and the header differ in {sorted(exported ^ declared)}")
+    tally.add(exported == declared, f"libprecopy.so.6 and the header differ in {sorted(exported ^ declared)}")
     versions = {line.split()[0].partition("@")[2].lstrip("@") for line in found if line and " A " not in line}
     found = run("nm", "-g", "--defined-only", "-f", "posix", archive).stdout.decode().split("\n")
     exported = {line.split()[0] for line in found if " T " in line or " D " in line or " R " in line}
     tally.add(exported == declared, f"libprecopy.a and the header differ in {sorted(exported ^ declared)}")
     told = run("readelf", "-d", shared).stdout.decode()
-    tally.add("[libprecopy.so.5]" in told and "TEXTREL" not in told, f"readelf -d tells\n{told}")
+    tally.add("[libprecopy.so.6]" in told and "TEXTREL" not in told, f"readelf -d tells\n{told}")
     number = re.search(r"SONAME.*\[libprecopy\.so\.(\d+)\]", told)
     tally.add(number and versions == {f"PRECOPY_{number[1]}"}, f"the symbols have the versions {versions}, and\n{told}")
     needed = set(re.findall(r"NEEDED.*\[(.*)\]", told))
-    tally.add(needed <= {"libc.so.6"}, f"libprecopy.so.5 needs {sorted(needed)}")
+    tally.add(needed <= {"libc.so.6"}, f"libprecopy.so.6 needs {sorted(needed)}")
     size = os.path.getsize(shared)
-    tally.add(size < 136 * 1024, f"libprecopy.so.5 has {size} bytes")
-    print(f"libprecopy.so.5 has {size} bytes, libprecopy.a {os.path.getsize(archive)}", flush=True)
+    tally.add(size < 136 * 1024, f"libprecopy.so.6 has {size} bytes")
+    print(f"libprecopy.so.6 has {size} bytes, libprecopy.a {os.path.getsize(archive)}", flush=True)
     # The contracts say the same numbers, but for two that no call answers: a failed read, and threads out of range.
     names = ("Answers", "Places", "Predictions", "Starts", "StreamChecks")
     files = ["c_layout/specs/Refusals.antt", *(f"c_answers/specs/{name}.antt" for name in names)]

@@ -20,6 +20,15 @@ static const struct precopy_sizes sizes = {4, 1, 1}, no_sizes = {4, 0, 1};
 
 static uint32_t record = 9;
 
+/* The trace, which stays open. */
+static struct precopy_trace held;
+static uint32_t words[4];
+
+static void open_held(void) {
+    size_t needed = 9;
+    ROW(precopy_trace_open(trace, sizeof trace, words, 4, &held, &needed, &record) == PRECOPY_OK && needed == 4);
+}
+
 /* The record of the last refusal, which is then forgotten. */
 static uint32_t forget(void) {
     uint32_t told = record;
@@ -30,51 +39,38 @@ static uint32_t forget(void) {
 static void nulls_of_traces(void) {
     struct precopy_sizes found;
     struct precopy_sums sums;
-    struct precopy_prediction told;
-    struct precopy_errors errors;
-    struct precopy_amounts amounts;
-    struct precopy_agreement agreement;
-    struct precopy_forecast forecast;
-    struct precopy_link_shares shares;
-    struct precopy_best_start best;
-    struct precopy_trace held;
-    uint32_t written, words[4];
+    struct precopy_trace opened;
     size_t count = 9;
     ROW(precopy_check_trace(NULL, 0, &found, &record) == PRECOPY_SHORT_HEADER);
     ROW(precopy_plan(NULL, 0, &good, &sums, &record) == PRECOPY_SHORT_HEADER);
-    ROW(precopy_rounds(NULL, 0, &good, NULL, 0, &count, &record) == PRECOPY_SHORT_HEADER && count == 9);
-    ROW(precopy_rounds(trace, sizeof trace, &good, NULL, 0, &count, &record) == PRECOPY_SHORT_BUFFER && count == 1);
-    ROW(precopy_report(NULL, 0, &good, NULL, 0, &count, &record) == PRECOPY_SHORT_HEADER && count == 1);
+    ROW(precopy_report(NULL, 0, &good, NULL, 0, &count, &record) == PRECOPY_SHORT_HEADER && count == 9);
     ROW(precopy_report(trace, sizeof trace, &good, NULL, 0, &count, &record) == PRECOPY_SHORT_BUFFER && count > 100);
-    ROW(precopy_predict(NULL, 0, &asked, &told, &errors, &record) == PRECOPY_SHORT_HEADER);
-    ROW(precopy_enough(NULL, 0, &asked, &amounts, &record) == PRECOPY_SHORT_HEADER);
-    ROW(precopy_agreement(NULL, 0, &asked, &agreement, &record) == PRECOPY_SHORT_HEADER);
-    ROW(precopy_forecast(NULL, 0, &asked, &forecast, &record) == PRECOPY_SHORT_HEADER);
-    ROW(precopy_link_shares(NULL, 0, &asked, &shares, &record) == PRECOPY_SHORT_HEADER);
-    ROW(precopy_best_start(NULL, 0, &asked, &all_starts, &best, &errors, &record) == PRECOPY_SHORT_HEADER);
-    ROW(precopy_sweep(NULL, 0, NULL, 0, NULL, 0, &count, &record) == PRECOPY_SHORT_HEADER);
-    ROW(precopy_sweep(trace, sizeof trace, NULL, 0, NULL, 0, &count, &record) == PRECOPY_OK && count == 0);
-    ROW(precopy_sweep(trace, sizeof trace, &good, 1, NULL, 0, &count, &record) == PRECOPY_SHORT_BUFFER && count == 0);
-    ROW(precopy_sweep(trace, sizeof trace, NULL, 0, &sums, 1, &count, &record) == PRECOPY_OK && count == 0);
-    ROW(precopy_writes_before(NULL, 0, 1, &written, &record) == PRECOPY_SHORT_HEADER);
-    ROW(precopy_trace_open(NULL, 0, NULL, 0, &held, &count, &record) == PRECOPY_SHORT_HEADER && count == 0);
-    ROW(precopy_trace_open(trace, sizeof trace, NULL, 0, &held, &count, &record) == PRECOPY_SHORT_BUFFER && count > 0);
-    ROW(precopy_trace_open(trace, sizeof trace, words, count, &held, &count, &record) == PRECOPY_OK);
+    count = 0;
+    ROW(precopy_memory(NULL, 0, NULL, 0, &count, &record) == PRECOPY_SHORT_HEADER && count == 0);
+    ROW(precopy_memory(trace, sizeof trace, NULL, 0, &count, &record) == PRECOPY_SHORT_BUFFER && count == 16);
+    count = 0;
+    ROW(precopy_trace_open(NULL, 0, NULL, 0, &opened, &count, &record) == PRECOPY_SHORT_HEADER && count == 0);
+    ROW(precopy_trace_open(trace, sizeof trace, NULL, 0, &opened, &count, &record) == PRECOPY_SHORT_BUFFER);
+    ROW(count == 4);
+}
+
+static void nulls_of_open_traces(void) {
+    struct precopy_sums sums;
+    size_t count = 9;
     ROW(precopy_trace_versions_after(&held, 1, NULL, 0, &count) == PRECOPY_SHORT_BUFFER && count == 1);
     count = 0;
     ROW(precopy_trace_versions_before(&held, 1, NULL, 0, &count) == PRECOPY_SHORT_BUFFER && count == 1);
     ROW(precopy_trace_memory_before(&held, 1, NULL, 0, &count) == PRECOPY_SHORT_BUFFER && count == 16);
     ROW(precopy_trace_page_at(&held, 0, 1, NULL, 0) == PRECOPY_SHORT_BUFFER);
-    count = 0;
-    ROW(precopy_page_writes(NULL, 0, 0, NULL, 0, &count, &record) == PRECOPY_SHORT_HEADER && count == 0);
-    ROW(precopy_page_writes(trace, sizeof trace, 0, NULL, 0, &count, &record) == PRECOPY_SHORT_BUFFER && count == 1);
-    ROW(precopy_memory_step(NULL, 0, 0, 1, NULL, 0, &record) == PRECOPY_SHORT_HEADER);
-    ROW(precopy_memory_step(trace, sizeof trace, 0, 1, NULL, 0, &record) == PRECOPY_MEMORY_LENGTH);
-    count = 0;
-    ROW(precopy_memory(NULL, 0, NULL, 0, &count, &record) == PRECOPY_SHORT_HEADER && count == 0);
-    ROW(precopy_memory(trace, sizeof trace, NULL, 0, &count, &record) == PRECOPY_SHORT_BUFFER && count == 16);
-    ROW(precopy_memory_before(NULL, 0, 8, NULL, 0, &count, &record) == PRECOPY_SHORT_HEADER && count == 16);
-    ROW(precopy_memory_before(trace, sizeof trace, 8, NULL, 0, &count, &record) == PRECOPY_SHORT_BUFFER && count == 16);
+    ROW(precopy_trace_rounds(&held, &good, NULL, 0, &count) == PRECOPY_SHORT_BUFFER && count == 1);
+    ROW(precopy_trace_report(&held, &good, NULL, 0, &count) == PRECOPY_SHORT_BUFFER && count > 100);
+    ROW(precopy_trace_sweep(&held, NULL, 0, NULL, 0, &count) == PRECOPY_OK && count == 0);
+    count = 9;
+    ROW(precopy_trace_sweep(&held, &good, 1, NULL, 0, &count) == PRECOPY_SHORT_BUFFER && count == 9);
+    ROW(precopy_trace_sweep(&held, NULL, 0, &sums, 1, &count) == PRECOPY_OK && count == 0);
+    ROW(precopy_trace_page_writes(&held, 0, NULL, 0, &count) == PRECOPY_SHORT_BUFFER && count == 1);
+    ROW(precopy_trace_memory_step(&held, 0, 1, NULL, 0) == PRECOPY_MEMORY_LENGTH);
+    ROW(precopy_trace_memory_step(&held, 0, 0, NULL, 0) == PRECOPY_MEMORY_LENGTH);
 }
 
 static void nulls_of_frames(void) {
@@ -83,11 +79,9 @@ static void nulls_of_frames(void) {
     struct precopy_page state = {0, 0};
     struct precopy_finding found = {9, 9, 9, 9, 9, 9, 9, 9};
     struct precopy_progress progress = {0, 0, 0, 1};
-    struct precopy_trace held;
-    uint32_t words[4], last[1] = {0}, greatest[1] = {0};
+    uint32_t last[1] = {0}, greatest[1] = {0};
     uint8_t memory[16] = {0};
     size_t needed = 9;
-    ROW(precopy_trace_open(trace, sizeof trace, words, 4, &held, &needed, &record) == PRECOPY_OK);
     ROW(precopy_trace_check_piece(&held, NULL, 0, &progress, NULL, 0, NULL, 0, NULL, 0, &found)
         == PRECOPY_MEMORY_LENGTH);
     ROW(precopy_trace_check_piece(&held, NULL, 0, &progress, NULL, 0, NULL, 0, memory, 16, &found)
@@ -124,83 +118,78 @@ static void nulls_of_frames(void) {
 static void order_of_traces(void) {
     static const struct precopy_settings cases[2] = {PRECOPY_SETTINGS_DEFAULT, {.size = sizeof good}};
     struct precopy_sums sums[2];
-    size_t count;
+    size_t count = 9;
     ROW(precopy_plan(trace, 5, &bad, sums, &record) == PRECOPY_BAD_THRESHOLD);
-    ROW(precopy_rounds(trace, 5, &bad, NULL, 0, &count, &record) == PRECOPY_BAD_THRESHOLD);
-    ROW(precopy_rounds(trace, 32, &good, NULL, 0, &count, &record) == PRECOPY_SHORT_RECORD && forget() == 0);
     ROW(precopy_report(trace, 5, &bad, NULL, 0, &count, &record) == PRECOPY_BAD_THRESHOLD);
     ROW(precopy_report(trace, 32, &good, NULL, 0, &count, &record) == PRECOPY_SHORT_RECORD && forget() == 0);
-    ROW(precopy_sweep(trace, 5, cases, 2, sums, 1, &count, &record) == PRECOPY_SHORT_BUFFER);
-    ROW(precopy_sweep(trace, 5, cases, 2, sums, 2, &count, &record) == PRECOPY_BAD_MIN);
-    ROW(precopy_sweep(trace, 5, cases, 1, sums, 2, &count, &record) == PRECOPY_SHORT_HEADER);
     ROW(precopy_memory(trace, 32, NULL, 0, &count, &record) == PRECOPY_SHORT_RECORD && forget() == 0);
-    ROW(precopy_memory_before(trace, 32, 8, NULL, 0, &count, &record) == PRECOPY_SHORT_RECORD && forget() == 0);
+    ROW(precopy_trace_plan(&held, &bad, sums) == PRECOPY_BAD_THRESHOLD);
+    ROW(precopy_trace_rounds(&held, &bad, NULL, 0, &count) == PRECOPY_BAD_THRESHOLD);
+    ROW(precopy_trace_report(&held, &bad, NULL, 0, &count) == PRECOPY_BAD_THRESHOLD);
+    ROW(precopy_trace_sweep(&held, cases, 2, sums, 1, &count) == PRECOPY_SHORT_BUFFER);
+    ROW(precopy_trace_sweep(&held, cases, 2, sums, 2, &count) == PRECOPY_BAD_MIN && count == 9);
+    ROW(precopy_trace_sweep(&held, cases, 1, sums, 2, &count) == PRECOPY_OK && count == 0);
 }
 
 static void order_of_questions(void) {
     struct precopy_question other = asked;
     struct precopy_prediction told;
     struct precopy_errors errors;
-    ROW(precopy_predict(trace, sizeof trace, &asked, &told, &errors, &record) == PRECOPY_OK && told.left == 0);
-    other.size = 0, other.tick = 0;
-    ROW(precopy_predict(trace, 5, &other, &told, &errors, &record) == PRECOPY_BAD_SIZE);
+    ROW(precopy_trace_predict(&held, &asked, &told, &errors) == PRECOPY_OK && told.left == 0);
+    other.size = 0, other.tick = 0, other.page = 32;
+    ROW(precopy_trace_predict(&held, &other, &told, &errors) == PRECOPY_BAD_SIZE);
     other.size = sizeof other;
-    ROW(precopy_predict(trace, 5, &other, &told, &errors, &record) == PRECOPY_BAD_TICK);
+    ROW(precopy_trace_predict(&held, &other, &told, &errors) == PRECOPY_BAD_TICK);
     other = asked, other.page = 32, other.link = 32000;
-    ROW(precopy_predict(trace, 32, &other, &told, &errors, &record) == PRECOPY_SHORT_RECORD && forget() == 0);
-    ROW(precopy_predict(trace, sizeof trace, &other, &told, &errors, &record) == PRECOPY_OTHER_PAGES);
+    ROW(precopy_trace_predict(&held, &other, &told, &errors) == PRECOPY_OTHER_PAGES);
 }
 
 static void order_of_amounts(void) {
     struct precopy_question other = asked;
     struct precopy_amounts amounts;
-    ROW(precopy_enough(trace, sizeof trace, &asked, &amounts, &record) == PRECOPY_OK && amounts.has_speed == 0);
-    other.size = 0, other.tick = 0;
-    ROW(precopy_enough(trace, 5, &other, &amounts, &record) == PRECOPY_BAD_SIZE);
+    ROW(precopy_trace_enough(&held, &asked, &amounts) == PRECOPY_OK && amounts.has_speed == 0);
+    other.size = 0, other.tick = 0, other.page = 32;
+    ROW(precopy_trace_enough(&held, &other, &amounts) == PRECOPY_BAD_SIZE);
     other.size = sizeof other;
-    ROW(precopy_enough(trace, 5, &other, &amounts, &record) == PRECOPY_BAD_TICK);
+    ROW(precopy_trace_enough(&held, &other, &amounts) == PRECOPY_BAD_TICK);
     other = asked, other.page = 32, other.link = 32000;
-    ROW(precopy_enough(trace, 32, &other, &amounts, &record) == PRECOPY_SHORT_RECORD && forget() == 0);
-    ROW(precopy_enough(trace, sizeof trace, &other, &amounts, &record) == PRECOPY_OTHER_PAGES);
+    ROW(precopy_trace_enough(&held, &other, &amounts) == PRECOPY_OTHER_PAGES);
 }
 
 static void order_of_agreements(void) {
     struct precopy_question other = asked;
     struct precopy_agreement agreement;
-    ROW(precopy_agreement(trace, sizeof trace, &asked, &agreement, &record) == PRECOPY_OK && agreement.draws == 0);
-    other.size = 0, other.tick = 0;
-    ROW(precopy_agreement(trace, 5, &other, &agreement, &record) == PRECOPY_BAD_SIZE);
+    ROW(precopy_trace_agreement(&held, &asked, &agreement) == PRECOPY_OK && agreement.draws == 0);
+    other.size = 0, other.tick = 0, other.page = 32;
+    ROW(precopy_trace_agreement(&held, &other, &agreement) == PRECOPY_BAD_SIZE);
     other.size = sizeof other;
-    ROW(precopy_agreement(trace, 5, &other, &agreement, &record) == PRECOPY_BAD_TICK);
+    ROW(precopy_trace_agreement(&held, &other, &agreement) == PRECOPY_BAD_TICK);
     other = asked, other.page = 32, other.link = 32000;
-    ROW(precopy_agreement(trace, 32, &other, &agreement, &record) == PRECOPY_SHORT_RECORD && forget() == 0);
-    ROW(precopy_agreement(trace, sizeof trace, &other, &agreement, &record) == PRECOPY_OTHER_PAGES);
+    ROW(precopy_trace_agreement(&held, &other, &agreement) == PRECOPY_OTHER_PAGES);
 }
 
 static void order_of_forecasts(void) {
     struct precopy_question other = asked;
     struct precopy_forecast forecast;
-    ROW(precopy_forecast(trace, sizeof trace, &asked, &forecast, &record) == PRECOPY_OK);
-    other.size = 0, other.tick = 0;
-    ROW(precopy_forecast(trace, 5, &other, &forecast, &record) == PRECOPY_BAD_SIZE);
+    ROW(precopy_trace_forecast(&held, &asked, &forecast) == PRECOPY_OK);
+    other.size = 0, other.tick = 0, other.page = 32;
+    ROW(precopy_trace_forecast(&held, &other, &forecast) == PRECOPY_BAD_SIZE);
     other.size = sizeof other;
-    ROW(precopy_forecast(trace, 5, &other, &forecast, &record) == PRECOPY_BAD_TICK);
+    ROW(precopy_trace_forecast(&held, &other, &forecast) == PRECOPY_BAD_TICK);
     other = asked, other.page = 32, other.link = 32000;
-    ROW(precopy_forecast(trace, 32, &other, &forecast, &record) == PRECOPY_SHORT_RECORD && forget() == 0);
-    ROW(precopy_forecast(trace, sizeof trace, &other, &forecast, &record) == PRECOPY_OTHER_PAGES);
+    ROW(precopy_trace_forecast(&held, &other, &forecast) == PRECOPY_OTHER_PAGES);
 }
 
 static void order_of_shares(void) {
     struct precopy_question other = asked;
     struct precopy_link_shares shares;
-    ROW(precopy_link_shares(trace, sizeof trace, &asked, &shares, &record) == PRECOPY_OK && shares.percent >= 50);
-    other.size = 0, other.tick = 0;
-    ROW(precopy_link_shares(trace, 5, &other, &shares, &record) == PRECOPY_BAD_SIZE);
+    ROW(precopy_trace_link_shares(&held, &asked, &shares) == PRECOPY_OK && shares.percent >= 50);
+    other.size = 0, other.tick = 0, other.page = 32;
+    ROW(precopy_trace_link_shares(&held, &other, &shares) == PRECOPY_BAD_SIZE);
     other.size = sizeof other;
-    ROW(precopy_link_shares(trace, 5, &other, &shares, &record) == PRECOPY_BAD_TICK);
+    ROW(precopy_trace_link_shares(&held, &other, &shares) == PRECOPY_BAD_TICK);
     other = asked, other.page = 32, other.link = 32000;
-    ROW(precopy_link_shares(trace, 32, &other, &shares, &record) == PRECOPY_SHORT_RECORD && forget() == 0);
-    ROW(precopy_link_shares(trace, sizeof trace, &other, &shares, &record) == PRECOPY_OTHER_PAGES);
+    ROW(precopy_trace_link_shares(&held, &other, &shares) == PRECOPY_OTHER_PAGES);
 }
 
 static void order_of_starts(void) {
@@ -208,33 +197,30 @@ static void order_of_starts(void) {
     struct precopy_starts many = {sizeof many, 4096, 1, 1, 1}, short_size = many;
     struct precopy_best_start best;
     struct precopy_errors errors;
-    ROW(precopy_best_start(trace, sizeof trace, &asked, &all_starts, &best, &errors, &record) == PRECOPY_OK);
+    ROW(precopy_trace_best_start(&held, &asked, &all_starts, &best, &errors) == PRECOPY_OK);
     ROW(best.kept == PRECOPY_YES && best.start == 0 && best.is_likely == 1);
     short_size.size = 0, other.tick = 0;
-    ROW(precopy_best_start(trace, 5, &other, &short_size, &best, &errors, &record) == PRECOPY_BAD_SIZE);
+    ROW(precopy_trace_best_start(&held, &other, &short_size, &best, &errors) == PRECOPY_BAD_SIZE);
     other.size = 0;
-    ROW(precopy_best_start(trace, 5, &other, &many, &best, &errors, &record) == PRECOPY_BAD_SIZE);
+    ROW(precopy_trace_best_start(&held, &other, &many, &best, &errors) == PRECOPY_BAD_SIZE);
     other.size = sizeof other;
-    ROW(precopy_best_start(trace, 5, &other, &many, &best, &errors, &record) == PRECOPY_BAD_TICK);
+    ROW(precopy_trace_best_start(&held, &other, &many, &best, &errors) == PRECOPY_BAD_TICK);
     other = asked, other.page = 32, other.link = 32000;
-    ROW(precopy_best_start(trace, 32, &other, &many, &best, &errors, &record) == PRECOPY_SHORT_RECORD && forget() == 0);
-    ROW(precopy_best_start(trace, sizeof trace, &other, &many, &best, &errors, &record) == PRECOPY_OTHER_PAGES);
-    ROW(precopy_best_start(trace, sizeof trace, &asked, &many, &best, &errors, &record) == PRECOPY_TOO_MANY_STARTS);
+    ROW(precopy_trace_best_start(&held, &other, &many, &best, &errors) == PRECOPY_OTHER_PAGES);
+    ROW(precopy_trace_best_start(&held, &asked, &many, &best, &errors) == PRECOPY_TOO_MANY_STARTS);
 }
 
 static void order_of_places(void) {
     struct precopy_write writes[1];
-    struct precopy_trace held;
-    uint32_t words[4];
-    size_t count;
-    ROW(precopy_trace_open(trace, 32, NULL, 0, &held, &count, &record) == PRECOPY_SHORT_RECORD && forget() == 0);
-    ROW(precopy_trace_open(trace, sizeof trace, words, 4, &held, &count, &record) == PRECOPY_OK);
+    struct precopy_trace opened;
+    size_t count = 9;
+    ROW(precopy_trace_open(trace, 32, NULL, 0, &opened, &count, &record) == PRECOPY_SHORT_RECORD && forget() == 0);
     ROW(precopy_trace_page_at(&held, 1, 2, NULL, 0) == PRECOPY_NO_PAGE);
     ROW(precopy_trace_page_at(&held, 0, 2, NULL, 0) == PRECOPY_NO_VERSION);
-    ROW(precopy_page_writes(trace, 32, 1, writes, 0, &count, &record) == PRECOPY_SHORT_RECORD && forget() == 0);
-    ROW(precopy_page_writes(trace, sizeof trace, 1, writes, 0, &count, &record) == PRECOPY_NO_PAGE);
-    ROW(precopy_memory_step(trace, 32, 2, 1, NULL, 0, &record) == PRECOPY_BACKWARDS);
-    ROW(precopy_memory_step(trace, 32, 1, 2, NULL, 0, &record) == PRECOPY_SHORT_RECORD && forget() == 0);
+    ROW(precopy_trace_page_writes(&held, 1, writes, 0, &count) == PRECOPY_NO_PAGE && count == 9);
+    ROW(precopy_trace_page_writes(&held, 0, writes, 0, &count) == PRECOPY_SHORT_BUFFER && count == 1);
+    ROW(precopy_trace_memory_step(&held, 2, 1, NULL, 0) == PRECOPY_BACKWARDS);
+    ROW(precopy_trace_memory_step(&held, 1, 2, NULL, 0) == PRECOPY_MEMORY_LENGTH);
 }
 
 static void order_of_frames(void) {
@@ -280,7 +266,9 @@ static void recordings(void) {
 }
 
 int main(void) {
+    open_held();
     nulls_of_traces();
+    nulls_of_open_traces();
     nulls_of_frames();
     order_of_traces();
     order_of_questions();

@@ -34,14 +34,6 @@ uint32_t __wrap_precopy_check_trace(const uint8_t *trace, size_t length, struct 
     return given_back(&all, __real_precopy_check_trace(IN(trace, length), length, OUT(sizes, 1), OUT(record, 1)));
 }
 
-FENCED(writes_before);
-uint32_t __wrap_precopy_writes_before(const uint8_t *trace, size_t length, uint64_t tick, uint32_t *count,
-                                      uint32_t *record) {
-    struct fences all = {.count = 0};
-    return given_back(&all,
-                      __real_precopy_writes_before(IN(trace, length), length, tick, OUT(count, 1), OUT(record, 1)));
-}
-
 FENCED(check_settings);
 uint32_t __wrap_precopy_check_settings(const struct precopy_settings *settings) {
     struct fences all = {.count = 0};
@@ -56,15 +48,6 @@ uint32_t __wrap_precopy_plan(const uint8_t *trace, size_t length, const struct p
                       __real_precopy_plan(IN(trace, length), length, IN(settings, 1), OUT(sums, 1), OUT(record, 1)));
 }
 
-FENCED(rounds);
-uint32_t __wrap_precopy_rounds(const uint8_t *trace, size_t length, const struct precopy_settings *settings,
-                               struct precopy_round *rounds, size_t rounds_length, size_t *count, uint32_t *record) {
-    struct fences all = {.count = 0};
-    return given_back(&all,
-                      __real_precopy_rounds(IN(trace, length), length, IN(settings, 1), OUT(rounds, rounds_length),
-                                            rounds_length, OUT(count, 1), OUT(record, 1)));
-}
-
 FENCED(report);
 uint32_t __wrap_precopy_report(const uint8_t *trace, size_t length, const struct precopy_settings *settings,
                                uint8_t *text, size_t text_length, size_t *needed, uint32_t *record) {
@@ -73,95 +56,12 @@ uint32_t __wrap_precopy_report(const uint8_t *trace, size_t length, const struct
                                                   text_length, OUT(needed, 1), OUT(record, 1)));
 }
 
-FENCED(sweep);
-uint32_t __wrap_precopy_sweep(const uint8_t *trace, size_t length, const struct precopy_settings *cases,
-                              size_t cases_length, struct precopy_sums *sums, size_t sums_length, size_t *best,
-                              uint32_t *record) {
-    struct fences all = {.count = 0};
-    return given_back(&all, __real_precopy_sweep(IN(trace, length), length, IN(cases, cases_length), cases_length,
-                                                 OUT(sums, sums_length), sums_length, OUT(best, 1), OUT(record, 1)));
-}
-
-FENCED(predict);
-uint32_t __wrap_precopy_predict(const uint8_t *trace, size_t length, const struct precopy_question *question,
-                                struct precopy_prediction *prediction, struct precopy_errors *errors,
-                                uint32_t *record) {
-    struct fences all = {.count = 0};
-    return given_back(&all, __real_precopy_predict(IN(trace, length), length, IN(question, 1), OUT(prediction, 1),
-                                                   OUT(errors, 1), OUT(record, 1)));
-}
-
-FENCED(enough);
-uint32_t __wrap_precopy_enough(const uint8_t *trace, size_t length, const struct precopy_question *question,
-                               struct precopy_amounts *amounts, uint32_t *record) {
-    struct fences all = {.count = 0};
-    return given_back(
-        &all, __real_precopy_enough(IN(trace, length), length, IN(question, 1), OUT(amounts, 1), OUT(record, 1)));
-}
-
-FENCED(agreement);
-uint32_t __wrap_precopy_agreement(const uint8_t *trace, size_t length, const struct precopy_question *question,
-                                  struct precopy_agreement *agreement, uint32_t *record) {
-    struct fences all = {.count = 0};
-    return given_back(
-        &all, __real_precopy_agreement(IN(trace, length), length, IN(question, 1), OUT(agreement, 1), OUT(record, 1)));
-}
-
-FENCED(forecast);
-uint32_t __wrap_precopy_forecast(const uint8_t *trace, size_t length, const struct precopy_question *question,
-                                 struct precopy_forecast *forecast, uint32_t *record) {
-    struct fences all = {.count = 0};
-    return given_back(
-        &all, __real_precopy_forecast(IN(trace, length), length, IN(question, 1), OUT(forecast, 1), OUT(record, 1)));
-}
-
-FENCED(link_shares);
-uint32_t __wrap_precopy_link_shares(const uint8_t *trace, size_t length, const struct precopy_question *question,
-                                    struct precopy_link_shares *shares, uint32_t *record) {
-    struct fences all = {.count = 0};
-    return given_back(
-        &all, __real_precopy_link_shares(IN(trace, length), length, IN(question, 1), OUT(shares, 1), OUT(record, 1)));
-}
-
-FENCED(best_start);
-uint32_t __wrap_precopy_best_start(const uint8_t *trace, size_t length, const struct precopy_question *question,
-                                   const struct precopy_starts *starts, struct precopy_best_start *best,
-                                   struct precopy_errors *errors, uint32_t *record) {
-    struct fences all = {.count = 0};
-    return given_back(&all, __real_precopy_best_start(IN(trace, length), length, IN(question, 1), IN(starts, 1),
-                                                      OUT(best, 1), OUT(errors, 1), OUT(record, 1)));
-}
-
 FENCED(memory);
 uint32_t __wrap_precopy_memory(const uint8_t *trace, size_t length, uint8_t *memory, size_t memory_length,
                                size_t *needed, uint32_t *record) {
     struct fences all = {.count = 0};
     return given_back(&all, __real_precopy_memory(IN(trace, length), length, OUT(memory, memory_length), memory_length,
                                                   OUT(needed, 1), OUT(record, 1)));
-}
-
-FENCED(memory_before);
-uint32_t __wrap_precopy_memory_before(const uint8_t *trace, size_t length, uint64_t tick, uint8_t *memory,
-                                      size_t memory_length, size_t *needed, uint32_t *record) {
-    struct fences all = {.count = 0};
-    return given_back(&all, __real_precopy_memory_before(IN(trace, length), length, tick, OUT(memory, memory_length),
-                                                         memory_length, OUT(needed, 1), OUT(record, 1)));
-}
-
-FENCED(memory_step);
-uint32_t __wrap_precopy_memory_step(const uint8_t *trace, size_t length, uint32_t from, uint32_t to, uint8_t *memory,
-                                    size_t memory_length, uint32_t *record) {
-    struct fences all = {.count = 0};
-    return given_back(&all, __real_precopy_memory_step(IN(trace, length), length, from, to, OUT(memory, memory_length),
-                                                       memory_length, OUT(record, 1)));
-}
-
-FENCED(page_writes);
-uint32_t __wrap_precopy_page_writes(const uint8_t *trace, size_t length, uint32_t page, struct precopy_write *writes,
-                                    size_t writes_length, size_t *count, uint32_t *record) {
-    struct fences all = {.count = 0};
-    return given_back(&all, __real_precopy_page_writes(IN(trace, length), length, page, OUT(writes, writes_length),
-                                                       writes_length, OUT(count, 1), OUT(record, 1)));
 }
 
 /* A handle whose bytes and words lie between guard pages too. */
@@ -202,6 +102,116 @@ uint32_t __wrap_precopy_trace_memory_before(const struct precopy_trace *trace, u
     return given_back(&all,
                       __real_precopy_trace_memory_before(open_trace(&all, trace, &meanwhile), tick,
                                                          OUT(memory, memory_length), memory_length, OUT(needed, 1)));
+}
+
+FENCED(trace_plan);
+uint32_t __wrap_precopy_trace_plan(const struct precopy_trace *trace, const struct precopy_settings *settings,
+                                   struct precopy_sums *sums) {
+    struct fences all = {.count = 0};
+    struct precopy_trace meanwhile;
+    return given_back(&all,
+                      __real_precopy_trace_plan(open_trace(&all, trace, &meanwhile), IN(settings, 1), OUT(sums, 1)));
+}
+
+FENCED(trace_report);
+uint32_t __wrap_precopy_trace_report(const struct precopy_trace *trace, const struct precopy_settings *settings,
+                                     uint8_t *text, size_t text_length, size_t *needed) {
+    struct fences all = {.count = 0};
+    struct precopy_trace meanwhile;
+    return given_back(&all, __real_precopy_trace_report(open_trace(&all, trace, &meanwhile), IN(settings, 1),
+                                                        OUT(text, text_length), text_length, OUT(needed, 1)));
+}
+
+FENCED(trace_rounds);
+uint32_t __wrap_precopy_trace_rounds(const struct precopy_trace *trace, const struct precopy_settings *settings,
+                                     struct precopy_round *rounds, size_t rounds_length, size_t *count) {
+    struct fences all = {.count = 0};
+    struct precopy_trace meanwhile;
+    return given_back(&all, __real_precopy_trace_rounds(open_trace(&all, trace, &meanwhile), IN(settings, 1),
+                                                        OUT(rounds, rounds_length), rounds_length, OUT(count, 1)));
+}
+
+FENCED(trace_sweep);
+uint32_t __wrap_precopy_trace_sweep(const struct precopy_trace *trace, const struct precopy_settings *cases,
+                                    size_t cases_length, struct precopy_sums *sums, size_t sums_length, size_t *best) {
+    struct fences all = {.count = 0};
+    struct precopy_trace meanwhile;
+    return given_back(&all,
+                      __real_precopy_trace_sweep(open_trace(&all, trace, &meanwhile), IN(cases, cases_length),
+                                                 cases_length, OUT(sums, sums_length), sums_length, OUT(best, 1)));
+}
+
+FENCED(trace_predict);
+uint32_t __wrap_precopy_trace_predict(const struct precopy_trace *trace, const struct precopy_question *question,
+                                      struct precopy_prediction *prediction, struct precopy_errors *errors) {
+    struct fences all = {.count = 0};
+    struct precopy_trace meanwhile;
+    return given_back(&all, __real_precopy_trace_predict(open_trace(&all, trace, &meanwhile), IN(question, 1),
+                                                         OUT(prediction, 1), OUT(errors, 1)));
+}
+
+FENCED(trace_enough);
+uint32_t __wrap_precopy_trace_enough(const struct precopy_trace *trace, const struct precopy_question *question,
+                                     struct precopy_amounts *amounts) {
+    struct fences all = {.count = 0};
+    struct precopy_trace meanwhile;
+    return given_back(
+        &all, __real_precopy_trace_enough(open_trace(&all, trace, &meanwhile), IN(question, 1), OUT(amounts, 1)));
+}
+
+FENCED(trace_agreement);
+uint32_t __wrap_precopy_trace_agreement(const struct precopy_trace *trace, const struct precopy_question *question,
+                                        struct precopy_agreement *agreement) {
+    struct fences all = {.count = 0};
+    struct precopy_trace meanwhile;
+    return given_back(
+        &all, __real_precopy_trace_agreement(open_trace(&all, trace, &meanwhile), IN(question, 1), OUT(agreement, 1)));
+}
+
+FENCED(trace_forecast);
+uint32_t __wrap_precopy_trace_forecast(const struct precopy_trace *trace, const struct precopy_question *question,
+                                       struct precopy_forecast *forecast) {
+    struct fences all = {.count = 0};
+    struct precopy_trace meanwhile;
+    return given_back(
+        &all, __real_precopy_trace_forecast(open_trace(&all, trace, &meanwhile), IN(question, 1), OUT(forecast, 1)));
+}
+
+FENCED(trace_link_shares);
+uint32_t __wrap_precopy_trace_link_shares(const struct precopy_trace *trace, const struct precopy_question *question,
+                                          struct precopy_link_shares *shares) {
+    struct fences all = {.count = 0};
+    struct precopy_trace meanwhile;
+    return given_back(
+        &all, __real_precopy_trace_link_shares(open_trace(&all, trace, &meanwhile), IN(question, 1), OUT(shares, 1)));
+}
+
+FENCED(trace_best_start);
+uint32_t __wrap_precopy_trace_best_start(const struct precopy_trace *trace, const struct precopy_question *question,
+                                         const struct precopy_starts *starts, struct precopy_best_start *best,
+                                         struct precopy_errors *errors) {
+    struct fences all = {.count = 0};
+    struct precopy_trace meanwhile;
+    return given_back(&all, __real_precopy_trace_best_start(open_trace(&all, trace, &meanwhile), IN(question, 1),
+                                                            IN(starts, 1), OUT(best, 1), OUT(errors, 1)));
+}
+
+FENCED(trace_memory_step);
+uint32_t __wrap_precopy_trace_memory_step(const struct precopy_trace *trace, uint32_t from, uint32_t to,
+                                          uint8_t *memory, size_t memory_length) {
+    struct fences all = {.count = 0};
+    struct precopy_trace meanwhile;
+    return given_back(&all, __real_precopy_trace_memory_step(open_trace(&all, trace, &meanwhile), from, to,
+                                                             OUT(memory, memory_length), memory_length));
+}
+
+FENCED(trace_page_writes);
+uint32_t __wrap_precopy_trace_page_writes(const struct precopy_trace *trace, uint32_t page,
+                                          struct precopy_write *writes, size_t writes_length, size_t *count) {
+    struct fences all = {.count = 0};
+    struct precopy_trace meanwhile;
+    return given_back(&all, __real_precopy_trace_page_writes(open_trace(&all, trace, &meanwhile), page,
+                                                             OUT(writes, writes_length), writes_length, OUT(count, 1)));
 }
 
 FENCED(trace_version_after);

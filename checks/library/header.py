@@ -33,6 +33,7 @@ MISUSES = [
     ("(void)it; (void)page; if (precopy_missing(NULL, 0, NULL)) return;", b"nonnull"),
     ("(void)it; size_t n; if (precopy_memory(NULL, 0, NULL, 0, &n, NULL)) *page = n;", b"nonnull"),
     ("(void)it; if (precopy_memory(NULL, 0, NULL, 0, NULL, NULL)) *page = 0;", b"nonnull"),
+    ("(void)page; struct precopy_sums sums; if (precopy_trace_plan(NULL, it, &sums)) return;", b"nonnull"),
 ]
 
 
@@ -99,7 +100,7 @@ def check_bound(tally, folder):
     done = run("cc", "-std=c99", *WARNINGS, f"-I{TOP}/include", "-o", built, path, f"{LIBRARY}/libprecopy.a")
     if is_done(tally, done, "the bound of a report's length is compiled"):
         done = run(built)
-        wanted = [precopy._longest_report(length) for length in lengths]
+        wanted = [precopy._plans.longest_report(length) for length in lengths]
         found = [int(it) for it in done.stdout.split()]
         tally.add(done.returncode == 0 and found == wanted, f"bounds of reports: {found}, and in Python {wanted}")
 

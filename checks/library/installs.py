@@ -66,7 +66,7 @@ def check_library_alone(tally, folder):
         return
     found, prefix = files_below(root), os.path.join(root, "usr")
     wanted = {f"usr/{path}" for path in SOURCES} | {"usr/include/precopy.h", "usr/lib/pkgconfig/precopy.pc"}
-    wanted |= {f"usr/lib/libprecopy.{kind}" for kind in ("a", "so", "so.5")}
+    wanted |= {f"usr/lib/libprecopy.{kind}" for kind in ("a", "so", "so.6")}
     folders = ("usr/share/precopy/rust/", "usr/lib/precopy/installed-library")
     others = [path for path in found if path not in wanted and not path.startswith(folders)]
     tally.add(wanted <= set(found) and not others, f"install-lib installs {others}, and lacks {wanted - set(found)}")

@@ -65,12 +65,13 @@ void __wrap_free(void *old) {
 
 /* ---- trials of the calls */
 
-/* Each call that writes through a buffer or allocates: its name, the lengths that it writes, and how long an element of
- * its buffer is. */
+/* Each call that writes through a buffer or allocates: its name, the lengths that it writes, how long an element of its
+ * buffer is, and whether it may take memory. */
 struct trial {
     const char *name;
     call_of *call;
     size_t room, told, element;
+    int takes_memory;
 };
 
 static struct outputs outputs_of(size_t room, size_t told) {
@@ -93,7 +94,7 @@ static void try_refusals(const struct guest *guest, const struct trial *trial) {
         uint32_t status = trial->call(guest, &out);
         int came = atomic_load(&asked) >= number;
         atomic_store(&refused_at, 0);
-        expect(!came || strncmp(trial->name, "trace_", 6), trial->name, "it takes memory");
+        expect(!came || trial->takes_memory, trial->name, "it takes memory");
         expect(atomic_load(&live) == 0, trial->name, "memory is not given back");
         expect(is_untouched(&out.record, 0), trial->name, "a record of a trace that is not refused");
         if (came) {
@@ -109,9 +110,10 @@ static void try_refusals(const struct guest *guest, const struct trial *trial) {
     }
 }
 
-/* Buffers of no length, one element too short, and longer than needed. */
+/* Buffers of no length, one element too short, and longer than needed. Memory that is brought on has one length, which
+ * try_steps tries. */
 static void try_lengths(const struct guest *guest, const struct trial *trial) {
-    if (!trial->room) {
+    if (!trial->room || trial->call == memory_step) {
         return;
     }
     size_t lengths[] = {0, trial->room - trial->element};
@@ -261,25 +263,35 @@ static void take_cut(const struct precopy_sizes *sizes, const uint8_t *stream, s
 
 /* Memory that is brought on in two steps, backwards, and of a wrong length. */
 static void try_steps(const struct guest *guest, const struct precopy_sizes *sizes, const uint8_t *whole) {
-    const uint8_t *trace = guest->trace.at;
-    size_t length = guest->trace.length, bytes = (size_t)sizes->pages << sizes->shift;
-    uint32_t half = sizes->writes / 2, record = 9;
+    const struct precopy_trace *held = &guest->held;
+    size_t bytes = (size_t)sizes->pages << sizes->shift;
+    uint32_t half = sizes->writes / 2;
     struct room room = room_of(bytes), longer = room_of(bytes + 1);
-    expect(precopy_memory_step(trace, length, 1, 0, room.at, bytes, &record) == PRECOPY_BACKWARDS, "memory_step",
+    expect(precopy_trace_memory_step(held, 1, 0, room.at, bytes - 1) == PRECOPY_BACKWARDS, "trace_memory_step",
            "backwards");
-    expect(precopy_memory_step(trace, length, 0, half, room.at, bytes - 1, &record) == PRECOPY_MEMORY_LENGTH,
-           "memory_step", "of short memory");
-    uint32_t status = precopy_memory_step(trace, length, 0, half, longer.at, bytes + 1, &record);
-    expect(status == PRECOPY_MEMORY_LENGTH && is_untouched(&longer, 0), "memory_step", "of long memory");
-    expect(is_untouched(&room, 0), "memory_step", "that is refused");
+    expect(precopy_trace_memory_step(held, 0, half, room.at, bytes - 1) == PRECOPY_MEMORY_LENGTH, "trace_memory_step",
+           "of short memory");
+    uint32_t status = precopy_trace_memory_step(held, 0, half, longer.at, bytes + 1);
+    expect(status == PRECOPY_MEMORY_LENGTH && is_untouched(&longer, 0), "trace_memory_step", "of long memory");
+    expect(is_untouched(&room, 0), "trace_memory_step", "that is refused");
     memset(room.at, 0, bytes);
-    status = precopy_memory_step(trace, length, 0, half, room.at, bytes, &record);
-    expect(status == PRECOPY_OK, "memory_step", "to the half");
-    status = precopy_memory_step(trace, length, half, sizes->writes, room.at, bytes, &record);
-    expect(status == PRECOPY_OK && !memcmp(room.at, whole, bytes), "memory_step", "to the end");
-    expect(record == 9, "memory_step", "a record of a trace that is not refused");
+    status = precopy_trace_memory_step(held, 0, half, room.at, bytes);
+    expect(status == PRECOPY_OK, "trace_memory_step", "to the half");
+    status = precopy_trace_memory_step(held, half, sizes->writes, room.at, bytes);
+    expect(status == PRECOPY_OK && !memcmp(room.at, whole, bytes), "trace_memory_step", "to the end");
     drop(&room);
     drop(&longer);
+}
+
+/* Calls over the bytes of a trace and over the trace that is open answer the same. */
+static void try_alike(const struct guest *guest, call_of *of_bytes, call_of *of_open, size_t room, size_t told,
+                      const char *what) {
+    struct outputs one = outputs_of(room, told), other = outputs_of(room, told);
+    expect(of_bytes(guest, &one) == PRECOPY_OK && of_open(guest, &other) == PRECOPY_OK, what, "of an open trace");
+    int same = !memcmp(one.room.at, other.room.at, room) && !memcmp(one.told.at, other.told.at, told);
+    expect(same, what, "over bytes and over an open trace it answers differently");
+    drop_outputs(&one);
+    drop_outputs(&other);
 }
 
 static void try_streams(const struct precopy_sizes *sizes, const uint8_t *earlier, const uint8_t *whole) {
@@ -324,9 +336,7 @@ static struct precopy_question question_of(uint64_t size, uint64_t pages) {
 
 /* Each call over a trace that is refused: the same number and record, and nothing else written. */
 static void try_refused(const struct guest *guest, uint32_t status, const struct room *record) {
-    call_of *calls[] = {plan,          rounds,        report,        sweep,       predict,    enough,
-                        memory,        memory_before, writes_before, memory_step, trace_open, page_writes,
-                        check_streams, agreement,     forecast,      link_shares, best_start};
+    call_of *calls[] = {plan, report, memory, check_streams, trace_open};
     for (size_t i = 0; i < sizeof calls / sizeof *calls; i++) {
         struct outputs out = outputs_of(1920, sizeof(struct precopy_prediction) + sizeof(struct precopy_errors));
         uint32_t told = calls[i](guest, &out);
@@ -354,6 +364,10 @@ static void try_all(struct guest *guest, const struct precopy_sizes *sizes) {
     size_t bytes = (size_t)sizes->pages << sizes->shift, size = (size_t)1 << sizes->shift;
     size_t row = sizeof(struct precopy_write), word = sizeof(uint32_t), versions = sizes->pages * word;
     struct outputs whole = outputs_of(bytes, sizeof(size_t)), earlier = outputs_of(bytes, sizeof(size_t));
+    size_t index = open_guest(guest);
+    struct room words = input_of(guest->words.at, index),
+                bytes_of_trace = input_of(guest->trace.at, guest->trace.length);
+    struct precopy_trace opened = guest->held;
     expect(memory(guest, &whole) == PRECOPY_OK && memory_before(guest, &earlier) == PRECOPY_OK, "memory", "of a trace");
     uint8_t frame[9 + 4096];
     size_t needed = 0, text = 0, count = 0, writes = 0;
@@ -365,7 +379,6 @@ static void try_all(struct guest *guest, const struct precopy_sizes *sizes) {
     expect(status == PRECOPY_OK, "encode_frame", "of page 0");
     guest->stream = input_of(frame, needed);
     make_streams(guest, sizes, whole.room.at);
-    size_t index = open_guest(guest);
     struct outputs none = outputs_of(0, sizeof(size_t));
     report(guest, &none);
     memcpy(&text, none.told.at, sizeof text);
@@ -374,32 +387,37 @@ static void try_all(struct guest *guest, const struct precopy_sizes *sizes) {
     memcpy(&count, none.told.at, sizeof count);
     page_writes(guest, &none);
     memcpy(&writes, none.told.at, sizeof writes);
+    size_t sums = sizeof(struct precopy_sums), round = sizeof(struct precopy_round);
+    size_t errors = sizeof(struct precopy_errors), found = sizeof(struct precopy_finding);
     struct trial trials[] = {
-        {"check_trace", check_trace, 0, sizeof(struct precopy_sizes), 1},
-        {"plan", plan, 0, sizeof(struct precopy_sums), 1},
-        {"rounds", rounds, count * sizeof(struct precopy_round), sizeof(size_t), sizeof(struct precopy_round)},
-        {"report", report, text, sizeof(size_t), 1},
-        {"sweep", sweep, 3 * sizeof(struct precopy_sums), sizeof(size_t), sizeof(struct precopy_sums)},
-        {"predict", predict, 0, sizeof(struct precopy_prediction) + sizeof(struct precopy_errors), 1},
-        {"enough", enough, 0, sizeof(struct precopy_amounts), 1},
-        {"agreement", agreement, 0, sizeof(struct precopy_agreement), 1},
-        {"forecast", forecast, 0, sizeof(struct precopy_forecast), 1},
-        {"link_shares", link_shares, 0, sizeof(struct precopy_link_shares), 1},
-        {"best_start", best_start, 0, sizeof(struct precopy_best_start) + sizeof(struct precopy_errors), 1},
-        {"memory", memory, bytes, sizeof(size_t), 1},
-        {"memory_before", memory_before, bytes, sizeof(size_t), 1},
-        {"writes_before", writes_before, 0, sizeof(uint32_t), 1},
-        {"trace_open", trace_open, index, sizeof(size_t), word},
-        {"trace_version_after", version_after, 0, word, 1},
-        {"trace_versions_after", versions_after, versions, sizeof(size_t), word},
-        {"trace_versions_before", versions_before, versions, sizeof(size_t), word},
-        {"trace_page_at", page_at, size, 0, 1},
-        {"page_writes", page_writes, writes * row, sizeof(size_t), row},
-        {"check_streams", check_streams, 0, sizeof(struct precopy_finding), 1},
-        {"trace_check_piece", check_piece, 0, 2 * versions + bytes, 1},
-        {"trace_check_pages", check_pages, 0, sizeof(struct precopy_finding), 1},
-        {"encode_frame", encode, needed, sizeof(size_t), 1},
-        {"decode_frame", decode, size, sizeof(struct precopy_frame), 1},
+        {"check_trace", check_trace, 0, sizeof(struct precopy_sizes), 1, 0},
+        {"plan", plan, 0, sums, 1, 1},
+        {"report", report, text, sizeof(size_t), 1, 1},
+        {"memory", memory, bytes, sizeof(size_t), 1, 0},
+        {"check_streams", check_streams, 0, found, 1, 1},
+        {"trace_open", trace_open, index, sizeof(size_t), word, 0},
+        {"trace_plan", trace_plan, 0, sums, 1, 1},
+        {"trace_report", trace_report, text, sizeof(size_t), 1, 1},
+        {"trace_rounds", rounds, count * round, sizeof(size_t), round, 1},
+        {"trace_sweep", sweep, 3 * sums, sizeof(size_t), sums, 1},
+        {"trace_predict", predict, 0, sizeof(struct precopy_prediction) + errors, 1, 1},
+        {"trace_enough", enough, 0, sizeof(struct precopy_amounts), 1, 1},
+        {"trace_agreement", agreement, 0, sizeof(struct precopy_agreement), 1, 1},
+        {"trace_forecast", forecast, 0, sizeof(struct precopy_forecast), 1, 1},
+        {"trace_link_shares", link_shares, 0, sizeof(struct precopy_link_shares), 1, 1},
+        {"trace_best_start", best_start, 0, sizeof(struct precopy_best_start) + errors, 1, 1},
+        {"trace_memory_before", memory_before, bytes, sizeof(size_t), 1, 0},
+        {"trace_memory_step", memory_step, bytes, 0, 1, 0},
+        {"trace_writes_before", writes_before, 0, word, 1, 0},
+        {"trace_page_writes", page_writes, writes * row, sizeof(size_t), row, 0},
+        {"trace_version_after", version_after, 0, word, 1, 0},
+        {"trace_versions_after", versions_after, versions, sizeof(size_t), word, 0},
+        {"trace_versions_before", versions_before, versions, sizeof(size_t), word, 0},
+        {"trace_page_at", page_at, size, 0, 1, 0},
+        {"trace_check_piece", check_piece, 0, 2 * versions + bytes, 1, 0},
+        {"trace_check_pages", check_pages, 0, found, 1, 0},
+        {"encode_frame", encode, needed, sizeof(size_t), 1, 1},
+        {"decode_frame", decode, size, sizeof(struct precopy_frame), 1, 0},
     };
     size_t all = sizeof trials / sizeof *trials;
     for (size_t i = 0; i < all; i++) {
@@ -409,8 +427,14 @@ static void try_all(struct guest *guest, const struct precopy_sizes *sizes) {
     if (sizes->writes < 20000) {
         try_threads(guest, trials, all);
     }
+    try_alike(guest, plan, trace_plan, 0, sums, "plan");
+    try_alike(guest, report, trace_report, text, sizeof(size_t), "report");
     try_steps(guest, sizes, whole.room.at);
     try_streams(sizes, earlier.room.at, whole.room.at);
+    int stays = !memcmp(words.at, guest->words.at, index) && !memcmp(&opened, &guest->held, sizeof opened);
+    expect(stays && !memcmp(bytes_of_trace.at, guest->trace.at, bytes_of_trace.length), "an open trace", "it changed");
+    drop(&words);
+    drop(&bytes_of_trace);
     drop_outputs(&whole);
     drop_outputs(&earlier);
     drop_outputs(&none);

@@ -18,28 +18,28 @@ def status_of(call, *words):
         return refused.status
 
 
-def check_page(tally, trace, guest, number):
+def check_page(tally, opened, guest, number):
     page = guest.pages[number]
     rows = [precopy.Write(place, tick, at, len(data)) for place, (tick, at, data) in zip(page.places, page.writes)]
-    found = precopy.page_writes(trace, number)
+    found = opened.page_writes(number)
     tally.add(found == rows, f"writes to page {number}: {found}, not {rows}")
 
 
-def check_steps(tally, trace, guest, chosen):
+def check_steps(tally, opened, guest, chosen):
     """Memory from place to place, each step in the memory that the last one left."""
     places = sorted(chosen.randint(0, guest.write_count + 2) for _ in range(6))
     memory = bytearray(len(guest.pages) * guest.size)
     for start, end in zip([0, *places], [*places, (1 << 32) - 1]):
-        precopy.memory_step(trace, start, end, memory)
+        opened.memory_step(start, end, memory)
         tally.add(memory == guest.memory_after(end), f"memory from {start} to {end}")
     for place in places:
-        found, wanted = status_of(precopy.memory_step, trace, place + 1, place, memory), BACKWARDS
+        found, wanted = status_of(opened.memory_step, place + 1, place, memory), BACKWARDS
         tally.add(found == wanted, f"memory from {place + 1} to {place}: {found}")
     # What was in memory stays where no write comes.
     start, end = sorted(chosen.randint(0, guest.write_count) for _ in range(2))
     old = bytearray(chosen.randbytes(len(memory)))
     memory = bytearray(old)
-    precopy.memory_step(trace, start, end, memory)
+    opened.memory_step(start, end, memory)
     for number, page in enumerate(guest.pages):
         for place, (_, offset, data) in zip(page.places, page.writes):
             if start < place <= end:
@@ -56,11 +56,11 @@ def check(tally):
 
 
 def check_trace(tally, trace, chosen):
-    guest = stream_model.Guest(trace)
+    guest, opened = stream_model.Guest(trace), precopy.OpenTrace(trace)
     numbers = range(len(guest.pages))
     for number in chosen.sample(numbers, min(len(numbers), 5)):
-        check_page(tally, trace, guest, number)
-    check_steps(tally, trace, guest, chosen)
+        check_page(tally, opened, guest, number)
+    check_steps(tally, opened, guest, chosen)
     for number in (len(numbers), chosen.randrange(len(numbers), 1 << 32)):
-        found = status_of(precopy.page_writes, trace, number)
+        found = status_of(opened.page_writes, number)
         tally.add(found == NO_PAGE, f"writes to page {number} of {len(numbers)}: {found}")

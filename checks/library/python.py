@@ -21,7 +21,7 @@ from checks.lib.traces import header, record
 from checks.library import python_edges, traces
 from precopy_dev.tree import TOP
 
-LIBRARY = os.path.join(TOP, "out", "library", "libprecopy.so.5")
+LIBRARY = os.path.join(TOP, "out", "library", "libprecopy.so.6")
 SECONDS = 300
 HOSTILE = [-1, 1 << 31, 1 << 32, (1 << 32) + 1, (1 << 32) + 4, 1 << 63, 1 << 64, (1 << 64) + 1, 10**5000]
 HOSTILE += [-(1 << 31), -(1 << 32), -(1 << 63), -(1 << 64), -(10**30)]
@@ -29,8 +29,7 @@ OPTIONAL = ("base", "first", "increment of a question", "best_start, to", "best_
 NO_NUMBERS = [1.0, 0.5, -1.0, 2.0**32, float("nan"), float("inf"), "1", b"1", None, [], 1j]
 NO_BYTES = [5, -1, 1 << 64, 1.5, None, "text", [1, 2], object()]
 SIZES, PAGE = precopy.Sizes(4, 3, 20), bytes(15) + b"\1"
-OF_QUESTIONS = (precopy.predict, precopy.agreement, precopy.enough, precopy.forecast, precopy.link_shares)
-OF_QUESTIONS += (precopy.best_start,)
+OF_QUESTIONS = ("predict", "agreement", "enough", "forecast", "link_shares", "best_start")
 
 
 # ---- Numbers.
@@ -38,22 +37,19 @@ OF_QUESTIONS += (precopy.best_start,)
 
 def taking_numbers(trace):
     """Each number that a call takes: its name, the call, and the ends of its range."""
+    opened = precopy.OpenTrace(trace)
     settings = {name: (low, high) for name, low, high in traces.RANGES if name not in ("max", "base")}
     for name, ends in (*settings.items(), ("max", (1000, 1_000_000)), ("base", (0, 0)), ("skip", (0, 1))):
-        for call in (precopy.plan, precopy.rounds, precopy.report):
+        for call in (precopy.plan, precopy.report):
             yield f"{call.__name__}, {name}", lambda it, n=name, c=call: c(trace, of_setting(n, it)), ends
-        yield f"sweep, {name}", lambda it, n=name: precopy.sweep(trace, [of_setting(n, it)]), ends
+        for call in (opened.plan, opened.report, opened.rounds):
+            yield f"OpenTrace.{call.__name__}, {name}", lambda it, n=name, c=call: c(of_setting(n, it)), ends
+        yield f"sweep, {name}", lambda it, n=name: opened.sweep([of_setting(n, it)]), ends
         yield f"check_settings, {name}", lambda it, n=name: precopy.check_settings(of_setting(n, it)), ends
-    yield "memory_before, tick", lambda it: precopy.memory_before(trace, it), (0, (1 << 64) - 1)
     for name, ends in (("shift", (4, 12)), ("pages", (1, 1 << 16)), ("writes", (0, 1 << 20))):
         yield f"Sizes, {name}", lambda it, n=name: precopy.Sizes(**{"shift": 4, "pages": 1, "writes": 0, n: it}), ends
-    yield "writes_before, tick", lambda it: precopy.writes_before(trace, it), (0, (1 << 64) - 1)
-    pages, memory = precopy.check_trace(trace).pages, precopy.memory(trace)
-    yield "page_writes, page", lambda it: precopy.page_writes(trace, it), (0, pages - 1)
-    yield "memory_step, start", lambda it: precopy.memory_step(trace, it, 7, memory), (0, 7)
-    yield "memory_step, end", lambda it: precopy.memory_step(trace, 7, it, memory), (7, (1 << 32) - 1)
-    yield from numbers_of_questions(trace)
-    yield from numbers_of_open_traces(precopy.OpenTrace(trace), quiet_page(trace), memory)
+    yield from numbers_of_questions(opened)
+    yield from numbers_of_open_traces(opened, quiet_page(trace), precopy.memory(trace))
     yield "check_streams, stop", lambda it: precopy.check_streams(trace, it, []), (0, (1 << 32) - 1)
     yield "encode_frame, page", lambda it: precopy.encode_frame(SIZES, it, 0, PAGE), (0, 2)
     yield "encode_frame, stamp", lambda it: precopy.encode_frame(SIZES, 0, it, PAGE), (0, 20)
@@ -63,8 +59,11 @@ def taking_numbers(trace):
 def numbers_of_open_traces(opened, quiet, memory):
     """Each number that a call over an open trace takes. To its page `quiet` no write goes."""
     pages, page, counts, ticks = (0, opened.pages - 1), opened.page_at(quiet, 0), (0, (1 << 32) - 1), (0, (1 << 64) - 1)
-    yield "OpenTrace.writes_before, tick", opened.writes_before, ticks
-    yield "OpenTrace.memory_before, tick", opened.memory_before, ticks
+    yield "writes_before, tick", opened.writes_before, ticks
+    yield "memory_before, tick", opened.memory_before, ticks
+    yield "memory_step, start", lambda it: opened.memory_step(it, 7, memory), (0, 7)
+    yield "memory_step, end", lambda it: opened.memory_step(7, it, memory), (7, (1 << 32) - 1)
+    yield "page_writes, page", opened.page_writes, pages
     yield "version_after, page", lambda it: opened.version_after(it, 1), pages
     yield "version_after, count", lambda it: opened.version_after(0, it), counts
     yield "versions_after, count", opened.versions_after, counts
@@ -79,10 +78,9 @@ def numbers_of_open_traces(opened, quiet, memory):
     yield "difference, count", lambda it: opened.difference(it, memory), counts
 
 
-def numbers_of_questions(trace):
+def numbers_of_questions(opened):
     """Each number of a question about a trace that has all pages, by rounds of 1,000 pages in as many ticks."""
-    sizes = precopy.check_trace(trace)
-    page, pages = sizes.page_length, sizes.pages
+    page, pages = 1 << opened.shift, opened.pages
     ends = {"link": (page, 1_000_001 * page - 1), "first": (page, 1_001 * page - 1), "downtime": (0, 65_535_999)}
     ends |= {"reserve": (0, 0), "tick": (1, 1_000_000), "page": (page, page), "sampled": (pages, pages)}
     ends |= {"guest": (pages, 1_000 * pages), "increment of a question": (0, 1_000_000), "rounds": (1, 64)}
@@ -90,15 +88,15 @@ def numbers_of_questions(trace):
     asked = {"link": 1_000 * page, "downtime": 0, "page": page, "sampled": pages, "guest": pages, "clark": True}
     for name, each in ends.items():
         for call in OF_QUESTIONS:
-            yield f"{call.__name__}, {name}", answered_with(call, trace, asked, name.split()[0]), each
+            yield f"{call}, {name}", answered_with(getattr(opened, call), asked, name.split()[0]), each
     whole = precopy.Question(**asked)
-    yield "best_start, to", lambda it: precopy.best_start(trace, whole, it, 1 << 28), (0, (1 << 40) - 1)
-    yield "best_start, every", lambda it: precopy.best_start(trace, whole, 4096, it), (2, (1 << 64) - 1)
+    yield "best_start, to", lambda it: opened.best_start(whole, it, 1 << 28), (0, (1 << 40) - 1)
+    yield "best_start, every", lambda it: opened.best_start(whole, 4096, it), (2, (1 << 64) - 1)
 
 
-def answered_with(call, trace, asked, name):
+def answered_with(call, asked, name):
     """What a call answers to a question, by one more of its numbers."""
-    return lambda it: call(trace, precopy.Question(**{**asked, name: it}))
+    return lambda it: call(precopy.Question(**{**asked, name: it}))
 
 
 def of_setting(name, value):
@@ -141,8 +139,8 @@ def check_number(tally, chosen, name, call, low, high):
 
 def quiet_page(trace):
     """A page that no write goes to, or None."""
-    pages = range(precopy.check_trace(trace).pages)
-    return next((page for page in pages if not precopy.page_writes(trace, page)), None)
+    opened = precopy.OpenTrace(trace)
+    return next((page for page in range(opened.pages) if not opened.page_writes(page)), None)
 
 
 def check_numbers(tally):
@@ -153,7 +151,8 @@ def check_numbers(tally):
         for name, call, (low, high) in taking_numbers(trace):
             with tally.case(f"numbers in Python: {name}") as case:
                 check_number(case, chosen, name, call, low, high)
-        good = precopy.memory_before(trace, 1 << 40) == precopy.memory(trace) == precopy.memory_before(trace, 1 << 63)
+        before = precopy.OpenTrace(trace).memory_before
+        good = before(1 << 40) == precopy.memory(trace) == before(1 << 63)
         tally.add(good, "memory before a tick after all writes")
 
 
@@ -163,20 +162,12 @@ def check_numbers(tally):
 def taking_bytes(trace, stream):
     """Each call over bytes: its name, the bytes, and the call."""
     settings = precopy.Settings(min=2, max=4, increment=1, threshold=1, rounds=8)
-    for call in (precopy.plan, precopy.rounds, precopy.report):
+    for call in (precopy.plan, precopy.report):
         yield call.__name__, trace, lambda it, c=call: c(it, settings)
-    yield "sweep", trace, lambda it: precopy.sweep(it, [settings, settings])
-    page = 1 << trace[5] if trace[5:6] and 4 <= trace[5] <= 12 else 4096
-    question = precopy.Question(link=100 * page, downtime=5000, page=page)
-    for call in OF_QUESTIONS:
-        yield call.__name__, trace, lambda it, c=call: c(it, question)
     for call in (precopy.check_trace, precopy.memory, precopy.is_zero):
         yield call.__name__, trace, call
-    yield "memory_before", trace, lambda it: precopy.memory_before(it, 700)
-    yield "writes_before", trace, lambda it: precopy.writes_before(it, 700)
-    yield "OpenTrace", trace, lambda it: precopy.OpenTrace(it).versions_after(9)
-    yield "page_writes", trace, lambda it: precopy.page_writes(it, 0)
-    yield "memory_step", trace, step_of
+    for name, act in acts_on_open_traces(trace, settings):
+        yield f"OpenTrace, {name}", trace, lambda it, a=act: a(precopy.OpenTrace(it))
     yield "check_streams, trace", trace, lambda it: precopy.check_streams(it, 9, [b""])
     for name, call in taking_streams():
         yield name, stream, call
@@ -186,6 +177,22 @@ def taking_bytes(trace, stream):
     yield "encode_frame", PAGE, lambda it: precopy.encode_frame(SIZES, 2, 3, it)
     yield "decode_frame", stream, lambda it: precopy.decode_frame(SIZES, it)
     yield "accept", stream, lambda it: (lambda flat: (flat.accept(it), traces.state(flat)))(precopy.FlatMemory(SIZES))
+
+
+def acts_on_open_traces(trace, settings):
+    """What is done with a trace as soon as it is open."""
+    for name in ("plan", "rounds", "report"):
+        yield name, lambda it, n=name: getattr(it, n)(settings)
+    yield "sweep", lambda it: it.sweep([settings, settings])
+    page = 1 << trace[5] if trace[5:6] and 4 <= trace[5] <= 12 else 4096
+    question = precopy.Question(link=100 * page, downtime=5000, page=page)
+    for name in OF_QUESTIONS:
+        yield name, lambda it, n=name: getattr(it, n)(question)
+    yield "memory_before", lambda it: it.memory_before(700)
+    yield "memory_step", stepped
+    yield "writes_before", lambda it: it.writes_before(700)
+    yield "page_writes", lambda it: it.page_writes(0)
+    yield "versions_after", lambda it: it.versions_after(9)
 
 
 def taking_streams():
@@ -201,14 +208,10 @@ def taking_streams():
         )
 
 
-def step_of(data):
+def stepped(opened):
     """The memory after nine writes of a trace."""
-    try:
-        sizes = precopy.check_trace(data)
-        room = bytearray(sizes.pages << sizes.shift)
-    except (precopy.TraceRefused, TypeError, BufferError):
-        room = bytearray()
-    precopy.memory_step(data, 0, 9, room)
+    room = bytearray(opened.pages << opened.shift)
+    opened.memory_step(0, 9, room)
     return room
 
 
@@ -264,25 +267,39 @@ def check_copies(tally):
     trace = header(pages, 2000, 12) + b"".join(writes)
     settings, whole, small = precopy.Settings(), pages * size, 1 << 20
     for kind in (trace, bytearray(trace), memoryview(trace)):
-        for call in (precopy.plan, precopy.rounds, precopy.report):
-            most = peak(call, kind, settings)[0]
+        opened = precopy.OpenTrace(kind)
+        calls = [(call, kind, settings) for call in (precopy.plan, precopy.report)]
+        calls += [(call, settings) for call in (opened.plan, opened.rounds, opened.report)]
+        for call, *words in calls:
+            most = peak(call, *words)[0]
             tally.add(most < small, f"{call.__name__} over {type(kind).__name__} of {len(trace)} bytes takes {most}")
-        most, found = peak(precopy.memory, kind)
-        tally.add(most < whole + small and len(found) == whole, f"memory of {whole} bytes takes {most}")
-    counted, call = [], precopy._LIBRARY.precopy_report
+        for call, *words in ((precopy.memory, kind), (opened.memory_before, 1 << 40)):
+            most, found = peak(call, *words)
+            tally.add(most < whole + small and len(found) == whole, f"memory of {whole} bytes takes {most}")
+    check_reports(tally, trace)
 
-    def count(*words):
-        counted.append(words)
-        return call(*words)
 
-    precopy._LIBRARY.precopy_report = count
-    try:
-        for trace in (*longest_reports(), b"", b"none", trace):
-            counted.clear()
-            outcome(precopy.report, trace, precopy.Settings(window=1, hot=1, start=(1 << 40) - 1, min=1, max=1))
-            tally.add(len(counted) == 1, f"a report over {len(trace)} bytes is made {len(counted)} times")
-    finally:
-        precopy._LIBRARY.precopy_report = call
+def check_reports(tally, trace):
+    """However long a report is, it is made once."""
+    settings, none = precopy.Settings(window=1, hot=1, start=(1 << 40) - 1, min=1, max=1), (b"", b"none")
+    for name, call, all_of in (
+        ("precopy_report", precopy.report, (*longest_reports(), *none, trace)),
+        ("precopy_trace_report", lambda it, _: precopy.OpenTrace(it).report(settings), (*longest_reports(), trace)),
+    ):
+        counted, right = [], getattr(precopy._LIBRARY, name)
+
+        def count(*words, counted=counted, right=right):
+            counted.append(words)
+            return right(*words)
+
+        setattr(precopy._LIBRARY, name, count)
+        try:
+            for each in all_of:
+                counted.clear()
+                outcome(call, each, settings)
+                tally.add(len(counted) == 1, f"{name} over {len(each)} bytes is called {len(counted)} times")
+        finally:
+            setattr(precopy._LIBRARY, name, right)
 
 
 def longest_reports():

@@ -36,7 +36,7 @@ def outcome(call, *words):
 def script(python, text, *words):
     """What a program in Python prints, with this module on its path."""
     paths = os.pathsep.join([TOP, *(os.path.join(TOP, it) for it in ("python", "bindings/python"))])
-    environment = {**os.environ, "PYTHONPATH": paths, "PRECOPY_LIBRARY": os.path.join(LIBRARY, "libprecopy.so.5")}
+    environment = {**os.environ, "PYTHONPATH": paths, "PRECOPY_LIBRARY": os.path.join(LIBRARY, "libprecopy.so.6")}
     how = {"stdin": subprocess.DEVNULL, "capture_output": True, "text": True, "timeout": SECONDS}
     return subprocess.run([python, "-Bc", text, *words], env=environment, check=False, **how)
 
@@ -56,7 +56,7 @@ def check_overlaps(tally):
             whole[length : length + len(trace)] = trace
             view, before = memoryview(whole), bytes(whole)
             given, room = view[length : length + len(trace)], view[start : start + length]
-            found = outcome(precopy.memory_step, given, 0, 1 << 20, room)
+            found = outcome(precopy.OpenTrace(given).memory_step, 0, 1 << 20, room)
             if 0 < start < length + len(trace):
                 good = found == "Overlap" and before == bytes(whole)
             else:
@@ -90,13 +90,16 @@ empty = b"PCWT" + bytes([1, 12, 0, 0]) + pages.to_bytes(4, "little") + bytes(4)
 sizes, half, small = precopy.check_trace(empty), bytes(1 << 27), b"PCWT" + bytes([1, 4, 0, 0, 1]) + bytes(7)
 check, long = precopy.OpenTrace(small).check(0), bytes(17 << 20)
 check.take(0, b"\\0")
+record = bytes(14) + (4096).to_bytes(2, "little") + bytes(4096)
+opened = precopy.OpenTrace(empty)
+reported = precopy.OpenTrace(empty[:12] + (4352).to_bytes(4, "little") + 4352 * record)
 with open("/proc/self/statm") as file:
     now = int(file.read().split()[0]) * resource.getpagesize()
 resource.setrlimit(resource.RLIMIT_AS, (now + (64 << 20), now + (64 << 20)))
 for call in (
-    lambda: precopy.memory(empty), lambda: precopy.memory_before(empty, 5), lambda: precopy.FlatMemory(sizes),
+    lambda: precopy.memory(empty), lambda: opened.memory_before(5), lambda: precopy.FlatMemory(sizes),
     lambda: precopy.check_streams(empty, 0, [half, half]), lambda: check.take(0, half),
-    lambda: precopy.report(long, precopy.Settings()),
+    lambda: precopy.report(long, precopy.Settings()), lambda: reported.report(precopy.Settings()),
 ):
     try:
         call()
@@ -105,20 +108,46 @@ for call in (
         print("NoMemory", fault.status.name, fault)
     except Exception as fault:
         print(type(fault).__name__)
-print(check.take(0, bytes(8)), check.finish())
+print(check.take(0, bytes(9)), check.finish())
 """
 
 
 def check_memory(tally):
-    """Calls that need more memory than the process may have are refused, and what was taken before stays."""
+    """Calls that need more memory than the process may have are refused. A piece of a stream needs none: it is not
+    copied but for the frame that is cut."""
     ran = script(sys.executable, SCARCE)
     *lines, last = ran.stdout.splitlines() or [""]
     told = precopy._LIBRARY.precopy_strerror(16).decode()
-    tally.add(lines == [f"NoMemory NO_MEMORY {told}"] * 6, f"calls without memory: {lines}: {ran.stderr[-1000:]}")
+    refused = f"NoMemory NO_MEMORY {told}"
+    good = lines == [*[refused] * 4, "answered", refused, refused]
+    tally.add(good, f"calls without memory: {lines}: {ran.stderr[-1000:]}")
     tally.add(last == "None None", f"a check to which memory came back: {last}")
 
 
 # ---- Checks of streams that come.
+
+FORKED = """
+import os
+import precopy
+made = precopy.Recording(shift=4, pages=1)
+made.write(0, 0, 0, b"\\1")
+made.write(1, 0, 1, b"\\2")
+opened, sizes = precopy.OpenTrace(bytes(made)), precopy.check_trace(bytes(made))
+first, last = (precopy.encode_frame(sizes, 0, stamp, opened.page_at(0, stamp)) for stamp in (1, 2))
+check = opened.check(2)
+child = os.fork()
+if child == 0:
+    os._exit(0 if check.take(0, last) is None and check.finish() is None else 1)
+print(os.waitstatus_to_exitcode(os.waitpid(child, 0)[1]), check.take(0, first), check.take(0, last), check.finish())
+"""
+
+
+def check_forked(tally):
+    """A check goes on by itself in a child of the process: what the child takes is not in the parent's memory."""
+    ran = script(sys.executable, FORKED)
+    tally.add(
+        ran.stdout == "0 None None None\n", f"a check in a child, and then in its parent: {ran.stdout}{ran.stderr}"
+    )
 
 
 def fresh():
@@ -235,7 +264,8 @@ def same(name, good):
 array = numpy.frombuffer(trace, numpy.uint8)
 same("trace", precopy.plan(array, precopy.Settings()) == precopy.plan(trace, precopy.Settings()))
 room = numpy.zeros((sizes.pages, size), numpy.uint8)
-precopy.memory_step(array, 0, sizes.writes, room)
+opened = precopy.OpenTrace(array)
+opened.memory_step(0, sizes.writes, room)
 same("written", room.tobytes() == whole)
 wide = numpy.frombuffer(bytes(whole), ">u4")
 same("wide", precopy.is_zero(wide[:0]) and not precopy.is_zero(wide))
@@ -246,9 +276,12 @@ found = check.take(0, frames), precopy.check_streams(array, sizes.writes, [frame
 found[2].accept(frames)
 same("streams", found[:2] == (None, None) and check.finish() is None and found[2].memory == whole)
 same("not copied", tracemalloc.get_traced_memory()[1] < len(whole) + (1 << 20))
+shared = numpy.zeros(5 + len(trace) + len(whole), numpy.uint8)
+beside = shared[5 : 5 + len(trace)]
+beside[:] = array
 for name, call in (("strided", lambda: precopy.plan(array[::2], precopy.Settings())),
-                   ("read-only", lambda: precopy.memory_step(array, 0, 1, numpy.frombuffer(bytes(whole), "u1"))),
-                   ("overlapping", lambda: precopy.memory_step(room.reshape(-1)[5:], 0, 1, room))):
+                   ("read-only", lambda: opened.memory_step(0, 1, numpy.frombuffer(bytes(whole), "u1"))),
+                   ("overlapping", lambda: precopy.OpenTrace(beside).memory_step(0, 1, shared[:len(whole)]))):
     try:
         call()
         print("answered")
@@ -296,6 +329,7 @@ def check(tally, check_turns):
     for name, part, *words in (
         ("overlaps in Python", check_overlaps),
         ("memory that runs out in Python", check_memory),
+        ("checks in a child", check_forked),
         ("streams that are cut off in Python", check_cut),
         ("what was found in Python", check_found),
         ("threads and one check in Python", check_threads, check_turns),

@@ -20,6 +20,16 @@ static const uint8_t trace[102] = {
 /* The record of a refused trace; the calls that do not refuse it leave it. */
 static uint32_t record = 9;
 
+/* The trace, which stays open over the words of its index: 3 of each write and 1 of each page. */
+static struct precopy_trace held;
+static uint32_t index_words[19];
+
+static void open_held(void) {
+    size_t needed = 9;
+    ROW(precopy_trace_open(trace, sizeof trace, index_words, 19, &held, &needed, &record) == PRECOPY_OK);
+    ROW(needed == 19 && record == 9);
+}
+
 static const struct precopy_settings slow = {sizeof slow, 2, 4, 1, 1, 8, 0, 1000, 2, 0, 0, 0};
 
 static int are(const struct precopy_sums *sums, uint64_t rounds, uint64_t reason, uint64_t stop, uint64_t down,
@@ -34,15 +44,18 @@ static void plans(void) {
     size_t count = 0;
     ROW(precopy_plan(trace, sizeof trace, &slow, &sums, &record) == PRECOPY_OK);
     ROW(are(&sums, 3, PRECOPY_FEW, 3667, 0, 8));
-    ROW(precopy_rounds(trace, sizeof trace, &slow, rounds, 2, &count, &record) == PRECOPY_SHORT_BUFFER && count == 3);
-    ROW(precopy_rounds(trace, sizeof trace, &slow, rounds, 3, &count, &record) == PRECOPY_OK && count == 3);
+    memset(&sums, 9, sizeof sums);
+    ROW(precopy_trace_plan(&held, &slow, &sums) == PRECOPY_OK);
+    ROW(are(&sums, 3, PRECOPY_FEW, 3667, 0, 8));
+    ROW(precopy_trace_rounds(&held, &slow, rounds, 2, &count) == PRECOPY_SHORT_BUFFER && count == 3);
+    ROW(precopy_trace_rounds(&held, &slow, rounds, 3, &count) == PRECOPY_OK && count == 3);
     ROW(rounds[0].from == 0 && rounds[0].to == 2000 && rounds[0].rate == 2 && rounds[0].pages == 4);
     ROW(rounds[1].from == 2000 && rounds[1].to == 3000 && rounds[1].sent == 2 && rounds[1].dirtied == 2);
     ROW(rounds[2].from == 3000 && rounds[2].to == 3667 && rounds[2].rate == 3 && rounds[2].dirtied == 0);
     /* A warm start: the destination lacks only page 1 at tick 1201, and what is written at tick 2500 remains. */
     struct precopy_settings warm = slow;
     warm.start = 1201, warm.has_base = 1, warm.base = 6;
-    ROW(precopy_rounds(trace, sizeof trace, &warm, rounds, 3, &count, &record) == PRECOPY_OK && rounds[0].pages == 1);
+    ROW(precopy_trace_rounds(&held, &warm, rounds, 3, &count) == PRECOPY_OK && rounds[0].pages == 1);
     ROW(rounds[0].from == 1201 && rounds[0].to == 1701 && rounds[0].dirtied == 0 && count == 1);
 }
 
@@ -63,6 +76,11 @@ static void reports(void) {
     ROW(needed == sizeof report - 1);
     ROW(precopy_report(trace, sizeof trace, &slow, text, sizeof text, &needed, &record) == PRECOPY_OK);
     ROW(needed == sizeof report - 1 && !memcmp(text, report, needed));
+    memset(text, 9, sizeof text), needed = 0;
+    ROW(precopy_trace_report(&held, &slow, text, sizeof report - 2, &needed) == PRECOPY_SHORT_BUFFER);
+    ROW(needed == sizeof report - 1 && text[0] == 9);
+    ROW(precopy_trace_report(&held, &slow, text, sizeof text, &needed) == PRECOPY_OK);
+    ROW(needed == sizeof report - 1 && !memcmp(text, report, needed) && text[needed] == 9);
 }
 
 static void sweeps(void) {
@@ -70,15 +88,15 @@ static void sweeps(void) {
     struct precopy_sums sums[3];
     size_t best = 9;
     cases[0].threshold = 3, cases[1].max = 2;
-    ROW(precopy_sweep(trace, sizeof trace, cases, 3, sums, 3, &best, &record) == PRECOPY_OK && best == 2);
+    ROW(precopy_trace_sweep(&held, cases, 3, sums, 3, &best) == PRECOPY_OK && best == 2);
     ROW(are(&sums[0], 1, PRECOPY_FEW, 2000, 500, 6) && are(&sums[1], 2, PRECOPY_FAST, 3000, 1000, 8));
     ROW(are(&sums[2], 3, PRECOPY_FEW, 3667, 0, 8));
     cases[1].max = 1;
-    ROW(precopy_sweep(trace, sizeof trace, cases, 3, sums, 3, &best, &record) == PRECOPY_BAD_MAX && best == 2);
+    ROW(precopy_trace_sweep(&held, cases, 3, sums, 3, &best) == PRECOPY_BAD_MAX && best == 2);
     ROW(precopy_check_settings(&cases[1]) == PRECOPY_BAD_MAX && precopy_check_settings(&slow) == PRECOPY_OK);
-    ROW(precopy_sweep(trace, sizeof trace, cases, 0, sums, 0, &best, &record) == PRECOPY_OK && best == 0);
+    ROW(precopy_trace_sweep(&held, cases, 0, sums, 0, &best) == PRECOPY_OK && best == 0);
     cases[0] = cases[1] = slow, cases[1].size = 0;
-    ROW(precopy_sweep(trace, sizeof trace, cases, 3, sums, 3, &best, &record) == PRECOPY_BAD_SIZE && best == 0);
+    ROW(precopy_trace_sweep(&held, cases, 3, sums, 3, &best) == PRECOPY_BAD_SIZE && best == 0);
 }
 
 static void sizes_of_settings(void) {
@@ -93,8 +111,10 @@ static void sizes_of_settings(void) {
         other.size = sizes[i];
         ROW(precopy_check_settings(&other) == PRECOPY_BAD_SIZE);
         ROW(precopy_plan(trace, sizeof trace, &other, &sums, &record) == PRECOPY_BAD_SIZE);
-        ROW(precopy_rounds(trace, sizeof trace, &other, rounds, 3, &count, &record) == PRECOPY_BAD_SIZE);
+        ROW(precopy_trace_rounds(&held, &other, rounds, 3, &count) == PRECOPY_BAD_SIZE);
         ROW(precopy_report(trace, sizeof trace, &other, text, sizeof text, &count, &record) == PRECOPY_BAD_SIZE);
+        ROW(precopy_trace_plan(&held, &other, &sums) == PRECOPY_BAD_SIZE);
+        ROW(precopy_trace_report(&held, &other, text, sizeof text, &count) == PRECOPY_BAD_SIZE);
     }
     ROW(count == 9);
 }
@@ -120,32 +140,31 @@ static void predictions(void) {
     struct precopy_prediction told;
     struct precopy_errors errors;
     struct precopy_question asked = half;
-    ROW(precopy_predict(trace, sizeof trace, &asked, &told, &errors, &record) == PRECOPY_OK);
+    ROW(precopy_trace_predict(&held, &asked, &told, &errors) == PRECOPY_OK);
     ROW(told.rounds == 1 && told.reason == PRECOPY_FEW && told.stop == 2000 && told.down == 500 && told.total == 6);
     ROW(is_told(&told, 2600000, 192, 600000, 2, PRECOPY_YES));
     /* The standard errors are those of python/precopy_dev/models/redrawn.py. */
     ROW(are_errors(&errors, 48, 430565, 129524, 1));
     asked.guest = 4, asked.link = 64, asked.first = 32;
-    ROW(precopy_predict(trace, sizeof trace, &asked, &told, &errors, &record) == PRECOPY_OK);
+    ROW(precopy_trace_predict(&held, &asked, &told, &errors) == PRECOPY_OK);
     ROW(is_told(&told, 2600000, 96, 600000, 2, PRECOPY_YES) && are_errors(&errors, 0, 0, 0, 0));
     asked.rounds = 1, asked.downtime = asked.reserve = 0;
-    ROW(precopy_predict(trace, sizeof trace, &asked, &told, &errors, &record) == PRECOPY_OK);
+    ROW(precopy_trace_predict(&held, &asked, &told, &errors) == PRECOPY_OK);
     ROW(is_told(&told, 2500000, 96, 500000, 2, PRECOPY_NO) && told.reason == PRECOPY_ALL_ROUNDS);
     /* The plan stops at tick 3667, after the last write. */
     asked.rounds = 8, asked.downtime = 100000, asked.reserve = 50000;
-    ROW(precopy_predict(trace, sizeof trace, &asked, &told, &errors, &record) == PRECOPY_OK);
+    ROW(precopy_trace_predict(&held, &asked, &told, &errors) == PRECOPY_OK);
     ROW(is_told(&told, 3717000, 128, 50000, 0, PRECOPY_UNKNOWN) && told.stop == 3667);
     /* A warm start, of which only page 1 is sent, and after which page 1 and page 3 are left at tick 2500. */
     asked.has_base = 1, asked.base = 6, asked.start = 1201;
-    ROW(precopy_predict(trace, sizeof trace, &asked, &told, &errors, &record) == PRECOPY_OK);
+    ROW(precopy_trace_predict(&held, &asked, &told, &errors) == PRECOPY_OK);
     ROW(told.rounds == 1 && told.stop == 1701 && told.recorded == 1299000 && told.kept == PRECOPY_YES);
 }
 
 static int is_sure(const struct precopy_question *asked, struct precopy_agreement wanted) {
     struct precopy_agreement told;
     memset(&told, 9, sizeof told);
-    return precopy_agreement(trace, sizeof trace, asked, &told, &record) == PRECOPY_OK
-           && !memcmp(&told, &wanted, sizeof told);
+    return precopy_trace_agreement(&held, asked, &told) == PRECOPY_OK && !memcmp(&told, &wanted, sizeof told);
 }
 
 /* The counts are those of python/precopy_dev/models/agreements.py. */
@@ -166,8 +185,7 @@ static void agreements(void) {
 static int is_foretold(const struct precopy_question *asked, struct precopy_forecast wanted) {
     struct precopy_forecast told;
     memset(&told, 9, sizeof told);
-    return precopy_forecast(trace, sizeof trace, asked, &told, &record) == PRECOPY_OK
-           && !memcmp(&told, &wanted, sizeof told);
+    return precopy_trace_forecast(&held, asked, &told) == PRECOPY_OK && !memcmp(&told, &wanted, sizeof told);
 }
 
 /* Like QEMU: the numbers are those of checks/lib/look_model.py. */
@@ -188,8 +206,7 @@ static void forecasts(void) {
 static int are_shares(const struct precopy_question *asked, struct precopy_link_shares wanted) {
     struct precopy_link_shares told;
     memset(&told, 9, sizeof told);
-    return precopy_link_shares(trace, sizeof trace, asked, &told, &record) == PRECOPY_OK
-           && !memcmp(&told, &wanted, sizeof told);
+    return precopy_trace_link_shares(&held, asked, &told) == PRECOPY_OK && !memcmp(&told, &wanted, sizeof told);
 }
 
 /* The shares are those of python/precopy_dev/models/shares.py. */
@@ -211,7 +228,7 @@ static int is_best(const struct precopy_question *asked, const struct precopy_st
     struct precopy_best_start told;
     struct precopy_errors errors;
     memset(&told, 9, sizeof told);
-    return precopy_best_start(trace, sizeof trace, asked, starts, &told, &errors, &record) == PRECOPY_OK
+    return precopy_trace_best_start(&held, asked, starts, &told, &errors) == PRECOPY_OK
            && !memcmp(&told, &wanted, sizeof told)
            && are_errors(&errors, far.bytes, far.time, far.downtime, far.has_errors);
 }
@@ -249,9 +266,8 @@ static uint32_t started(uint64_t first, struct precopy_starts starts) {
     struct precopy_best_start best = {9, 9, 9, 9, 9, 9, 9}, before = best;
     struct precopy_errors errors = {9, 9, 9, 9};
     asked.start = first;
-    uint32_t status = precopy_best_start(trace, sizeof trace, &asked, &starts, &best, &errors, &record);
+    uint32_t status = precopy_trace_best_start(&held, &asked, &starts, &best, &errors);
     ROW(status == PRECOPY_OK || (!memcmp(&best, &before, sizeof best) && are_errors(&errors, 9, 9, 9, 9)));
-    ROW(record == 9);
     return status;
 }
 
@@ -288,7 +304,7 @@ static int are_amounts(const struct precopy_amounts *one, const struct precopy_a
 static int are_enough(const struct precopy_question *asked, struct precopy_amounts wanted) {
     struct precopy_amounts told;
     memset(&told, 9, sizeof told);
-    return precopy_enough(trace, sizeof trace, asked, &told, &record) == PRECOPY_OK && are_amounts(&told, &wanted);
+    return precopy_trace_enough(&held, asked, &told) == PRECOPY_OK && are_amounts(&told, &wanted);
 }
 
 /* The amounts are those of python/precopy_dev/models/remedies.py. */
@@ -310,8 +326,7 @@ static int is_predicted(const struct precopy_question *asked, struct precopy_pre
     struct precopy_prediction told;
     struct precopy_errors errors;
     memset(&told, 9, sizeof told);
-    return precopy_predict(trace, sizeof trace, asked, &told, &errors, &record) == PRECOPY_OK
-           && !memcmp(&told, &wanted, sizeof told)
+    return precopy_trace_predict(&held, asked, &told, &errors) == PRECOPY_OK && !memcmp(&told, &wanted, sizeof told)
            && are_errors(&errors, far.bytes, far.time, far.downtime, far.has_errors);
 }
 
@@ -332,7 +347,7 @@ static void looks(void) {
     asked.first = 128, asked.increment = 7, asked.rounds = 1, asked.skip = 1;
     ROW(is_predicted(&asked, kept, far));
     asked.rounds = 0;
-    ROW(precopy_predict(trace, sizeof trace, &asked, &kept, &far, &record) == PRECOPY_BAD_ROUNDS);
+    ROW(precopy_trace_predict(&held, &asked, &kept, &far) == PRECOPY_BAD_ROUNDS);
     /* The trace ends before all pages are sent. */
     asked = half, asked.clark = 0, asked.start = 2400;
     ROW(is_predicted(
@@ -354,18 +369,18 @@ static uint32_t refused(struct precopy_question asked) {
     struct precopy_link_shares shares = {9, 9, 9}, no_shares = shares;
     struct precopy_starts starts = PRECOPY_STARTS_DEFAULT;
     struct precopy_best_start best = {9, 9, 9, 9, 9, 9, 9}, no_best = best;
-    uint32_t status = precopy_predict(trace, sizeof trace, &asked, &told, &errors, &record);
-    ROW(told.time == 9 && told.kept == 9 && are_errors(&errors, 9, 9, 9, 9) && record == 9);
-    ROW(precopy_enough(trace, sizeof trace, &asked, &amounts, &record) == status);
-    ROW(are_amounts(&amounts, &before) && record == 9);
-    ROW(precopy_agreement(trace, sizeof trace, &asked, &sure, &record) == status);
-    ROW(!memcmp(&sure, &not_sure, sizeof sure) && record == 9);
-    ROW(precopy_forecast(trace, sizeof trace, &asked, &forecast, &record) == status);
-    ROW(!memcmp(&forecast, &not_told, sizeof forecast) && record == 9);
-    ROW(precopy_link_shares(trace, sizeof trace, &asked, &shares, &record) == status);
-    ROW(!memcmp(&shares, &no_shares, sizeof shares) && record == 9);
-    ROW(precopy_best_start(trace, sizeof trace, &asked, &starts, &best, &errors, &record) == status);
-    ROW(!memcmp(&best, &no_best, sizeof best) && are_errors(&errors, 9, 9, 9, 9) && record == 9);
+    uint32_t status = precopy_trace_predict(&held, &asked, &told, &errors);
+    ROW(told.time == 9 && told.kept == 9 && are_errors(&errors, 9, 9, 9, 9));
+    ROW(precopy_trace_enough(&held, &asked, &amounts) == status);
+    ROW(are_amounts(&amounts, &before));
+    ROW(precopy_trace_agreement(&held, &asked, &sure) == status);
+    ROW(!memcmp(&sure, &not_sure, sizeof sure));
+    ROW(precopy_trace_forecast(&held, &asked, &forecast) == status);
+    ROW(!memcmp(&forecast, &not_told, sizeof forecast));
+    ROW(precopy_trace_link_shares(&held, &asked, &shares) == status);
+    ROW(!memcmp(&shares, &no_shares, sizeof shares));
+    ROW(precopy_trace_best_start(&held, &asked, &starts, &best, &errors) == status);
+    ROW(!memcmp(&best, &no_best, sizeof best) && are_errors(&errors, 9, 9, 9, 9));
     return status;
 }
 
@@ -403,52 +418,47 @@ static void memories(void) {
     uint8_t memory[64], wanted[64] = {0};
     size_t needed = 0;
     wanted[0] = 1, wanted[16] = 3, wanted[31] = 2;
-    ROW(precopy_memory_before(trace, sizeof trace, 2500, memory, 64, &needed, &record) == PRECOPY_OK);
+    ROW(precopy_trace_memory_before(&held, 2500, memory, 64, &needed) == PRECOPY_OK);
     ROW(needed == 64 && !memcmp(memory, wanted, 64));
     wanted[16] = 0, wanted[50] = 4, wanted[51] = 5;
-    ROW(precopy_memory_before(trace, sizeof trace, 2501, memory, 64, &needed, &record) == PRECOPY_OK);
+    ROW(precopy_trace_memory_before(&held, 2501, memory, 64, &needed) == PRECOPY_OK);
     ROW(!memcmp(memory, wanted, 64));
     memset(memory, 9, sizeof memory);
     ROW(precopy_memory(trace, sizeof trace, memory, 64, &needed, &record) == PRECOPY_OK && !memcmp(memory, wanted, 64));
     ROW(precopy_memory(trace, sizeof trace, memory, 63, &needed, &record) == PRECOPY_SHORT_BUFFER && needed == 64);
 }
 
-/* The worked trace, which stays open: 5 writes to 4 pages make an index of 19 words. */
+/* The worked trace is opened: 5 writes to 4 pages make an index of 19 words. */
 static void open_traces(void) {
     uint32_t words[20], count = 9;
-    uint8_t memory[65], wanted[65];
-    struct precopy_trace held = {0}, none = {0};
+    uint8_t memory[65];
+    struct precopy_trace opened = {0}, none = {0};
     size_t needed = 9;
     words[19] = 9;
-    ROW(precopy_trace_open(trace, sizeof trace, words, 18, &held, &needed, &record) == PRECOPY_SHORT_BUFFER);
-    ROW(needed == 19 && !memcmp(&held, &none, sizeof held));
-    ROW(precopy_trace_open(trace, sizeof trace - 1, words, 20, &held, &needed, &record) == PRECOPY_SHORT_RECORD);
-    ROW(record == 4 && needed == 19 && !memcmp(&held, &none, sizeof held));
+    ROW(precopy_trace_open(trace, sizeof trace, words, 18, &opened, &needed, &record) == PRECOPY_SHORT_BUFFER);
+    ROW(needed == 19 && !memcmp(&opened, &none, sizeof opened));
+    ROW(precopy_trace_open(trace, sizeof trace - 1, words, 20, &opened, &needed, &record) == PRECOPY_SHORT_RECORD);
+    ROW(record == 4 && needed == 19 && !memcmp(&opened, &none, sizeof opened));
     record = 9;
-    ROW(precopy_trace_open(trace, sizeof trace, words, 20, &held, &needed, &record) == PRECOPY_OK && needed == 19);
-    ROW(words[19] == 9 && held.sizes.shift == 4 && held.sizes.pages == 4 && held.sizes.writes == 5);
+    ROW(precopy_trace_open(trace, sizeof trace, words, 20, &opened, &needed, &record) == PRECOPY_OK && needed == 19);
+    ROW(words[19] == 9 && opened.sizes.shift == 4 && opened.sizes.pages == 4 && opened.sizes.writes == 5);
+    ROW(opened.version == 1 && !memcmp(words, index_words, sizeof index_words));
     ROW(19 <= PRECOPY_WORDS_BOUND(sizeof trace));
-    ROW(precopy_trace_writes_before(&held, 2500, &count) == PRECOPY_OK && count == 3);
-    ROW(precopy_trace_writes_before(&held, 2501, &count) == PRECOPY_OK && count == 5);
-    memset(memory, 9, sizeof memory), memset(wanted, 9, sizeof wanted);
-    ROW(precopy_memory_before(trace, sizeof trace, 2500, wanted, 65, &needed, &record) == PRECOPY_OK);
-    ROW(precopy_trace_memory_before(&held, 2500, memory, 65, &needed) == PRECOPY_OK && needed == 64);
-    ROW(!memcmp(memory, wanted, sizeof memory));
-    ROW(precopy_trace_memory_before(&held, 2500, memory, 63, &needed) == PRECOPY_SHORT_BUFFER && needed == 64);
-}
-
-static int is_opened(struct precopy_trace *held, uint32_t *words) {
-    size_t needed = 9;
-    return precopy_trace_open(trace, sizeof trace, words, 19, held, &needed, &record) == PRECOPY_OK && needed == 19;
+    ROW(precopy_trace_writes_before(&opened, 0, &count) == PRECOPY_OK && count == 0);
+    ROW(precopy_trace_writes_before(&opened, 2500, &count) == PRECOPY_OK && count == 3);
+    ROW(precopy_trace_writes_before(&opened, 2501, &count) == PRECOPY_OK && count == 5);
+    memset(memory, 9, sizeof memory), needed = 9;
+    ROW(precopy_trace_memory_before(&opened, 2500, memory, 63, &needed) == PRECOPY_SHORT_BUFFER && needed == 64);
+    ROW(memory[0] == 9);
+    ROW(precopy_trace_memory_before(&opened, 2500, memory, 65, &needed) == PRECOPY_OK && needed == 64);
+    ROW(memory[0] == 1 && memory[16] == 3 && memory[31] == 2 && memory[64] == 9);
 }
 
 static void versions_of_pages(void) {
     static const uint32_t after_four[5] = {1, 3, 0, 4, 9}, after_all[5] = {1, 5, 0, 4, 9};
     static const uint32_t before_last[5] = {1, 3, 0, 0, 9};
-    uint32_t words[19], versions[5] = {9, 9, 9, 9, 9}, version = 9;
-    struct precopy_trace held;
+    uint32_t versions[5] = {9, 9, 9, 9, 9}, version = 9;
     size_t needed = 9;
-    ROW(is_opened(&held, words));
     ROW(precopy_trace_version_after(&held, 1, 0, &version) == PRECOPY_OK && version == 0);
     ROW(precopy_trace_version_after(&held, 1, 4, &version) == PRECOPY_OK && version == 3);
     ROW(precopy_trace_version_after(&held, 4, 5, &version) == PRECOPY_NO_PAGE && version == 3);
@@ -474,10 +484,7 @@ static void versions_of_pages(void) {
 
 static void pages_at_stamps(void) {
     static const uint8_t first[16] = {1};
-    uint32_t words[19];
     uint8_t content[17];
-    struct precopy_trace held;
-    ROW(is_opened(&held, words));
     memset(content, 9, sizeof content);
     ROW(precopy_trace_page_at(&held, 0, 1, content, 17) == PRECOPY_OK);
     ROW(!memcmp(content, first, 16) && content[16] == 9);
@@ -495,27 +502,24 @@ static void pages(void) {
     struct precopy_write writes[4] = {{0, 9, 9, 9}, {0, 9, 9, 9}, {0, 9, 9, 9}, {0, 9, 9, 9}};
     uint8_t memory[64] = {0}, wanted[64] = {0};
     size_t count = 9;
-    ROW(precopy_page_writes(trace, sizeof trace, 1, writes, 2, &count, &record) == PRECOPY_SHORT_BUFFER && count == 3);
+    ROW(precopy_trace_page_writes(&held, 1, writes, 2, &count) == PRECOPY_SHORT_BUFFER && count == 3);
     ROW(writes[0].size == 9);
-    ROW(precopy_page_writes(trace, sizeof trace, 1, writes, 4, &count, &record) == PRECOPY_OK && count == 3);
+    ROW(precopy_trace_page_writes(&held, 1, writes, 4, &count) == PRECOPY_OK && count == 3);
     ROW(writes[0].place == 2 && writes[0].tick == 5 && writes[0].offset == 15 && writes[0].size == 1);
     ROW(writes[1].place == 3 && writes[1].tick == 1200 && writes[1].offset == 0 && writes[1].size == 1);
     ROW(writes[2].place == 5 && writes[2].tick == 2500 && writes[2].offset == 0 && writes[3].size == 9);
-    ROW(precopy_page_writes(trace, sizeof trace, 2, writes, 0, &count, &record) == PRECOPY_OK && count == 0);
-    ROW(precopy_page_writes(trace, sizeof trace, 4, writes, 4, &count, &record) == PRECOPY_NO_PAGE && count == 0);
+    ROW(precopy_trace_page_writes(&held, 2, writes, 0, &count) == PRECOPY_OK && count == 0);
+    ROW(precopy_trace_page_writes(&held, 4, writes, 4, &count) == PRECOPY_NO_PAGE && count == 0);
     wanted[0] = 1, wanted[31] = 2;
-    ROW(precopy_memory_step(trace, sizeof trace, 0, 2, memory, 64, &record) == PRECOPY_OK
-        && !memcmp(memory, wanted, 64));
-    ROW(precopy_memory_step(trace, sizeof trace, 2, 2, memory, 64, &record) == PRECOPY_OK
-        && !memcmp(memory, wanted, 64));
+    ROW(precopy_trace_memory_step(&held, 0, 2, memory, 64) == PRECOPY_OK && !memcmp(memory, wanted, 64));
+    ROW(precopy_trace_memory_step(&held, 2, 2, memory, 64) == PRECOPY_OK && !memcmp(memory, wanted, 64));
     wanted[16] = 3, wanted[50] = 4, wanted[51] = 5;
-    ROW(precopy_memory_step(trace, sizeof trace, 2, 4, memory, 64, &record) == PRECOPY_OK
-        && !memcmp(memory, wanted, 64));
-    ROW(precopy_memory_step(trace, sizeof trace, 4, 3, memory, 64, &record) == PRECOPY_BACKWARDS);
-    ROW(precopy_memory_step(trace, sizeof trace, 4, 5, memory, 63, &record) == PRECOPY_MEMORY_LENGTH);
+    ROW(precopy_trace_memory_step(&held, 2, 4, memory, 64) == PRECOPY_OK && !memcmp(memory, wanted, 64));
+    ROW(precopy_trace_memory_step(&held, 4, 3, memory, 64) == PRECOPY_BACKWARDS);
+    ROW(precopy_trace_memory_step(&held, 4, 5, memory, 63) == PRECOPY_MEMORY_LENGTH);
     ROW(!memcmp(memory, wanted, 64));
     wanted[16] = 0;
-    ROW(precopy_memory_step(trace, sizeof trace, 4, UINT32_MAX, memory, 64, &record) == PRECOPY_OK);
+    ROW(precopy_trace_memory_step(&held, 4, UINT32_MAX, memory, 64) == PRECOPY_OK);
     ROW(!memcmp(memory, wanted, 64));
 }
 
@@ -595,9 +599,9 @@ static void streams(void) {
     struct precopy_finding found = {9, 9, 9, 9, 9, 9, 9, 9};
     uint32_t count = 9;
     uint8_t other[93];
-    ROW(precopy_writes_before(trace, sizeof trace, 2500, &count, &record) == PRECOPY_OK && count == 3);
-    ROW(precopy_writes_before(trace, sizeof trace, 5, &count, &record) == PRECOPY_OK && count == 1);
-    ROW(precopy_writes_before(trace, sizeof trace, 1ull << 40, &count, &record) == PRECOPY_OK && count == 5);
+    ROW(precopy_trace_writes_before(&held, 2500, &count) == PRECOPY_OK && count == 3);
+    ROW(precopy_trace_writes_before(&held, 5, &count) == PRECOPY_OK && count == 1);
+    ROW(precopy_trace_writes_before(&held, 1ull << 40, &count) == PRECOPY_OK && count == 5);
     ROW(precopy_check_streams(trace, sizeof trace, 3, sent, 93, right, 1, &found, &record) == PRECOPY_OK);
     ROW(precopy_check_streams(trace, sizeof trace, 3, sent, 118, two, 2, &found, &record) == PRECOPY_OK
         && found.offset == 9);
@@ -626,10 +630,7 @@ static void streams(void) {
 /* The same streams in two pieces, over an open trace: first alone, and then with another stream between them. */
 static void pieces(void) {
     struct precopy_finding found = {9, 9, 9, 9, 9, 9, 9, 9};
-    struct precopy_trace held;
-    uint32_t words[19];
     size_t needed;
-    ROW(is_opened(&held, words));
     for (size_t number = 0; number < 2 * 94; number++) {
         size_t cut = number % 94;
         struct precopy_progress progress = {0, 0, 0, 3}, other = {1, 0, 0, 3};
@@ -774,6 +775,10 @@ static void recordings(void) {
 
 int main(void) {
     ROW(precopy_abi() == PRECOPY_ABI);
+    open_held();
+    const struct precopy_trace before = held;
+    uint32_t words[19];
+    memcpy(words, index_words, sizeof words);
     streams();
     pieces();
     plans();
@@ -798,6 +803,8 @@ int main(void) {
     frames();
     sentences();
     recordings();
+    /* No call changes an open trace. Its bytes are constant. */
+    ROW(!memcmp(&before, &held, sizeof held) && !memcmp(words, index_words, sizeof words));
     printf("%d passed, %d failed\n", passed, failed);
     return failed != 0;
 }

@@ -32,7 +32,8 @@ def receive(tally, folder, path, trace):
 def received(tally, folder, path, trace, chosen):
     sizes = precopy.check_trace(trace)
     paths, texts = [os.path.join(folder, f"stream{number}") for number in range(3)], []
-    for memory, stamp in ((precopy.memory(trace), sizes.writes), (precopy.memory_before(trace, 9), 0)):
+    before = precopy.OpenTrace(trace).memory_before(9)
+    for memory, stamp in ((precopy.memory(trace), sizes.writes), (before, 0)):
         for page in range(sizes.pages if sizes.writes or not stamp else 0):
             content = bytes(memory[page << sizes.shift : page + 1 << sizes.shift])
             texts.append(precopy.encode_frame(sizes, page, stamp, content))
@@ -95,7 +96,7 @@ def refused_line(number, call, *words):
 def prediction_lines(trace, asked):
     told = Question(**vars(asked))
     if refusal := told.refusal(trace, by_library=True):
-        yield refused_line(refusal.number, precopy.predict, trace.text, asked)
+        yield refused_line(refusal.number, precopy.OpenTrace(trace.text).predict, asked)
         return
     for manner in (told, dataclasses.replace(told, clark=True)):
         yield from lines_by_manner(trace, manner)

@@ -56,7 +56,7 @@ def refusal_of(asked, trace, ticks):
 
 def told_by_library(trace, asked, starts):
     """The best start in the form of a member of the document, and whether it is likely to keep the limit."""
-    it = precopy.best_start(trace.text, precopy.Question(**vars(asked)), *starts)
+    it = precopy.OpenTrace(trace.text).best_start(precopy.Question(**vars(asked)), *starts)
     if it is None:
         return None, False
     errors = it.errors and (it.errors.bytes, it.errors.time, it.errors.downtime)

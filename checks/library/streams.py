@@ -124,7 +124,7 @@ def trial(chosen, tally):
     found = precopy.check_streams(trace, stop, right)
     tally.add(found is None, f"{found} where nothing was planted")
     tick = chosen.choice([0, stop, guest.ticks[stop - 1] if stop else 0, 1 << 40])
-    count = precopy.writes_before(trace, tick)
+    count = precopy.OpenTrace(trace).writes_before(tick)
     tally.add(count == guest.writes_before(tick), f"{count} writes before tick {tick}")
     at = chosen.choice([at for at, it in enumerate(streams) if it])
     place, mistake = chosen.randrange(len(streams[at])), chosen.choice(MISTAKES)

@@ -11,14 +11,15 @@ trace of `2^28` bytes is planned, or refused in a sentence. Fifty traces of all 
 page's own thread works for more than 50 ms, however large the trace. The page opens no connection, fits widths from 360
 to 1,920 pixels in each state, has contrasts of 4.5 for text and 3 for marks in light and in dark, and a name of its own
 for each control. In tables points are below each other, and no plan has a gap beside it, on paper neither. If Node is
-there, web/engine/planner.js plans the same in it, and the tests of checks/page/modules pass. Without Chromium all but
-sizes and Node are left out.
+there, web/engine/planner.js plans the same in it, and the tests of checks/page/modules pass; and the package for Node
+is made and installed, answers what models say, and refuses what they do (checks/page/package.py). Without Chromium all
+but sizes and Node are left out.
 
 With --pictures only looks are tried, and FOLDER gets them for a reader's eye: in Chromium a PNG of each state of the
 page at each width, in light and in dark, PDFs of what is printed, and the files that the page saves; in Firefox too the
 scenes of checks/page/pictures.py, in light, in dark, on a phone, at 200 per cent, and on paper. With --only one
-part is tried: `node`, `firefox`, or in Chromium `numbers`, `starts`, `damages`, `addresses`, `uses`, `states`, `looks`,
-`loads` or `silence`; or one trial of these by the name of its function, as `check_told`.
+part is tried: `node`, `package`, `firefox`, or in Chromium `numbers`, `starts`, `damages`, `addresses`, `uses`,
+`states`, `looks`, `loads` or `silence`; or one trial of these by the name of its function, as `check_told`.
 """
 
 import html
@@ -27,6 +28,7 @@ import os
 import re
 import subprocess
 import tempfile
+import time
 from dataclasses import replace
 
 from checks.lib.harness import drawn, run_main
@@ -36,10 +38,10 @@ from checks.lib.view_texts import TOP, Failure
 from checks.lib.worked import damaged
 from checks.page import addresses, cases, enough, forecasts, loads
 from checks.page import looks as page_looks
-from checks.page import pictures, records, states, sure, uses, worker
+from checks.page import package, pictures, records, states, sure, uses, worker
 from checks.page.browser import Browser
 from checks.page.firefox import Firefox
-from checks.page.node import node_command, put_web
+from checks.page.node import node_command, put_web, run_tests
 from checks.page.shown import COLLECTOR, Page, tried
 from checks.page.starts import VIEW, check_looked_starts, check_starts, has_view
 from checks.view.quantity_cases import amounts, quantities, texts_of
@@ -141,26 +143,13 @@ def check_quantities(tally, command, web):
             tally.add(found == texts_of(amount), f"the page writes {amount} as {found}, not {texts_of(amount)}")
 
 
-def check_modules(tally, command):
-    """Runs the tests of modules in Node: each of them counts."""
-    words = [*command, "--no-warnings", "--test", "--test-reporter=tap", os.path.join(TOP, "checks", "page", "modules")]
-    ran = subprocess.run(words, capture_output=True, text=True, check=False)
-    results = re.findall(r"^(not ok|ok) \d+ - (.*)$", ran.stdout, re.M)
-    tally.add(
-        results and (ran.returncode == 0) == all(result == "ok" for result, _ in results),
-        f"{len(results)} tests of modules: {ran.stdout[-300:]}{ran.stderr[-300:]}",
-    )
-    for result, name in results:
-        tally.add(result == "ok", f"the modules: {name}")
-
-
 def check_node(tally, folder, module, precopy):
     """Plans in Node what `precopy report` plans."""
     command = node_command()
     if not command:
         left_out("the module in Node", "there is no node with 64-bit memory")
         return
-    check_modules(tally, command)
+    run_tests(tally, command, os.path.join(TOP, "checks", "page", "modules"), "the modules")
     web = put_web(folder, "plans.mjs", "words.mjs", "texts.mjs")
     check_quantities(tally, command, web)
     for known, some in cases.tries(folder):
@@ -173,6 +162,14 @@ def check_node(tally, folder, module, precopy):
         for asked, found in zip(fitting, json.loads(ran.stdout), strict=True):
             with drawn_from(asked.draw), tally.case(f"in Node {known}, {asked.fragment()}") as case:
                 compare_in_node(case, precopy, asked, found)
+
+
+def check_package(tally, folder, module):
+    """The package for Node with this module."""
+    if command := node_command():
+        package.check(tally, command, folder, module)
+    else:
+        left_out("the package for Node", "there is no node with 64-bit memory")
 
 
 def compare_in_node(case, precopy, asked, found):
@@ -268,6 +265,13 @@ def check_no_memory(page):
 # ---- All of it.
 
 
+def timed(name, act, *words):
+    """Does a part, and says how long it took."""
+    begun = time.monotonic()
+    act(*words)
+    print(f"  {name}: {time.monotonic() - begun:.0f} s", flush=True)
+
+
 def in_chromium(act, tally, path, *words):
     with Browser("chromium") as browser:
         browser.begin_with(COLLECTOR)
@@ -304,7 +308,7 @@ def all_uses(tally, page, folder, precopy, only):
     page.wait_for_plan()
     for name, act in parts.items():
         if not only or name in only:
-            act()
+            timed(name, act)
     for words, act in (TRIALS[name] for name in only or () if name in TRIALS):
         tried(tally, words, act, page)
 
@@ -334,16 +338,18 @@ def check_all(tally, folder, module, path, precopy, only):
     check_sizes(tally, folder, module, path)
     check_tabs(tally)
     if not only or "node" in only:
-        check_node(tally, folder, module, precopy)
+        timed("node", check_node, tally, folder, module, precopy)
+    if not only or "package" in only:
+        timed("package", check_package, tally, folder, module)
     is_in_chromium = not only or not set(only).isdisjoint({*IN_CHROMIUM, *TRIALS})
     if is_in_chromium and has("chromium", "chromium", "the page in a browser"):
         tried(tally, "the browser", in_chromium, all_uses, tally, path, folder, precopy, only)
     if (not only or "firefox" in only) and has("firefox-esr", "firefox-esr", "what users do, in Firefox"):
-        tried(tally, "Firefox", in_firefox, tally, path)
+        timed("firefox", tried, tally, "Firefox", in_firefox, tally, path)
 
 
 def check(tally, given):
-    if unknown := set(given.only or ()) - {"node", "firefox", *IN_CHROMIUM, *TRIALS}:
+    if unknown := set(given.only or ()) - {"node", "package", "firefox", *IN_CHROMIUM, *TRIALS}:
         tally.add(False, f"there is no part {sorted(unknown)}")
         return
     with tempfile.TemporaryDirectory() as folder:

@@ -5,10 +5,10 @@
 MODULE is out/browser_planner.wasm, which `make page` builds, if none is given. Of 200 random questions, or of COUNT if
 that is more, two thirds are about eight traces and a third about four records; half go by a hypervisor's looks, and
 half by Clark's rounds. They are asked of precopy-view, in lines and in JSON, of the library in C and in Python, if
-`make lib` has built it, of the page's module, if Node is there, and those about records of tools/predict. All must
-answer what a plain model does, which plans page by page, in all that they tell, or refuse by the same words or number.
-At most a fifth is refused, and of each plan, verdict, end like QEMU and kind of shares of the link there are a number,
-and several ends of each plan. A question at a door is a case.
+`make lib` has built it, of the page's module and the package for Node, if that is there, and those about records of
+tools/predict. All must answer what a plain model does, which plans page by page, in all that they tell, or refuse by
+the same words or number. At most a fifth is refused, and of each plan, verdict, end like QEMU and kind of shares of the
+link there are a number, and several ends of each plan. A question at a door is a case.
 """
 
 import collections
@@ -20,7 +20,7 @@ from typing import Optional
 
 from checks.lib.harness import expect, left_out, run_main, seed
 from checks.lib.migration_model import Answer, Question, answer_of
-from checks.page.node import node_command, put_web
+from checks.page.node import node_command, put_package, put_web
 from checks.predictions import questions
 from checks.predictions.doors import DOORS, Programs, asker, compare
 from checks.predictions.questions import Asked
@@ -66,8 +66,9 @@ def by_trace(asked: list[Asked]) -> list[list[Asked]]:
 
 def programs_of(folder: str, view: str, module: str) -> Programs:
     """The programs; says which doors are not there."""
-    web = put_web(folder, "predictions.mjs")
-    programs = Programs(view, os.path.abspath(module), web, node_command(), asker(folder))
+    web, module = put_web(folder, "predictions.mjs"), os.path.abspath(module)
+    package = put_package(folder, module) if os.path.exists(module) else ""
+    programs = Programs(view, module, web, package, node_command(), asker(folder))
     for door in DOORS:
         if lacking := door.lacking(programs):
             left_out(f"questions at {door.name}", lacking)

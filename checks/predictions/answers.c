@@ -3,10 +3,10 @@
  *
  *     prediction_answers TRACE
  *
- * Each line of standard input has the numbers of a question, in the order of struct precopy_question, but for its size.
- * It prints a line for each: the numbers of the prediction, of its errors, of what is enough, of how sure it is, of
- * what comes of it like QEMU and of the shares of the link in their order, or the status alone. It asks the five calls,
- * whose statuses must be equal.
+ * The trace is opened once. Each line of standard input has the numbers of a question, in the order of struct
+ * precopy_question, but for its size. It prints a line for each: the numbers of the prediction, of its errors, of what
+ * is enough, of how sure it is, of what comes of it like QEMU and of the shares of the link in their order, or the
+ * status alone. It asks the five calls, whose statuses must be equal.
  */
 #include "precopy.h"
 
@@ -94,46 +94,60 @@ static void print_answer(const struct precopy_prediction *it, const struct preco
     printf("\n");
 }
 
+/* Tells that a call returns another status than precopy_trace_predict. */
+static int differs(const char *call, uint32_t status, uint32_t told) {
+    if (status != told) {
+        fprintf(stderr, "%s returns %" PRIu32 ", and not %" PRIu32 "\n", call, told, status);
+    }
+    return status != told;
+}
+
+/* Asks all calls, and prints a line. Returns whether their statuses are equal. */
+static int answer(const struct precopy_trace *trace, const struct precopy_question *asked) {
+    struct precopy_prediction told;
+    struct precopy_errors errors;
+    struct precopy_amounts enough;
+    struct precopy_agreement sure;
+    struct precopy_forecast forecast;
+    struct precopy_link_shares shares;
+    uint32_t status = precopy_trace_predict(trace, asked, &told, &errors);
+    if (differs("precopy_trace_enough", status, precopy_trace_enough(trace, asked, &enough))
+        || differs("precopy_trace_agreement", status, precopy_trace_agreement(trace, asked, &sure))
+        || differs("precopy_trace_forecast", status, precopy_trace_forecast(trace, asked, &forecast))
+        || differs("precopy_trace_link_shares", status, precopy_trace_link_shares(trace, asked, &shares))) {
+        return 0;
+    }
+    if (status == PRECOPY_OK) {
+        print_answer(&told, &errors, &enough, &sure, &forecast, &shares);
+    } else {
+        printf("%" PRIu32 "\n", status);
+    }
+    return 1;
+}
+
 int main(int argc, char **argv) {
     FILE *file = argc == 2 ? fopen(argv[1], "rb") : NULL;
-    uint8_t *trace = malloc((size_t)1 << 28);
-    if (!file || !trace) {
+    uint8_t *bytes = malloc((size_t)1 << 28);
+    if (!file || !bytes) {
         fprintf(stderr, "usage: prediction_answers TRACE\n");
         return 2;
     }
-    size_t length = fread(trace, 1, (size_t)1 << 28, file);
+    size_t length = fread(bytes, 1, (size_t)1 << 28, file), most = PRECOPY_WORDS_BOUND(length), needed;
     fclose(file);
-    struct precopy_question asked;
-    while (read_question(&asked)) {
-        struct precopy_prediction told;
-        struct precopy_errors errors;
-        struct precopy_amounts enough;
-        struct precopy_agreement sure;
-        struct precopy_forecast forecast;
-        struct precopy_link_shares shares;
-        uint32_t record, status = precopy_predict(trace, length, &asked, &told, &errors, &record);
-        if (precopy_enough(trace, length, &asked, &enough, &record) != status) {
-            fprintf(stderr, "precopy_enough does not return %" PRIu32 "\n", status);
-            return 1;
-        }
-        if (precopy_agreement(trace, length, &asked, &sure, &record) != status) {
-            fprintf(stderr, "precopy_agreement does not return %" PRIu32 "\n", status);
-            return 1;
-        }
-        if (precopy_forecast(trace, length, &asked, &forecast, &record) != status) {
-            fprintf(stderr, "precopy_forecast does not return %" PRIu32 "\n", status);
-            return 1;
-        }
-        if (precopy_link_shares(trace, length, &asked, &shares, &record) != status) {
-            fprintf(stderr, "precopy_link_shares does not return %" PRIu32 "\n", status);
-            return 1;
-        }
-        if (status == PRECOPY_OK) {
-            print_answer(&told, &errors, &enough, &sure, &forecast, &shares);
-        } else {
-            printf("%" PRIu32 "\n", status);
-        }
+    struct precopy_trace trace;
+    uint32_t record, *words = malloc(most * sizeof *words);
+    uint32_t status =
+        words ? precopy_trace_open(bytes, length, words, most, &trace, &needed, &record) : (uint32_t)PRECOPY_NO_MEMORY;
+    if (status != PRECOPY_OK) {
+        fprintf(stderr, "%s is not opened: %s\n", argv[1], precopy_strerror(status));
+        return 1;
     }
-    free(trace);
-    return 0;
+    struct precopy_question asked;
+    int is_right = 1;
+    while (is_right && read_question(&asked)) {
+        is_right = answer(&trace, &asked);
+    }
+    free(words);
+    free(bytes);
+    return !is_right;
 }

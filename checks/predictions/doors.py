@@ -4,6 +4,7 @@ import contextlib
 import io
 import json
 import os
+import re
 import subprocess
 import traceback
 from typing import NamedTuple, Optional
@@ -14,6 +15,7 @@ from checks.lib.migration_model import STATUSES, Answer, Refusal, all_lines, doc
 from checks.lib.remedy_model import Remedies
 from checks.lib.tally import Failure, LeftOut, module, why_not
 from checks.lib.view_texts import parsed, ran
+from checks.page.node import asked_of_package
 from checks.predictions.questions import Asked
 from precopy_dev.interface import lower_camel
 from precopy_dev.tree import TOP
@@ -40,12 +42,13 @@ OF_TOOL = (
 
 
 class Programs(NamedTuple):
-    """What is built: precopy-view, the page's module, and a folder with what the page's programs need in Node. `asker`
-    is the program that asks the library for C, or nothing."""
+    """What is built: precopy-view, the page's module, and folders with what the page's programs need in Node, and with
+    the package for Node. `asker` is the program that asks the library for C, or nothing."""
 
     view: str
     module: str
     web: str
+    package: str
     node: Optional[list[str]]
     asker: str
 
@@ -232,11 +235,16 @@ class Library(Door):
         return "" if os.path.exists(LIBRARY) else Library.LACKING
 
     def wanted(self, asked: Asked, answer: Answer) -> object:
+        return self.told_by(answer)
+
+    @classmethod
+    def told_by(cls, answer: Answer) -> dict:
+        """All that the library tells of an answer."""
         numbers = {name: getattr(answer, name) for name in ("rounds", "time", "downtime", "left", "recorded")}
         numbers |= {name: getattr(answer.plan, name) for name in ("stop", "down", "total")}
         verdicts = {"reason": answer.why, "converges": answer.converges, "kept": answer.kept}
         enough = {**amounts_of(answer.enough), "is_kept": answer.enough.is_kept, "ends": answer.enough.ending.ends}
-        more = {"enough": enough, "sure": self.agreement(answer), "forecast": self.forecast(answer.forecast)}
+        more = {"enough": enough, "sure": cls.agreement(answer), "forecast": cls.forecast(answer.forecast)}
         more["shares"] = {"converges": answer.share.verdict, "percent": answer.share.share, "below": answer.share.below}
         return {**numbers, **verdicts, "bytes": answer.sent, "errors": answer.errors, **more}
 
@@ -260,25 +268,25 @@ class Library(Door):
 class Python(Library):
     """The library in Python."""
 
-    name = "precopy.predict, precopy.agreement, precopy.enough, precopy.forecast, precopy.link_shares"
+    name = "OpenTrace: predict, agreement, enough, forecast, link_shares"
 
     def told(self, asked: Asked) -> object:
         import precopy  # noqa: PLC0415
 
         with open(asked.trace.path, "rb") as file:
-            trace = file.read()
+            trace = precopy.OpenTrace(file.read())
         question = precopy.Question(**vars(asked.question))
         try:
-            it = precopy.predict(trace, question)
+            it = trace.predict(question)
         except (precopy.QuestionRefused, precopy.SettingsRefused) as refused:
             return refused.status
         errors = it.errors and (it.errors.bytes, it.errors.time, it.errors.downtime)
         words = {name: getattr(it, name).name.lower() for name in ("reason", "converges", "kept")}
         known = {"errors": errors if words["kept"] != "unknown" else None}
-        sure = vars(precopy.agreement(trace, question))
+        sure = vars(trace.agreement(question))
         sure |= {name: sure[name].name.lower() for name in ("converges", "kept")}
-        more = {"enough": vars(precopy.enough(trace, question)), "sure": sure}
-        forecast, shares = vars(precopy.forecast(trace, question)), vars(precopy.link_shares(trace, question))
+        more = {"enough": vars(trace.enough(question)), "sure": sure}
+        forecast, shares = vars(trace.forecast(question)), vars(trace.link_shares(question))
         more["forecast"] = forecast | {name: forecast[name].name.lower() for name in ("end", "kept")}
         below = None if shares["below"] is None else shares["below"].name.lower()
         more["shares"] = shares | {"converges": shares["converges"].name.lower(), "below": below}
@@ -288,7 +296,7 @@ class Python(Library):
 class C(Library):
     """The library in C, by a program that asks it."""
 
-    name = "precopy_predict, precopy_agreement, precopy_enough, precopy_forecast, precopy_link_shares"
+    name = "precopy_trace_predict, _agreement, _enough, _forecast, _link_shares"
     NUMBERS = "link first downtime reserve tick page sampled guest increment rounds start base"
     ANSWER = "rounds reason stop down total left time bytes downtime recorded converges kept"
     AMOUNTS = ("link", "downtime", "speed", "ending_link", "ending_start")
@@ -338,7 +346,53 @@ class C(Library):
         return {**found, **verdicts, "reason": reason, "errors": errors, **more}
 
 
-DOORS = [Lines, Document, Tool, Page, C, Python]
+class Package(Library):
+    """The package for Node, by the names of the library. It tells no shares of the link."""
+
+    name = "bindings/js"
+    CALLS = ("predict", "agreement", "enough", "forecast")
+
+    @staticmethod
+    def lacking(programs: Programs) -> str:
+        return Page.lacking(programs)
+
+    def all_told(self, some: list[Asked]) -> list[object]:
+        """Large numbers are asked as bigints, which are words that end in n."""
+        calls = []
+        for asked in some:
+            fields = vars(asked.question).items()
+            given = {name: f"{it}n" if type(it) is int and it >= 1 << 53 else it for name, it in fields}
+            calls += [[call, given] for call in self.CALLS]
+        job = {"trace": some[0].trace.path, "calls": calls}
+        _, *told = asked_of_package(self.programs.node, self.programs.package, [job])["answers"][0]
+        groups = [told[at : at + len(self.CALLS)] for at in range(0, len(told), len(self.CALLS))]
+        return [group[0]["status"] if "refused" in group[0] else self.answer(group) for group in groups]
+
+    @classmethod
+    def told_by(cls, answer: Answer) -> dict:
+        return {name: it for name, it in super().told_by(answer).items() if name != "shares"}
+
+    @staticmethod
+    def answer(told: list[dict]) -> dict:
+        """What the calls tell of a question, as the library does in Python."""
+        predicted, sure, enough, forecast = map(whole, told)
+        errors = predicted["errors"] and tuple(predicted["errors"][name] for name in ("bytes", "time", "downtime"))
+        known = errors if predicted["kept"] != "unknown" else None
+        return {**predicted, "errors": known, "sure": sure, "enough": enough, "forecast": forecast}
+
+
+def whole(told: dict) -> dict:
+    """What the package tells, by the names of the library, and with a number for each bigint."""
+
+    def plain(it: object) -> object:
+        if isinstance(it, dict):
+            return whole(it)
+        return int(it[:-1]) if isinstance(it, str) and it[:-1].isdigit() else it
+
+    return {re.sub("[A-Z]", lambda found: f"_{found[0].lower()}", name): plain(it) for name, it in told.items()}
+
+
+DOORS = [Lines, Document, Tool, Page, C, Python, Package]
 
 
 def asker(folder: str) -> str:

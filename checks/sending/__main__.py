@@ -140,7 +140,8 @@ def trials_of_trace(done, load, guest, program):
     sizes = precopy.check_trace(done.trace)
     yield (sizes.page_length, sizes.pages, sizes.writes) == (PAGE, load.pages, done.writes), f"{sizes}"
     yield guest.writes_before(done.tick) == done.stop, f"{guest.writes_before(done.tick)} writes before the stop"
-    yield precopy.memory_before(done.trace, done.tick) == done.source, "memory before the stop by the library"
+    found = precopy.OpenTrace(done.trace).memory_before(done.tick)
+    yield found == done.source, "memory before the stop by the library"
     yield guest.memory_after(done.stop) == done.source, "memory after the writes before the stop"
     yield program_says(program, ["image"], done.trace) == guest.memory_after(done.writes), "memory by the program"
     # The engine worked under load: pages came again, but not all in each round, and the sender went on after the stop.

@@ -8,15 +8,18 @@
 
 #define READS_BEHIND 1   /* trace_check_pages: a byte behind the words is read */
 #define READS_BEFORE 2   /* trace_check_piece: a byte in front of the progress is read */
-#define WRITES_BEHIND 3  /* predict: a word behind the standard errors is written */
-#define WRITES_BEFORE 4  /* page_writes: a byte in front of the writes is written */
+#define WRITES_BEHIND 3  /* trace_predict: a word behind the standard errors is written */
+#define WRITES_BEFORE 4  /* trace_page_writes: a byte in front of the writes is written */
 #define WRITES_INPUT 5   /* trace_check_pages: the progress, which it only reads, is written */
 #define KEEPS_MEMORY 6   /* plan: memory is not given back */
-#define WRITES_REFUSED 7 /* sweep: the best case is written of a trace that is refused */
+#define WRITES_REFUSED 7 /* trace_sweep: the best case is written if a case is refused */
 #define ALL_RIGHT 8      /* check_streams: nothing is ever wrong */
 #define ONE_MORE 9       /* plan: the downtime is a tick longer */
 #define COUNTED_ON 10    /* report: another digit behind OLD */
-#define NEXT_BEST 11     /* sweep: the best case has a number that is greater by one */
+#define NEXT_BEST 11     /* trace_sweep: the best case has a number that is greater by one */
+#define WRITES_INDEX 12  /* trace_rounds: a word of the index, which it only reads, is written */
+#define KEEPS_OPEN 13    /* trace_plan: memory is not given back */
+#define ONE_MORE_OPEN 14 /* trace_plan: the downtime is a tick longer */
 
 static inline void touch(const void *at) { (void)*(const volatile uint8_t *)at; }
 
@@ -48,24 +51,39 @@ uint32_t precopy_trace_check_piece(const struct precopy_trace *trace, const uint
 #endif
 
 #if WRONG == WRITES_BEHIND
-__typeof__(precopy_predict) right_predict;
+__typeof__(precopy_trace_predict) right_trace_predict;
 
-uint32_t precopy_predict(const uint8_t *trace, size_t trace_length, const struct precopy_question *question,
-                         struct precopy_prediction *prediction, struct precopy_errors *errors, uint32_t *record) {
+uint32_t precopy_trace_predict(const struct precopy_trace *trace, const struct precopy_question *question,
+                               struct precopy_prediction *prediction, struct precopy_errors *errors) {
     *(volatile uint32_t *)(errors + 1) = 0;
-    return right_predict(trace, trace_length, question, prediction, errors, record);
+    return right_trace_predict(trace, question, prediction, errors);
 }
 #endif
 
 #if WRONG == WRITES_BEFORE
-__typeof__(precopy_page_writes) right_page_writes;
+__typeof__(precopy_trace_page_writes) right_trace_page_writes;
 
-uint32_t precopy_page_writes(const uint8_t *trace, size_t trace_length, uint32_t page, struct precopy_write *writes,
-                             size_t writes_length, size_t *count, uint32_t *record) {
+uint32_t precopy_trace_page_writes(const struct precopy_trace *trace, uint32_t page, struct precopy_write *writes,
+                                   size_t writes_length, size_t *count) {
     if (writes_length) {
         ((volatile uint8_t *)writes)[-1] = 0;
     }
-    return right_page_writes(trace, trace_length, page, writes, writes_length, count, record);
+    return right_trace_page_writes(trace, page, writes, writes_length, count);
+}
+#endif
+
+#if WRONG == KEEPS_MEMORY || WRONG == ONE_MORE || WRONG == KEEPS_OPEN || WRONG == ONE_MORE_OPEN
+/* The status of a plan that was made with some sums. */
+static uint32_t planned(uint32_t status, struct precopy_sums *sums) {
+    static void *volatile kept;
+    if (status == PRECOPY_OK && (WRONG == KEEPS_MEMORY || WRONG == KEEPS_OPEN)) {
+        kept = malloc(1);
+        status = kept ? status : PRECOPY_NO_MEMORY;
+    }
+    if (status == PRECOPY_OK && (WRONG == ONE_MORE || WRONG == ONE_MORE_OPEN)) {
+        sums->down++;
+    }
+    return status;
 }
 #endif
 
@@ -74,16 +92,27 @@ __typeof__(precopy_plan) right_plan;
 
 uint32_t precopy_plan(const uint8_t *trace, size_t trace_length, const struct precopy_settings *settings,
                       struct precopy_sums *sums, uint32_t *record) {
-    static void *volatile kept;
-    uint32_t status = right_plan(trace, trace_length, settings, sums, record);
-    if (status == PRECOPY_OK && WRONG == KEEPS_MEMORY) {
-        kept = malloc(1);
-        status = kept ? status : PRECOPY_NO_MEMORY;
-    }
-    if (status == PRECOPY_OK && WRONG == ONE_MORE) {
-        sums->down++;
-    }
-    return status;
+    return planned(right_plan(trace, trace_length, settings, sums, record), sums);
+}
+#endif
+
+#if WRONG == KEEPS_OPEN || WRONG == ONE_MORE_OPEN
+__typeof__(precopy_trace_plan) right_trace_plan;
+
+uint32_t precopy_trace_plan(const struct precopy_trace *trace, const struct precopy_settings *settings,
+                            struct precopy_sums *sums) {
+    return planned(right_trace_plan(trace, settings, sums), sums);
+}
+#endif
+
+#if WRONG == WRITES_INDEX
+__typeof__(precopy_trace_rounds) right_trace_rounds;
+
+uint32_t precopy_trace_rounds(const struct precopy_trace *trace, const struct precopy_settings *settings,
+                              struct precopy_round *rounds, size_t rounds_length, size_t *count) {
+    volatile uint32_t *last = (volatile uint32_t *)trace->words + trace->words_length - 1;
+    *last = *last;
+    return right_trace_rounds(trace, settings, rounds, rounds_length, count);
 }
 #endif
 
@@ -105,12 +134,11 @@ uint32_t precopy_report(const uint8_t *trace, size_t trace_length, const struct 
 #endif
 
 #if WRONG == WRITES_REFUSED || WRONG == NEXT_BEST
-__typeof__(precopy_sweep) right_sweep;
+__typeof__(precopy_trace_sweep) right_trace_sweep;
 
-uint32_t precopy_sweep(const uint8_t *trace, size_t trace_length, const struct precopy_settings *cases,
-                       size_t cases_length, struct precopy_sums *sums, size_t sums_length, size_t *best,
-                       uint32_t *record) {
-    uint32_t status = right_sweep(trace, trace_length, cases, cases_length, sums, sums_length, best, record);
+uint32_t precopy_trace_sweep(const struct precopy_trace *trace, const struct precopy_settings *cases,
+                             size_t cases_length, struct precopy_sums *sums, size_t sums_length, size_t *best) {
+    uint32_t status = right_trace_sweep(trace, cases, cases_length, sums, sums_length, best);
     if (status != PRECOPY_OK && WRONG == WRITES_REFUSED) {
         *best = 0;
     }

@@ -1,5 +1,6 @@
 /*
- * Reads a trace from standard input, and prints the rounds of its plan and their sums, as `precopy report` does.
+ * Reads a trace from standard input, and prints the rounds of its plan and their sums, as `precopy report` does. It
+ * opens the trace once, and asks for both.
  *
  *     cc -I include -o plan examples/c/plan.c out/library/libprecopy.a
  *     ./plan 500 4000 10 < examples/gzip.pcwt
@@ -51,6 +52,30 @@ static void print_plan(const struct precopy_round *rounds, size_t count, const s
     printf(" down %" PRIu64 " total %" PRIu64 "\n", sums->down, sums->total);
 }
 
+/* Opens a trace and prints its plan. Returns the library's status, and sets *record if a record is refused. */
+static uint32_t tell(const uint8_t *bytes, size_t length, const struct precopy_settings *settings, uint32_t *record) {
+    size_t needed, count = 0, most = PRECOPY_WORDS_BOUND(length);
+    uint32_t *words = malloc(most * sizeof(*words));
+    if (!words) {
+        return PRECOPY_NO_MEMORY;
+    }
+    struct precopy_trace trace;
+    struct precopy_round rounds[MOST_ROUNDS];
+    struct precopy_sums sums;
+    uint32_t status = precopy_trace_open(bytes, length, words, most, &trace, &needed, record);
+    if (status == PRECOPY_OK) {
+        status = precopy_trace_plan(&trace, settings, &sums);
+    }
+    if (status == PRECOPY_OK) {
+        status = precopy_trace_rounds(&trace, settings, rounds, MOST_ROUNDS, &count);
+    }
+    if (status == PRECOPY_OK) {
+        print_plan(rounds, count, &sums);
+    }
+    free(words);
+    return status;
+}
+
 int main(int argc, char **argv) {
     struct precopy_settings settings = PRECOPY_SETTINGS_DEFAULT;
     if (argc != 4) {
@@ -62,19 +87,13 @@ int main(int argc, char **argv) {
     settings.threshold = strtoull(argv[3], NULL, 10);
 
     size_t length;
-    uint8_t *trace = read_all(stdin, &length);
-    if (!trace) {
+    uint8_t *bytes = read_all(stdin, &length);
+    if (!bytes) {
         fprintf(stderr, "plan: standard input cannot be read\n");
         return 1;
     }
-    struct precopy_round rounds[MOST_ROUNDS];
-    struct precopy_sums sums;
-    size_t count = 0;
-    uint32_t record = UINT32_MAX, status = precopy_plan(trace, length, &settings, &sums, &record);
-    if (status == PRECOPY_OK) {
-        status = precopy_rounds(trace, length, &settings, rounds, MOST_ROUNDS, &count, &record);
-    }
-    free(trace);
+    uint32_t record = UINT32_MAX, status = tell(bytes, length, &settings, &record);
+    free(bytes);
     if (status != PRECOPY_OK) {
         fprintf(stderr, "plan: %s", precopy_strerror(status));
         if (record != UINT32_MAX) {
@@ -83,6 +102,5 @@ int main(int argc, char **argv) {
         fprintf(stderr, "\n");
         return 1;
     }
-    print_plan(rounds, count, &sums);
     return 0;
 }

@@ -2,15 +2,20 @@
 
     bench/library [-n RUNS] [--traces DIR] [--library PATH]
 
-The trace `full` has 2^20 writes in 263 MB. A stream over `uniform` has the frames of all pages after a third of the
-writes, and of those that changed since after two thirds and all. It is checked at once, in pieces of 64 KiB, and page
-by page without stamps. A page with 2^20 writes comes once for each 100 of them. Figures are the least
-processor time of RUNS, 5 by default, with the calls of Python, which are few but for pages one by one.
+The trace `full` has 2^20 writes in 263 MB. Its plan is made with the settings of `precopy`, and its prediction with a
+link of 125 MB a second and a downtime of 300 ms. A stream over `uniform` has the frames of all pages after a third of
+the writes, and of those that changed since after two thirds and all. It is checked at once, in pieces of 64 KiB, and
+page by page without stamps. A page with 2^20 writes comes once for each 100 of them. Figures are the least processor
+time of RUNS, 5 by default, with the calls of Python, which are few but for pages one by one. If there is a C compiler,
+the stream is checked by bench/pieces.c too.
 """
 
 import os
+import shutil
 import struct
+import subprocess
 import sys
+import tempfile
 import time
 from typing import Callable, Iterator, List, Tuple
 
@@ -21,6 +26,8 @@ from precopy_dev.words import parser_of
 
 PIECE = 1 << 16
 HOT_WRITES, HOT_STEP = 1 << 20, 100
+# The link and the downtime of a question, in bytes a second and microseconds.
+LINK, DOWNTIME = 125_000_000, 300_000
 ROUNDS = 3
 RECORD = struct.Struct("<QIHHB")
 
@@ -101,6 +108,11 @@ def time_trace(precopy, table: Table, text: bytes) -> None:
     table.row("`precopy_trace_memory_before`, after all writes", lambda: opened.memory_before(1 << 40))
     table.row("`precopy_trace_differs`, of equal memory", lambda: opened.difference(opened.writes, memory))
     print(f"| opening, of the time of `precopy_memory` | {opening / whole:.2f} |")
+    settings = precopy.Settings()
+    table.row("`precopy_plan`, from the bytes", lambda: precopy.plan(text, settings))
+    table.row("`precopy_trace_plan`", lambda: opened.plan(settings))
+    question = precopy.Question(link=LINK, downtime=DOWNTIME, page=1 << opened.shift)
+    table.row("`precopy_trace_predict`", lambda: opened.predict(question))
 
 
 def in_pieces(opened, stream: bytes) -> None:
@@ -112,7 +124,35 @@ def in_pieces(opened, stream: bytes) -> None:
     assert check.end_stream(0) is None and check.finish() is None
 
 
-def time_streams(precopy, table: Table, text: bytes) -> None:
+def time_in_c(table: Table, library: str, text: bytes, stream: bytes) -> None:
+    """What checks of one stream take from C, where a piece needs no copy."""
+    if not shutil.which("cc"):
+        print("bench/library: there is no C compiler for bench/pieces.c", file=sys.stderr)
+        return
+    path = os.path.realpath(library)
+    with tempfile.TemporaryDirectory() as folder:
+        program, *files = [os.path.join(folder, name) for name in ("pieces", "trace", "stream")]
+        for name, data in zip(files, (text, stream)):
+            with open(name, "wb") as file:
+                file.write(data)
+        source, header = os.path.join(TOP, "bench", "pieces.c"), os.path.join(TOP, "include")
+        words = ["cc", "-O2", "-I", header, "-o", program, source, path, f"-Wl,-rpath,{os.path.dirname(path)}"]
+        subprocess.run(words, check=True)
+        told = subprocess.run([program, *files, str(table.runs)], check=True, capture_output=True, text=True).stdout
+    at_once, opening, pieces, large = (float(word) for word in told.split())
+    rows = [
+        ("all at once", at_once),
+        ("in pieces of 64 KiB, without opening", pieces),
+        ("the same with memory of large pages", large),
+    ]
+    for name, took in rows:
+        print(f"| from C: {name} | {took:,.1f} ms, {len(stream) / took / 1e3:,.0f} MB a second |")
+    ratios = [at_once / took for took in (pieces, opening + pieces, large, opening + large)]
+    told = "{:.2f}, and {:.2f} with opening; with large pages {:.2f} and {:.2f}".format(*ratios)
+    print(f"| from C: pieces, of the speed at once | {told} |")
+
+
+def time_streams(precopy, table: Table, text: bytes, library: str) -> None:
     """What checks of one stream take."""
     opened = precopy.OpenTrace(text)
     sizes = precopy.Sizes(opened.shift, opened.pages, opened.writes)
@@ -140,6 +180,7 @@ def time_streams(precopy, table: Table, text: bytes) -> None:
     table.row("the same without opening", lambda: in_pieces(opened, stream), length)
     table.row("`precopy_trace_check_bytes`, page by page, from Python", without_stamps, moved)
     print(f"| pieces, of the speed at once | {at_once / by_pieces:.2f} |")
+    time_in_c(table, library, text, stream)
 
 
 def time_hot_page(precopy, table: Table) -> None:
@@ -167,7 +208,7 @@ def main() -> int:
     traces = made(["full", "uniform"], asked.traces)
     table = Table(asked.n)
     time_trace(precopy, table, bytes_of(traces, "full"))
-    time_streams(precopy, table, bytes_of(traces, "uniform"))
+    time_streams(precopy, table, bytes_of(traces, "uniform"), asked.library)
     time_hot_page(precopy, table)
     busy = others.average()
     if busy is not None:

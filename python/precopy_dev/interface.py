@@ -23,6 +23,8 @@ HEADER = "include/precopy.h"
 # What stands before the text of a status in a line about it, by the first letter of its name in `precopy`.
 SUBJECTS = {"E": "trace", "S": "settings", "F": "frame"}
 QUESTIONS = range(81, 88)
+# The statuses of a question, and of a trace that is not as it says.
+ASKED = range(81, 90)
 LINE = 120
 RUST = {"uint8_t": "u8", "uint32_t": "u32", "uint64_t": "u64", "size_t": "usize", "bool": "bool"}
 PYTHON = {"uint32_t": "c_uint32", "uint64_t": "c_uint64", "size_t": "c_size_t"}
@@ -269,6 +271,15 @@ def layouts_for_planner(interface: Interface) -> str:
     return "".join(parts) + "};\n"
 
 
+def statuses_in_js(interface: Interface) -> str:
+    """The statuses of traces, settings and questions: the planner's module has no others."""
+    rows = [it for it in interface.statuses if (it.name and it.name[0] in "ES") or it.number in ASKED]
+    head = f"// The statuses of a trace, of settings and of a question. Made by dev/interface from {HEADER}.\n\n"
+    about = "/** By the number of a status its name, and what `precopy_strerror` says of it. */\n"
+    lines = (f'  {it.number}: ["{it.constant}", "{it.line()}"],\n' for it in rows)
+    return f"{head}{about}export const STATUSES = {{\n{''.join(lines)}}};\n"
+
+
 FILES: dict[str, Callable[[Interface], str]] = {
     "packaging/status_texts.h": texts_in_c,
     "bindings/rust/src/status.rs": statuses_in_rust,
@@ -276,11 +287,13 @@ FILES: dict[str, Callable[[Interface], str]] = {
     "bindings/python/precopy/_interface.py": calls_in_python,
     "python/precopy_tools/formats/causes.py": causes_for_tools,
     "web/model/interface.js": layouts_for_planner,
+    "bindings/js/statuses.js": statuses_in_js,
 }
 LEFT = """\
 Left to write by hand, after a new status: docs/FORMATS.md if `precopy` writes its name, the range of its kind in \
-bindings/rust/src/refusals.rs and bindings/python/precopy/_refusals.py, and a row in checks/library/rows.c. After a new
-field: crates/c_answers (and crates/c_layout), and what callers see of it in bindings/.
+bindings/rust/src/refusals.rs, bindings/python/precopy/_refusals.py and bindings/js/index.js, and a row in \
+checks/library/rows.c. After a new field: crates/c_answers (and crates/c_layout), and what callers see of it in \
+bindings/.
 """
 
 

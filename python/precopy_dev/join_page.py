@@ -131,17 +131,28 @@ def page_of(module):
 
 
 def main(words):
+    return of_module("dev/join-page", "PAGE", words, write_page)
+
+
+def write_page(module, path):
+    page = page_of(module)
+    os.makedirs(os.path.dirname(os.path.abspath(path)), exist_ok=True)
+    with open(path, "w", encoding="utf-8") as file:
+        file.write(page)
+
+
+def of_module(command, what, words, write):
+    """Writes what is made of a module: the words are the path of the module, and that of what is made. Returns the
+    status of the command."""
     if len(words) != 2:
-        print("usage: dev/join-page MODULE PAGE", file=sys.stderr)
+        print(f"usage: {command} MODULE {what}", file=sys.stderr)
         return 2
     try:
         with open(words[0], "rb") as file:
-            page = page_of(file.read())
-        os.makedirs(os.path.dirname(os.path.abspath(words[1])), exist_ok=True)
-        with open(words[1], "w", encoding="utf-8") as file:
-            file.write(page)
+            module = file.read()
+        write(module, words[1])
     except (OSError, Refused, notices.Lacks) as error:
-        print(f"dev/join-page: {error}", file=sys.stderr)
+        print(f"{command}: {error}", file=sys.stderr)
         return 1
     return 0
 

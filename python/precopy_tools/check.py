@@ -43,9 +43,10 @@ def main(given: list[str]) -> int:
         return 2
     try:
         trace, streams = read(options.trace), [read(path) for path in options.streams]
-        writes = precopy.check_trace(trace).writes
+        opened = precopy.OpenTrace(trace)
+        writes = opened.writes
         after = writes if options.after is None else min(options.after, writes)
-        stop = after if options.tick is None else precopy.writes_before(trace, options.tick)
+        stop = after if options.tick is None else opened.writes_before(options.tick)
         found = precopy.check_streams(trace, stop, streams)
     except (OSError, precopy.Refused) as fault:
         version.complain("check", str(fault))

@@ -3,7 +3,7 @@
 from ctypes import POINTER, Structure, c_size_t, c_uint32, c_uint64, c_void_p
 from enum import IntEnum
 
-ABI, TEXT_BOUND = 5, 320
+ABI, TEXT_BOUND = 6, 320
 REPORT_BOUND = (72, 11, 128, 67)
 
 
@@ -97,6 +97,45 @@ class Round(Structure):
     _fields_ = _of(c_uint64, "from", "to", "rate", "pages", "sent", "dirtied")
 
 
+class Frame(Structure):
+    _fields_ = [*_of(c_uint32, "page", "stamp"), *_of(c_size_t, "size")]
+
+
+class Page(Structure):
+    _fields_ = _of(c_uint32, "came", "stamp")
+
+
+class Taken(Structure):
+    _fields_ = _of(c_size_t, "frames", "bytes")
+
+
+class Finding(Structure):
+    _fields_ = [
+        *_of(c_size_t, "stream", "frame", "offset"),
+        *_of(c_uint64, "tick"),
+        *_of(c_uint32, "page", "stamp", "wanted", "missing"),
+    ]
+
+
+class Trace(Structure):
+    _fields_ = [
+        *_of(Sizes, "sizes"),
+        *_of(c_uint32, "version"),
+        *_of(c_void_p, "bytes"),
+        *_of(c_size_t, "bytes_length"),
+        *_of(POINTER(c_uint32), "words"),
+        *_of(c_size_t, "words_length"),
+    ]
+
+
+class Write(Structure):
+    _fields_ = [*_of(c_uint64, "tick"), *_of(c_size_t, "size"), *_of(c_uint32, "place", "offset")]
+
+
+class Progress(Structure):
+    _fields_ = [*_of(c_size_t, "stream", "frames", "bytes"), *_of(c_uint32, "stop")]
+
+
 class Question(Structure):
     _fields_ = [
         *_of(c_uint64, "size", "link", "first", "downtime", "reserve", "tick"),
@@ -150,45 +189,6 @@ class BestStart(Structure):
     _fields_ = [*_of(c_uint64, "start", "rounds", "time", "bytes", "downtime"), *_of(c_uint32, "kept", "is_likely")]
 
 
-class Write(Structure):
-    _fields_ = [*_of(c_uint64, "tick"), *_of(c_size_t, "size"), *_of(c_uint32, "place", "offset")]
-
-
-class Frame(Structure):
-    _fields_ = [*_of(c_uint32, "page", "stamp"), *_of(c_size_t, "size")]
-
-
-class Page(Structure):
-    _fields_ = _of(c_uint32, "came", "stamp")
-
-
-class Taken(Structure):
-    _fields_ = _of(c_size_t, "frames", "bytes")
-
-
-class Finding(Structure):
-    _fields_ = [
-        *_of(c_size_t, "stream", "frame", "offset"),
-        *_of(c_uint64, "tick"),
-        *_of(c_uint32, "page", "stamp", "wanted", "missing"),
-    ]
-
-
-class Trace(Structure):
-    _fields_ = [
-        *_of(Sizes, "sizes"),
-        *_of(c_uint32, "version"),
-        *_of(c_void_p, "bytes"),
-        *_of(c_size_t, "bytes_length"),
-        *_of(POINTER(c_uint32), "words"),
-        *_of(c_size_t, "words_length"),
-    ]
-
-
-class Progress(Structure):
-    _fields_ = [*_of(c_size_t, "stream", "frames", "bytes"), *_of(c_uint32, "stop")]
-
-
 class Recording(Structure):
     _fields_ = [*_of(c_size_t, "length"), *_of(c_uint64, "last_tick"), *_of(c_uint32, "writes", "pages", "shift")]
 
@@ -199,39 +199,10 @@ CALLS = {
     "finding_text": [c_uint32, POINTER(Finding), c_void_p, c_size_t, POINTER(c_size_t)],
     "abi": [],
     "check_trace": [c_void_p, c_size_t, POINTER(Sizes), POINTER(c_uint32)],
-    "writes_before": [c_void_p, c_size_t, c_uint64, POINTER(c_uint32), POINTER(c_uint32)],
     "check_settings": [POINTER(Settings)],
     "plan": [c_void_p, c_size_t, POINTER(Settings), POINTER(Sums), POINTER(c_uint32)],
-    "rounds": [c_void_p, c_size_t, POINTER(Settings), POINTER(Round), c_size_t, POINTER(c_size_t), POINTER(c_uint32)],
     "report": [c_void_p, c_size_t, POINTER(Settings), c_void_p, c_size_t, POINTER(c_size_t), POINTER(c_uint32)],
-    "sweep": [
-        c_void_p,
-        c_size_t,
-        POINTER(Settings),
-        c_size_t,
-        POINTER(Sums),
-        c_size_t,
-        POINTER(c_size_t),
-        POINTER(c_uint32),
-    ],
-    "predict": [c_void_p, c_size_t, POINTER(Question), POINTER(Prediction), POINTER(Errors), POINTER(c_uint32)],
-    "agreement": [c_void_p, c_size_t, POINTER(Question), POINTER(Agreement), POINTER(c_uint32)],
-    "enough": [c_void_p, c_size_t, POINTER(Question), POINTER(Amounts), POINTER(c_uint32)],
-    "forecast": [c_void_p, c_size_t, POINTER(Question), POINTER(Forecast), POINTER(c_uint32)],
-    "link_shares": [c_void_p, c_size_t, POINTER(Question), POINTER(LinkShares), POINTER(c_uint32)],
-    "best_start": [
-        c_void_p,
-        c_size_t,
-        POINTER(Question),
-        POINTER(Starts),
-        POINTER(BestStart),
-        POINTER(Errors),
-        POINTER(c_uint32),
-    ],
     "memory": [c_void_p, c_size_t, c_void_p, c_size_t, POINTER(c_size_t), POINTER(c_uint32)],
-    "memory_before": [c_void_p, c_size_t, c_uint64, c_void_p, c_size_t, POINTER(c_size_t), POINTER(c_uint32)],
-    "memory_step": [c_void_p, c_size_t, c_uint32, c_uint32, c_void_p, c_size_t, POINTER(c_uint32)],
-    "page_writes": [c_void_p, c_size_t, c_uint32, POINTER(Write), c_size_t, POINTER(c_size_t), POINTER(c_uint32)],
     "encode_frame": [POINTER(Sizes), c_uint32, c_uint32, c_void_p, c_size_t, c_void_p, c_size_t, POINTER(c_size_t)],
     "decode_frame": [POINTER(Sizes), c_void_p, c_size_t, POINTER(Frame), c_void_p, c_size_t],
     "accept": [POINTER(Sizes), c_void_p, c_size_t, c_void_p, c_size_t, POINTER(Page), c_size_t, POINTER(Taken)],
@@ -258,6 +229,8 @@ CALLS = {
     ],
     "trace_writes_before": [POINTER(Trace), c_uint64, POINTER(c_uint32)],
     "trace_memory_before": [POINTER(Trace), c_uint64, c_void_p, c_size_t, POINTER(c_size_t)],
+    "trace_memory_step": [POINTER(Trace), c_uint32, c_uint32, c_void_p, c_size_t],
+    "trace_page_writes": [POINTER(Trace), c_uint32, POINTER(Write), c_size_t, POINTER(c_size_t)],
     "trace_version_after": [POINTER(Trace), c_uint32, c_uint32, POINTER(c_uint32)],
     "trace_versions_after": [POINTER(Trace), c_uint32, POINTER(c_uint32), c_size_t, POINTER(c_size_t)],
     "trace_versions_before": [POINTER(Trace), c_uint64, POINTER(c_uint32), c_size_t, POINTER(c_size_t)],
@@ -290,6 +263,16 @@ CALLS = {
         c_size_t,
     ],
     "trace_differs": [POINTER(Trace), c_uint32, c_void_p, c_size_t, c_void_p, c_size_t, POINTER(Finding)],
+    "trace_plan": [POINTER(Trace), POINTER(Settings), POINTER(Sums)],
+    "trace_report": [POINTER(Trace), POINTER(Settings), c_void_p, c_size_t, POINTER(c_size_t)],
+    "trace_rounds": [POINTER(Trace), POINTER(Settings), POINTER(Round), c_size_t, POINTER(c_size_t)],
+    "trace_sweep": [POINTER(Trace), POINTER(Settings), c_size_t, POINTER(Sums), c_size_t, POINTER(c_size_t)],
+    "trace_predict": [POINTER(Trace), POINTER(Question), POINTER(Prediction), POINTER(Errors)],
+    "trace_agreement": [POINTER(Trace), POINTER(Question), POINTER(Agreement)],
+    "trace_enough": [POINTER(Trace), POINTER(Question), POINTER(Amounts)],
+    "trace_forecast": [POINTER(Trace), POINTER(Question), POINTER(Forecast)],
+    "trace_link_shares": [POINTER(Trace), POINTER(Question), POINTER(LinkShares)],
+    "trace_best_start": [POINTER(Trace), POINTER(Question), POINTER(Starts), POINTER(BestStart), POINTER(Errors)],
     "record_begin": [c_void_p, c_size_t, c_uint32, c_uint32, POINTER(Recording)],
     "record_write": [c_void_p, c_size_t, POINTER(Recording), c_uint64, c_uint32, c_uint32, c_void_p, c_size_t],
     "record_release": [c_void_p, c_size_t, POINTER(Recording), c_uint64, c_uint32],

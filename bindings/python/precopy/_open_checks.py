@@ -2,7 +2,9 @@
 
 from __future__ import annotations
 
+import contextlib
 import ctypes
+import mmap
 import threading
 from typing import Any, Dict, Optional, Tuple
 
@@ -20,19 +22,20 @@ from ._streams import Difference, Finding, Unstamped, told
 class _Stream:
     """What is known of one stream."""
 
-    def __init__(self, number: int, stop: int, pages: int) -> None:
+    def __init__(self, number: int, stop: int, sizes: _interface.Sizes) -> None:
         self.progress = _interface.Progress(stream=number, stop=stop)
-        self.last = _room(ctypes.c_uint32 * pages)
-        # The beginning of a frame, whose end did not come.
-        self.left = b""
+        self.last = _room(ctypes.c_uint32 * sizes.pages)
+        # Room for the longest frame, and how many bytes of one are in it, whose end did not come.
+        self.cut = _room(ctypes.create_string_buffer, 9 + (1 << sizes.shift))
+        self.left = 0
         self.first: Optional[Finding] = None
 
     def end(self) -> Optional[Finding]:
         """What was found first, or a frame that is cut off at the end, or None."""
         if self.first is None:
             found = _interface.Finding()
-            self.first = told(_LIBRARY.precopy_end_stream(self.progress, len(self.left), found), found)
-            self.left = b""
+            self.first = told(_LIBRARY.precopy_end_stream(self.progress, self.left, found), found)
+            self.left = 0
         return self.first
 
 
@@ -41,6 +44,15 @@ def difference(handle: _interface.Trace, count: int, start: int, length: int) ->
     room, found = _room(ctypes.create_string_buffer, 1 << handle.sizes.shift), _interface.Finding()
     lent = ctypes.addressof(room), len(room)
     return told(_LIBRARY.precopy_trace_differs(handle, count, start, length, *lent, found), found, Difference)
+
+
+def _zeros(length: int) -> Any:
+    """Zeros that take memory only where they are written, and in large pages if the system has them. A process that
+    forks keeps its own."""
+    room = mmap.mmap(-1, length, mmap.MAP_PRIVATE | mmap.MAP_ANONYMOUS)
+    with contextlib.suppress(AttributeError, OSError):
+        room.madvise(mmap.MADV_HUGEPAGE)
+    return (ctypes.c_char * length).from_buffer(room)
 
 
 class OpenCheck:
@@ -56,7 +68,7 @@ class OpenCheck:
         self._trace = trace
         self._stop = _number("stop", stop, 32)
         self._greatest = _room(ctypes.c_uint32 * sizes.pages)
-        self._memory = _room(ctypes.create_string_buffer, sizes.pages << sizes.shift)
+        self._memory = _room(_zeros, sizes.pages << sizes.shift)
         self._streams: Dict[int, _Stream] = {}
         self._first_page: Optional[Finding] = None
         # Whether pages came without stamps, so that versions do not tell if memory is right.
@@ -72,30 +84,42 @@ class OpenCheck:
     def _known(self, stream: int) -> _Stream:
         number = _number("stream", stream, 64)
         if number not in self._streams:
-            self._streams[number] = _Stream(number, self._stop, len(self._greatest))
+            self._streams[number] = _Stream(number, self._stop, self._handle.sizes)
         return self._streams[number]
 
     def take(self, stream: int, data: Bytes) -> Optional[Finding]:
         """Takes the next bytes of the stream with this number, and returns the first frame in it that is wrong, or
-        None. It keeps the beginning of a frame at their end, and copies the bytes that come behind one."""
-        with self._only_call, _lent(data) as piece:
+        None. It keeps the beginning of a frame at their end, and copies only what the frame at their front needs."""
+        with self._only_call, _lent(data) as (start, length):
             known = self._known(stream)
             if known.first is None and known.left:
-                start, length = piece
-                whole = _room(b"".join, (known.left, (ctypes.c_char * length).from_address(start)))
-                with _lent(whole) as piece:
-                    self._take(known, *piece)
-            elif known.first is None:
-                self._take(known, *piece)
+                count = self._take_cut(known, start, length)
+                start, length = start + count, length - count
+            if known.first is None and length:
+                taken = self._take(known, start, length)
+                ctypes.memmove(known.cut, start + taken, known.left)
             return known.first
 
-    def _take(self, known: _Stream, start: int, length: int) -> None:
+    def _take_cut(self, known: _Stream, start: int, length: int) -> int:
+        """Takes the frame whose beginning was kept, and returns how many of the next bytes that took."""
+        began, room = known.left, ctypes.addressof(known.cut)
+        count = min(length, len(known.cut) - began)
+        ctypes.memmove(room + began, start, count)
+        taken = self._take(known, room, began + count)
+        if taken == 0:
+            return count
+        known.left = 0
+        return taken - began
+
+    def _take(self, known: _Stream, start: int, length: int) -> int:
+        """Takes bytes of a stream, and returns how many the whole frames in them have."""
         before, found = known.progress.bytes, _interface.Finding()
         lent = known.last, len(known.last), *self._lent()
         status = _LIBRARY.precopy_trace_check_piece(self._handle, start, length, known.progress, *lent, found)
         known.first = told(status, found)
-        taken = known.progress.bytes - before
-        known.left = b"" if known.first else ctypes.string_at(start + taken, length - taken)
+        taken = int(known.progress.bytes - before)
+        known.left = 0 if known.first else length - taken
+        return taken
 
     def end_stream(self, stream: int) -> Optional[Finding]:
         """Ends the stream with this number, and returns what was found in it before, or the frame that is cut off at

@@ -3,28 +3,44 @@
 from __future__ import annotations
 
 import ctypes
+from dataclasses import dataclass
 from typing import Any, List, Optional
 
 from . import _calls, _interface
 from ._calls import LIBRARY as _LIBRARY
 from ._calls import lent as _lent
 from ._calls import number as _number
+from ._interface import Status
 from ._open_checks import OpenCheck, difference
+from ._plans import Plans
+from ._predictions import Predictions
 from ._refusals import Bytes
+from ._refusals import apart as _apart
 from ._refusals import check as _check
 from ._refusals import check_over as _check_over
 from ._refusals import room as _room
 from ._streams import Finding
 
 
-class OpenTrace:
-    """A trace that stays open: each call over it costs what it answers, and not another pass over the trace. Its bytes
+@dataclass(frozen=True)
+class Write:
+    """A write to a page: its place in the trace, 1 for the first, its tick, and how many bytes it writes from which
+    byte of the page on. With none it releases the page."""
+
+    place: int
+    tick: int
+    offset: int
+    size: int
+
+
+class OpenTrace(Plans, Predictions):
+    """A trace that stays open: each call over it costs what it answers, and not another test of the trace. Its bytes
     are not copied; they neither move nor shrink as long as it is there, and nothing may change them. Several threads
     may call at once."""
 
     def __init__(self, trace: Bytes) -> None:
         self._held = _lent(trace)
-        _, length = self._held.__enter__()
+        self._read = _, length = self._held.__enter__()
         words = 3 * min(1 << 20, max(0, length - 16) // 16) + (1 << 16)
         self._words = _room(ctypes.c_uint32 * words)
         self._trace, needed = _interface.Trace(), ctypes.c_size_t()
@@ -58,6 +74,24 @@ class OpenTrace:
         with _lent(room, _calls.WRITABLE) as (start, length):
             _check(_LIBRARY.precopy_trace_memory_before(self._trace, at, start, length, needed))
         return room
+
+    def memory_step(self, start: int, end: int, memory: Bytes) -> None:
+        """Brings memory after the first `start` writes on to that after the first `end` writes, in place. Memory that
+        overlaps the trace is an `Overlap`."""
+        where = _number("start", start, 32), _number("end", end, 32)
+        with _lent(memory, _calls.WRITABLE) as written:
+            _apart(written, self._read)
+            _check(_LIBRARY.precopy_trace_memory_step(self._trace, *where, *written))
+
+    def page_writes(self, page: int) -> List[Write]:
+        """Returns the writes to a page, in their order."""
+        where, count, found = _number("page", page, 32), ctypes.c_size_t(), (_interface.Write * 0)()
+        status = _LIBRARY.precopy_trace_page_writes(self._trace, where, found, 0, count)
+        if status == Status.SHORT_BUFFER:
+            found = _room(_interface.Write * count.value)
+            status = _LIBRARY.precopy_trace_page_writes(self._trace, where, found, len(found), count)
+        _check(status)
+        return [Write(it.place, it.tick, it.offset, it.size) for it in found]
 
     def version_after(self, page: int, count: int) -> int:
         """Returns the version of a page after the first `count` writes: the place of the last of them that is to the

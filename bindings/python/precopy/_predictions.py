@@ -10,7 +10,7 @@ from typing import Optional
 from . import _interface
 from ._calls import LIBRARY as _LIBRARY
 from ._calls import number as _number
-from ._refusals import Bytes, check_over
+from ._refusals import check as _check
 
 
 class Reason(enum.IntEnum):
@@ -108,15 +108,6 @@ class Prediction:
     errors: Optional[Errors]
 
 
-def predict(trace: Bytes, question: Question) -> Prediction:
-    """Returns what the migration of a trace will be with the limits of a question."""
-    found, errors = _interface.Prediction(), _interface.Errors()
-    check_over(_LIBRARY.precopy_predict, trace, question._as_c(), found, errors)
-    told = {name: getattr(found, name) for name, _ in _interface.Prediction._fields_}
-    told |= {"reason": Reason(found.reason), "converges": Verdict(found.converges), "kept": Verdict(found.kept)}
-    return Prediction(**told, errors=_errors(errors))
-
-
 @dataclass(frozen=True)
 class Agreement:
     """How sure a prediction is: in how many of the `draws` of a sample's pages, and from how many of the `starts` from
@@ -134,14 +125,6 @@ class Agreement:
     kept: Verdict
 
 
-def agreement(trace: Bytes, question: Question) -> Agreement:
-    """Returns how sure the verdicts on the migration of a trace with the limits of a question are."""
-    found = _interface.Agreement()
-    check_over(_LIBRARY.precopy_agreement, trace, question._as_c(), found)
-    told = {name: getattr(found, name) for name, _ in _interface.Agreement._fields_}
-    return Agreement(**told | {"converges": Verdict(found.converges), "kept": Verdict(found.kept)})
-
-
 @dataclass(frozen=True)
 class Amounts:
     """What is enough for the downtime limit of a question, each amount by itself: a link in bytes a second, a downtime
@@ -156,16 +139,6 @@ class Amounts:
     ends: bool
     ending_link: Optional[int]
     ending_start: Optional[int]
-
-
-def enough(trace: Bytes, question: Question) -> Amounts:
-    """Returns whether the migration of a trace keeps the limit of a question, and the least amounts that do: up from
-    what is asked if it does not, and else down from it; and what ends it within the trace if it does not."""
-    found = _interface.Amounts()
-    check_over(_LIBRARY.precopy_enough, trace, question._as_c(), found)
-    names = ("link", "downtime", "speed", "ending_link", "ending_start")
-    told = {name: getattr(found, name) if getattr(found, f"has_{name}") else None for name in names}
-    return Amounts(is_kept=found.is_kept != 0, ends=found.ends != 0, **told)
 
 
 class ForecastEnd(enum.IntEnum):
@@ -192,14 +165,6 @@ class Forecast:
     kept: Verdict
 
 
-def forecast(trace: Bytes, question: Question) -> Forecast:
-    """Returns what the migration of a trace comes to like QEMU, with the limits of a question."""
-    found = _interface.Forecast()
-    check_over(_LIBRARY.precopy_forecast, trace, question._as_c(), found)
-    told = {name: getattr(found, name) for name, _ in _interface.Forecast._fields_}
-    return Forecast(**told | {"end": ForecastEnd(found.end), "kept": Verdict(found.kept)})
-
-
 @dataclass(frozen=True)
 class LinkShares:
     """Whether a migration converges at all of its link, and the least share, in per cent, from which on each whole one
@@ -208,14 +173,6 @@ class LinkShares:
     converges: Verdict
     percent: int
     below: Optional[Verdict]
-
-
-def link_shares(trace: Bytes, question: Question) -> LinkShares:
-    """Returns down to which share of its link the migration of a trace has the verdict that it has at all of it."""
-    found = _interface.LinkShares()
-    check_over(_LIBRARY.precopy_link_shares, trace, question._as_c(), found)
-    below = Verdict(found.below) if found.below != found.converges else None
-    return LinkShares(Verdict(found.converges), found.percent, below)
 
 
 @dataclass(frozen=True)
@@ -241,14 +198,59 @@ def _starts(to: Optional[int], every: Optional[int]) -> _interface.Starts:
     return asked
 
 
-def best_start(
-    trace: Bytes, question: Question, to: Optional[int] = None, every: Optional[int] = None
-) -> Optional[BestStart]:
-    """Returns the best start of the migration of a trace, or None if it ends within the trace from no start. The first
-    is that of the question, and `every` so many ticks there is another, up to the tick `to`. Without these there are at
-    most 201, up to the last tick of the trace."""
-    found, errors = _interface.BestStart(), _interface.Errors()
-    check_over(_LIBRARY.precopy_best_start, trace, question._as_c(), _starts(to, every), found, errors)
-    told = {name: getattr(found, name) for name, _ in _interface.BestStart._fields_}
-    told |= {"kept": Verdict(found.kept), "is_likely": found.is_likely != 0}
-    return None if found.kept == Verdict.UNKNOWN else BestStart(**told, errors=_errors(errors))
+class Predictions:
+    """The predictions over a trace that stays open."""
+
+    _trace: _interface.Trace
+
+    def predict(self, question: Question) -> Prediction:
+        """Returns what the migration of the trace will be with the limits of a question."""
+        found, errors = _interface.Prediction(), _interface.Errors()
+        _check(_LIBRARY.precopy_trace_predict(self._trace, question._as_c(), found, errors))
+        told = {name: getattr(found, name) for name, _ in _interface.Prediction._fields_}
+        told |= {"reason": Reason(found.reason), "converges": Verdict(found.converges), "kept": Verdict(found.kept)}
+        return Prediction(**told, errors=_errors(errors))
+
+    def agreement(self, question: Question) -> Agreement:
+        """Returns how sure the verdicts on the migration of the trace with the limits of a question are."""
+        found = _interface.Agreement()
+        _check(_LIBRARY.precopy_trace_agreement(self._trace, question._as_c(), found))
+        told = {name: getattr(found, name) for name, _ in _interface.Agreement._fields_}
+        return Agreement(**told | {"converges": Verdict(found.converges), "kept": Verdict(found.kept)})
+
+    def enough(self, question: Question) -> Amounts:
+        """Returns whether the migration of the trace keeps the limit of a question, and the least amounts that do: up
+        from what is asked if it does not, and else down from it; and what ends it within the trace if it does not."""
+        found = _interface.Amounts()
+        _check(_LIBRARY.precopy_trace_enough(self._trace, question._as_c(), found))
+        names = ("link", "downtime", "speed", "ending_link", "ending_start")
+        told = {name: getattr(found, name) if getattr(found, f"has_{name}") else None for name in names}
+        return Amounts(is_kept=found.is_kept != 0, ends=found.ends != 0, **told)
+
+    def forecast(self, question: Question) -> Forecast:
+        """Returns what the migration of the trace comes to like QEMU, with the limits of a question."""
+        found = _interface.Forecast()
+        _check(_LIBRARY.precopy_trace_forecast(self._trace, question._as_c(), found))
+        told = {name: getattr(found, name) for name, _ in _interface.Forecast._fields_}
+        return Forecast(**told | {"end": ForecastEnd(found.end), "kept": Verdict(found.kept)})
+
+    def link_shares(self, question: Question) -> LinkShares:
+        """Returns down to which share of its link the migration of the trace has the verdict that it has at all of
+        it."""
+        found = _interface.LinkShares()
+        _check(_LIBRARY.precopy_trace_link_shares(self._trace, question._as_c(), found))
+        below = Verdict(found.below) if found.below != found.converges else None
+        return LinkShares(Verdict(found.converges), found.percent, below)
+
+    def best_start(
+        self, question: Question, to: Optional[int] = None, every: Optional[int] = None
+    ) -> Optional[BestStart]:
+        """Returns the best start of the migration of the trace, or None if it ends within the trace from no start. The
+        first is that of the question, and `every` so many ticks there is another, up to the tick `to`. Without these
+        there are at most 201, up to the last tick of the trace."""
+        found, errors = _interface.BestStart(), _interface.Errors()
+        asked = question._as_c(), _starts(to, every)
+        _check(_LIBRARY.precopy_trace_best_start(self._trace, *asked, found, errors))
+        told = {name: getattr(found, name) for name, _ in _interface.BestStart._fields_}
+        told |= {"kept": Verdict(found.kept), "is_likely": found.is_likely != 0}
+        return None if found.kept == Verdict.UNKNOWN else BestStart(**told, errors=_errors(errors))

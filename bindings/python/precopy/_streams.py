@@ -11,7 +11,7 @@ from ._calls import LIBRARY as _LIBRARY
 from ._calls import lent as _lent
 from ._calls import number as _number
 from ._interface import Status
-from ._refusals import Bytes, call_over, check, check_over, room
+from ._refusals import Bytes, call_over, check, room
 
 
 @dataclass(frozen=True)
@@ -68,13 +68,6 @@ class Difference(Finding):
     def __str__(self) -> str:
         wrote = f"which write {self.missing} wrote at tick {self.tick}" if self.missing else "which no write wrote"
         return f"it is not that of page {self.page} at {self.wanted}, {wrote}"
-
-
-def writes_before(trace: Bytes, tick: int) -> int:
-    """Returns how many writes of a trace are before a tick."""
-    count = ctypes.c_uint32()
-    check_over(_LIBRARY.precopy_writes_before, trace, _number("tick", tick, 64), count)
-    return count.value
 
 
 def told(status: int, found: _interface.Finding, kind: Type[Finding] = Finding) -> Optional[Finding]:

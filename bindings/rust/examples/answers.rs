@@ -4,8 +4,9 @@
 //!
 //! The numbers are those of the settings. A base of `-` is none, and SKIP is 0 or 1.
 
-use precopy::{Question, Refused, Settings, Starts};
+use precopy::{OpenTrace, Question, Refused, Settings, Starts};
 use std::error::Error;
+use std::fmt::Debug;
 use std::io::Read;
 
 fn settings(words: &[String]) -> Result<Settings, Box<dyn Error>> {
@@ -53,8 +54,8 @@ fn question(sizes: &precopy::Sizes, settings: &Settings) -> Question {
     }
 }
 
-fn print_prediction(trace: &[u8], question: &Question) -> Result<(), Refused> {
-    let it = precopy::predict(trace, question)?;
+fn print_prediction(trace: &OpenTrace, question: &Question) -> Result<(), Refused> {
+    let it = trace.predict(question)?;
     println!(
         "plan {} {:?} {} {} {} {}",
         it.rounds, it.reason, it.stop, it.down, it.total, it.left
@@ -72,8 +73,8 @@ fn print_prediction(trace: &[u8], question: &Question) -> Result<(), Refused> {
     print_amounts(trace, question)
 }
 
-fn print_agreement(trace: &[u8], question: &Question) -> Result<(), Refused> {
-    let it = precopy::agreement(trace, question)?;
+fn print_agreement(trace: &OpenTrace, question: &Question) -> Result<(), Refused> {
+    let it = trace.agreement(question)?;
     println!(
         "agreement {} {} {} {} {} {} {} {:?} {:?}",
         it.draws,
@@ -90,26 +91,26 @@ fn print_agreement(trace: &[u8], question: &Question) -> Result<(), Refused> {
 }
 
 /// What comes of it like QEMU, and the shares of the link.
-fn print_forecast(trace: &[u8], question: &Question) -> Result<(), Refused> {
-    let it = precopy::forecast(trace, question)?;
+fn print_forecast(trace: &OpenTrace, question: &Question) -> Result<(), Refused> {
+    let it = trace.forecast(question)?;
     println!(
         "like QEMU {:?} {} {} {} {} {} {:?}",
         it.end, it.looks, it.time, it.bytes, it.left, it.downtime, it.kept
     );
-    let found = precopy::link_shares(trace, question)?;
+    let found = trace.link_shares(question)?;
     let below = found.below.map_or("-".to_string(), |verdict| format!("{verdict:?}"));
     println!("shares {:?} {} {below}", found.converges, found.percent);
     Ok(())
 }
 
 /// The best of at most eleven starts.
-fn print_best_start(trace: &[u8], question: &Question) -> Result<(), Refused> {
-    let recorded = precopy::predict(trace, question)?.recorded / question.tick;
+fn print_best_start(trace: &OpenTrace, question: &Question) -> Result<(), Refused> {
+    let recorded = trace.predict(question)?.recorded / question.tick;
     let starts = Starts {
         to: None,
         every: Some(recorded / 10),
     };
-    match precopy::best_start(trace, question, &starts)? {
+    match trace.best_start(question, &starts)? {
         Some(it) => println!(
             "best {} {} {} {} {} {:?} {} {:?}",
             it.start,
@@ -126,8 +127,8 @@ fn print_best_start(trace: &[u8], question: &Question) -> Result<(), Refused> {
     Ok(())
 }
 
-fn print_amounts(trace: &[u8], question: &Question) -> Result<(), Refused> {
-    let it = precopy::enough(trace, question)?;
+fn print_amounts(trace: &OpenTrace, question: &Question) -> Result<(), Refused> {
+    let it = trace.enough(question)?;
     let word = |amount: Option<u64>| amount.map_or("-".to_string(), |amount| amount.to_string());
     println!(
         "enough {} {} {} {} {} {} {}",
@@ -144,9 +145,8 @@ fn print_amounts(trace: &[u8], question: &Question) -> Result<(), Refused> {
 
 /// What is wrong in streams of the frames of the memory at the stop: all of them, without the first, with another stamp
 /// in the first, and without the last byte, in pieces.
-fn print_findings(trace: &[u8], stop: u32, memory: &[u8]) -> Result<(), Refused> {
-    let sizes = precopy::check_trace(trace)?;
-    let opened = precopy::OpenTrace::open(trace)?;
+fn print_findings(trace: &[u8], opened: &OpenTrace, stop: u32, memory: &[u8]) -> Result<(), Refused> {
+    let sizes = opened.sizes();
     let (mut stream, mut first) = (Vec::new(), 0);
     for (page, content) in (0..sizes.pages()).zip(memory.chunks(sizes.page_length())) {
         let stamp = opened.version_after(page, stop)?;
@@ -175,26 +175,30 @@ fn print_finding(found: Option<precopy::Finding>) {
     }
 }
 
-fn print_plan(trace: &[u8], settings: &Settings) -> Result<(), Refused> {
-    let sizes = precopy::check_trace(trace)?;
-    println!("sizes {} {} {}", sizes.shift(), sizes.pages(), sizes.writes());
-    let sums = precopy::plan(trace, settings)?;
+/// Returns an answer that comes in two ways, as over a trace's bytes and over the open trace.
+fn same<T: Debug + PartialEq>(one: T, other: T) -> T {
+    assert_eq!(one, other);
+    one
+}
+
+fn print_plan(trace: &[u8], opened: &OpenTrace, settings: &Settings) -> Result<(), Refused> {
+    let sums = same(precopy::plan(trace, settings), opened.plan(settings))?;
     println!(
         "sums {} {:?} {} {} {}",
         sums.rounds, sums.reason, sums.stop, sums.down, sums.total
     );
-    for it in precopy::rounds(trace, settings)? {
+    for it in opened.rounds(settings)? {
         println!(
             "round {} {} {} {} {} {}",
             it.from, it.to, it.rate, it.pages, it.sent, it.dirtied
         );
     }
-    print!("{}", precopy::report(trace, settings)?);
+    print!("{}", same(precopy::report(trace, settings), opened.report(settings))?);
     let skipping = Settings {
         skip: !settings.skip,
         ..*settings
     };
-    let sweep = precopy::sweep(trace, &[*settings, skipping])?;
+    let sweep = opened.sweep(&[*settings, skipping])?;
     for it in &sweep.sums {
         println!(
             "case {} {:?} {} {} {}",
@@ -203,19 +207,27 @@ fn print_plan(trace: &[u8], settings: &Settings) -> Result<(), Refused> {
     }
     println!("best {}", sweep.best);
     println!("memory {}", hex(&precopy::memory(trace)?));
-    let memory = precopy::memory_before(trace, sums.stop)?;
+    let memory = opened.memory_before(sums.stop)?;
     println!("before {}", hex(&memory));
-    print_findings(trace, precopy::writes_before(trace, sums.stop)?, &memory)?;
-    let asked = question(&sizes, settings);
-    print_prediction(trace, &asked)?;
-    print_prediction(trace, &Question { clark: true, ..asked })
+    print_findings(trace, opened, opened.writes_before(sums.stop)?, &memory)?;
+    let asked = question(&opened.sizes(), settings);
+    print_prediction(opened, &asked)?;
+    print_prediction(opened, &Question { clark: true, ..asked })
+}
+
+fn print_answers(trace: &[u8], settings: &Settings) -> Result<(), Refused> {
+    let opened = OpenTrace::open(trace);
+    let told = opened.as_ref().map(OpenTrace::sizes).map_err(|refused| *refused);
+    let sizes = same(precopy::check_trace(trace), told)?;
+    println!("sizes {} {} {}", sizes.shift(), sizes.pages(), sizes.writes());
+    print_plan(trace, &opened?, settings)
 }
 
 fn main() -> Result<(), Box<dyn Error>> {
     let words: Vec<String> = std::env::args().skip(1).collect();
     let (settings, mut trace) = (settings(&words)?, Vec::new());
     std::io::stdin().read_to_end(&mut trace)?;
-    if let Err(refused) = print_plan(&trace, &settings) {
+    if let Err(refused) = print_answers(&trace, &settings) {
         println!("refused {} {refused}", refused.status().number());
     }
     Ok(())

@@ -43,6 +43,36 @@ pub struct Sums {
 
 #[repr(C)]
 #[derive(Clone, Copy, Default)]
+pub struct Frame {
+    pub page: u32,
+    pub stamp: u32,
+    pub size: usize,
+}
+
+#[repr(C)]
+#[derive(Clone, Copy, Default)]
+pub struct Finding {
+    pub stream: usize,
+    pub frame: usize,
+    pub offset: usize,
+    pub tick: u64,
+    pub page: u32,
+    pub stamp: u32,
+    pub wanted: u32,
+    pub missing: u32,
+}
+
+#[repr(C)]
+#[derive(Clone, Copy, Default)]
+pub struct Progress {
+    pub stream: usize,
+    pub frames: usize,
+    pub bytes: usize,
+    pub stop: u32,
+}
+
+#[repr(C)]
+#[derive(Clone, Copy, Default)]
 pub struct Question {
     pub size: u64,
     pub link: u64,
@@ -165,36 +195,6 @@ pub struct BestStart {
 
 #[repr(C)]
 #[derive(Clone, Copy, Default)]
-pub struct Frame {
-    pub page: u32,
-    pub stamp: u32,
-    pub size: usize,
-}
-
-#[repr(C)]
-#[derive(Clone, Copy, Default)]
-pub struct Finding {
-    pub stream: usize,
-    pub frame: usize,
-    pub offset: usize,
-    pub tick: u64,
-    pub page: u32,
-    pub stamp: u32,
-    pub wanted: u32,
-    pub missing: u32,
-}
-
-#[repr(C)]
-#[derive(Clone, Copy, Default)]
-pub struct Progress {
-    pub stream: usize,
-    pub frames: usize,
-    pub bytes: usize,
-    pub stop: u32,
-}
-
-#[repr(C)]
-#[derive(Clone, Copy, Default)]
 pub struct Recording {
     pub length: usize,
     pub last_tick: u64,
@@ -216,28 +216,12 @@ extern "C" {
     ) -> u32;
     pub fn precopy_abi() -> u32;
     pub fn precopy_check_trace(trace: *const u8, trace_length: usize, sizes: *mut Sizes, record: *mut u32) -> u32;
-    pub fn precopy_writes_before(
-        trace: *const u8,
-        trace_length: usize,
-        tick: u64,
-        count: *mut u32,
-        record: *mut u32,
-    ) -> u32;
     pub fn precopy_check_settings(settings: *const Settings) -> u32;
     pub fn precopy_plan(
         trace: *const u8,
         trace_length: usize,
         settings: *const Settings,
         sums: *mut Sums,
-        record: *mut u32,
-    ) -> u32;
-    pub fn precopy_rounds(
-        trace: *const u8,
-        trace_length: usize,
-        settings: *const Settings,
-        rounds: *mut Round,
-        rounds_length: usize,
-        count: *mut usize,
         record: *mut u32,
     ) -> u32;
     pub fn precopy_report(
@@ -249,94 +233,12 @@ extern "C" {
         needed: *mut usize,
         record: *mut u32,
     ) -> u32;
-    pub fn precopy_sweep(
-        trace: *const u8,
-        trace_length: usize,
-        cases: *const Settings,
-        cases_length: usize,
-        sums: *mut Sums,
-        sums_length: usize,
-        best: *mut usize,
-        record: *mut u32,
-    ) -> u32;
-    pub fn precopy_predict(
-        trace: *const u8,
-        trace_length: usize,
-        question: *const Question,
-        prediction: *mut Prediction,
-        errors: *mut Errors,
-        record: *mut u32,
-    ) -> u32;
-    pub fn precopy_agreement(
-        trace: *const u8,
-        trace_length: usize,
-        question: *const Question,
-        agreement: *mut Agreement,
-        record: *mut u32,
-    ) -> u32;
-    pub fn precopy_enough(
-        trace: *const u8,
-        trace_length: usize,
-        question: *const Question,
-        amounts: *mut Amounts,
-        record: *mut u32,
-    ) -> u32;
-    pub fn precopy_forecast(
-        trace: *const u8,
-        trace_length: usize,
-        question: *const Question,
-        forecast: *mut Forecast,
-        record: *mut u32,
-    ) -> u32;
-    pub fn precopy_link_shares(
-        trace: *const u8,
-        trace_length: usize,
-        question: *const Question,
-        shares: *mut LinkShares,
-        record: *mut u32,
-    ) -> u32;
-    pub fn precopy_best_start(
-        trace: *const u8,
-        trace_length: usize,
-        question: *const Question,
-        starts: *const Starts,
-        best: *mut BestStart,
-        errors: *mut Errors,
-        record: *mut u32,
-    ) -> u32;
     pub fn precopy_memory(
         trace: *const u8,
         trace_length: usize,
         memory: *mut u8,
         memory_length: usize,
         needed: *mut usize,
-        record: *mut u32,
-    ) -> u32;
-    pub fn precopy_memory_before(
-        trace: *const u8,
-        trace_length: usize,
-        tick: u64,
-        memory: *mut u8,
-        memory_length: usize,
-        needed: *mut usize,
-        record: *mut u32,
-    ) -> u32;
-    pub fn precopy_memory_step(
-        trace: *const u8,
-        trace_length: usize,
-        from: u32,
-        to: u32,
-        memory: *mut u8,
-        memory_length: usize,
-        record: *mut u32,
-    ) -> u32;
-    pub fn precopy_page_writes(
-        trace: *const u8,
-        trace_length: usize,
-        page: u32,
-        writes: *mut Write,
-        writes_length: usize,
-        count: *mut usize,
         record: *mut u32,
     ) -> u32;
     pub fn precopy_encode_frame(
@@ -395,6 +297,20 @@ extern "C" {
         memory: *mut u8,
         memory_length: usize,
         needed: *mut usize,
+    ) -> u32;
+    pub fn precopy_trace_memory_step(
+        trace: *const Trace,
+        from: u32,
+        to: u32,
+        memory: *mut u8,
+        memory_length: usize,
+    ) -> u32;
+    pub fn precopy_trace_page_writes(
+        trace: *const Trace,
+        page: u32,
+        writes: *mut Write,
+        writes_length: usize,
+        count: *mut usize,
     ) -> u32;
     pub fn precopy_trace_version_after(trace: *const Trace, page: u32, count: u32, version: *mut u32) -> u32;
     pub fn precopy_trace_versions_after(
@@ -466,6 +382,46 @@ extern "C" {
         room: *mut u8,
         room_length: usize,
         found: *mut Finding,
+    ) -> u32;
+    pub fn precopy_trace_plan(trace: *const Trace, settings: *const Settings, sums: *mut Sums) -> u32;
+    pub fn precopy_trace_report(
+        trace: *const Trace,
+        settings: *const Settings,
+        text: *mut u8,
+        text_length: usize,
+        needed: *mut usize,
+    ) -> u32;
+    pub fn precopy_trace_rounds(
+        trace: *const Trace,
+        settings: *const Settings,
+        rounds: *mut Round,
+        rounds_length: usize,
+        count: *mut usize,
+    ) -> u32;
+    pub fn precopy_trace_sweep(
+        trace: *const Trace,
+        cases: *const Settings,
+        cases_length: usize,
+        sums: *mut Sums,
+        sums_length: usize,
+        best: *mut usize,
+    ) -> u32;
+    pub fn precopy_trace_predict(
+        trace: *const Trace,
+        question: *const Question,
+        prediction: *mut Prediction,
+        errors: *mut Errors,
+    ) -> u32;
+    pub fn precopy_trace_agreement(trace: *const Trace, question: *const Question, agreement: *mut Agreement) -> u32;
+    pub fn precopy_trace_enough(trace: *const Trace, question: *const Question, amounts: *mut Amounts) -> u32;
+    pub fn precopy_trace_forecast(trace: *const Trace, question: *const Question, forecast: *mut Forecast) -> u32;
+    pub fn precopy_trace_link_shares(trace: *const Trace, question: *const Question, shares: *mut LinkShares) -> u32;
+    pub fn precopy_trace_best_start(
+        trace: *const Trace,
+        question: *const Question,
+        starts: *const Starts,
+        best: *mut BestStart,
+        errors: *mut Errors,
     ) -> u32;
     pub fn precopy_record_begin(
         trace: *mut u8,

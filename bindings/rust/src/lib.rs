@@ -4,6 +4,7 @@
 mod calls;
 mod flat;
 mod open_check;
+mod open_plans;
 mod open_trace;
 mod places;
 mod predictions;
@@ -18,15 +19,14 @@ pub use flat::{
 };
 pub use open_check::OpenCheck;
 pub use open_trace::OpenTrace;
-pub use places::{memory_step, page_writes, page_writes_into, Write};
+pub use places::Write;
 pub use predictions::{
-    agreement, best_start, enough, forecast, link_shares, predict, Agreement, Amounts, BestStart, Errors, Forecast,
-    ForecastEnd, LinkShares, Prediction, Question, Starts, Verdict,
+    Agreement, Amounts, BestStart, Errors, Forecast, ForecastEnd, LinkShares, Prediction, Question, Starts, Verdict,
 };
 pub use recordings::Recording;
 pub use refusals::Refused;
 pub use status::Status;
-pub use streams::{check_streams, writes_before, Finding, FramePlace};
+pub use streams::{check_streams, Finding, FramePlace};
 
 use open_trace::Trace;
 use refusals::{checked, checked_buffer, with_record, NO_RECORD};
@@ -43,7 +43,7 @@ pub fn version() -> &'static str {
 }
 
 /// The number of the interface that this crate was written for.
-pub const ABI: u32 = 5;
+pub const ABI: u32 = 6;
 
 /// Returns the number of the library's interface. If it is not [`ABI`], call nothing else.
 pub fn abi() -> u32 {
@@ -243,7 +243,7 @@ pub struct Round {
     pub from: u64,
     /// The first tick after it.
     pub to: u64,
-    /// Its rate.
+    /// Its rate, in pages per 1,000 ticks.
     pub rate: u64,
     /// Its number of pages.
     pub pages: u64,
@@ -276,7 +276,7 @@ pub fn check_trace(trace: &[u8]) -> Result<Sizes, Refused> {
     with_record(record, sizes)
 }
 
-/// Returns the sums of the plan of a trace.
+/// Returns the sums of the plan of a trace. More about a plan, and more plans, are asked of an [`OpenTrace`].
 pub fn plan(trace: &[u8], settings: &Settings) -> Result<Sums, Refused> {
     let mut found = calls::Sums::default();
     let mut record = NO_RECORD;
@@ -285,65 +285,12 @@ pub fn plan(trace: &[u8], settings: &Settings) -> Result<Sums, Refused> {
     with_record(record, checked(status).map(|()| Sums::of(&found)))
 }
 
-/// Writes the rounds of the plan of a trace to the front of a slice, in order, and returns how many there are: at most
-/// [`MOST_ROUNDS`].
-pub fn rounds_into(trace: &[u8], settings: &Settings, rounds: &mut [Round]) -> Result<usize, Refused> {
-    let mut count = 0;
-    let mut record = NO_RECORD;
-    // SAFETY: as in `check_trace`; no other reference reaches the slice that is written.
-    let status = unsafe {
-        calls::precopy_rounds(
-            trace.as_ptr(),
-            trace.len(),
-            &settings.as_c(),
-            rounds.as_mut_ptr(),
-            rounds.len(),
-            &mut count,
-            &mut record,
-        )
-    };
-    with_record(record, checked_buffer(status, count))
-}
-
-/// Returns the rounds of the plan of a trace, in order.
-pub fn rounds(trace: &[u8], settings: &Settings) -> Result<Vec<Round>, Refused> {
-    let mut found = room::filled(MOST_ROUNDS, Round::default())?;
-    let count = rounds_into(trace, settings, &mut found)?;
-    found.truncate(count);
-    Ok(found)
-}
-
-/// Returns the sums of the plan of each case, and which case is the best.
-pub fn sweep(trace: &[u8], cases: &[Settings]) -> Result<Sweep, Refused> {
-    let mut asked = room::empty(cases.len())?;
-    asked.extend(cases.iter().map(Settings::as_c));
-    let (mut found, mut best) = (room::filled(cases.len(), calls::Sums::default())?, 0);
-    let mut record = NO_RECORD;
-    // SAFETY: as in `rounds_into`.
-    let status = unsafe {
-        calls::precopy_sweep(
-            trace.as_ptr(),
-            trace.len(),
-            asked.as_ptr(),
-            asked.len(),
-            found.as_mut_ptr(),
-            found.len(),
-            &mut best,
-            &mut record,
-        )
-    };
-    with_record(record, checked(status))?;
-    let mut sums = room::empty(cases.len())?;
-    sums.extend(found.iter().map(Sums::of));
-    Ok(Sweep { sums, best })
-}
-
 /// Writes the report on a trace to the front of a slice, in ASCII, and returns its length: at most
 /// [`longest_report`].
 pub fn report_into(trace: &[u8], settings: &Settings, text: &mut [u8]) -> Result<usize, Refused> {
     let mut needed = 0;
     let mut record = NO_RECORD;
-    // SAFETY: as in `rounds_into`.
+    // SAFETY: as in `check_trace`; no other reference reaches the slice that is written.
     let status = unsafe {
         calls::precopy_report(
             trace.as_ptr(),
@@ -370,16 +317,21 @@ pub fn longest_report(trace_length: usize) -> usize {
 pub fn report(trace: &[u8], settings: &Settings) -> Result<String, Refused> {
     let mut text = room::zeros(longest_report(trace.len()))?;
     let length = report_into(trace, settings, &mut text)?;
+    Ok(report_at_front(text, length))
+}
+
+/// Returns the report of so many bytes at the front of some text.
+fn report_at_front(mut text: Vec<u8>, length: usize) -> String {
     text.truncate(length);
     text.shrink_to_fit();
-    Ok(String::from_utf8(text).unwrap_or_else(|fault| String::from_utf8_lossy(fault.as_bytes()).into_owned()))
+    String::from_utf8(text).unwrap_or_else(|fault| String::from_utf8_lossy(fault.as_bytes()).into_owned())
 }
 
 /// Writes the memory after all writes of a trace to the front of a slice, and returns its length.
 pub fn memory_into(trace: &[u8], memory: &mut [u8]) -> Result<usize, Refused> {
     let mut needed = 0;
     let mut record = NO_RECORD;
-    // SAFETY: as in `rounds_into`.
+    // SAFETY: as in `report_into`.
     let status = unsafe {
         calls::precopy_memory(
             trace.as_ptr(),
@@ -393,34 +345,8 @@ pub fn memory_into(trace: &[u8], memory: &mut [u8]) -> Result<usize, Refused> {
     with_record(record, checked_buffer(status, needed))
 }
 
-/// Writes the memory before a tick to the front of a slice, and returns its length. A migration that stops its guest at
-/// that tick must leave this memory.
-pub fn memory_before_into(trace: &[u8], tick: u64, memory: &mut [u8]) -> Result<usize, Refused> {
-    let mut needed = 0;
-    let mut record = NO_RECORD;
-    // SAFETY: as in `rounds_into`.
-    let status = unsafe {
-        calls::precopy_memory_before(
-            trace.as_ptr(),
-            trace.len(),
-            tick,
-            memory.as_mut_ptr(),
-            memory.len(),
-            &mut needed,
-            &mut record,
-        )
-    };
-    with_record(record, checked_buffer(status, needed))
-}
-
-/// Returns the memory after all writes of a trace.
+/// Returns the memory after all writes of a trace. [`OpenTrace::memory_before`] returns that before a tick.
 pub fn memory(trace: &[u8]) -> Result<Vec<u8>, Refused> {
     let mut found = room::zeros(check_trace(trace)?.memory_length())?;
     memory_into(trace, &mut found).map(|_| found)
-}
-
-/// Returns the memory before a tick.
-pub fn memory_before(trace: &[u8], tick: u64) -> Result<Vec<u8>, Refused> {
-    let mut found = room::zeros(check_trace(trace)?.memory_length())?;
-    memory_before_into(trace, tick, &mut found).map(|_| found)
 }

@@ -3,6 +3,7 @@
 use crate::refusals::{checked, Refused, NO_RECORD};
 use crate::streams::told;
 use crate::{calls, room, Finding, OpenTrace, Status};
+use std::mem;
 
 /// What is known of one stream.
 struct Stream {
@@ -10,6 +11,8 @@ struct Stream {
     last: Vec<u32>,
     /// The beginning of a frame, whose end did not come. It has room for a whole frame.
     left: Vec<u8>,
+    /// Room for that and the bytes that end the frame.
+    cut: Vec<u8>,
     first: Option<Finding>,
 }
 
@@ -86,6 +89,7 @@ impl<'t> OpenCheck<'t> {
             },
             last: room::filled(sizes.pages() as usize, 0)?,
             left: room::empty(9 + sizes.page_length())?,
+            cut: room::empty(9 + sizes.page_length())?,
             first: None,
         };
         self.streams.try_reserve(1).map_err(|_| Refused::NoMemory)?;
@@ -94,21 +98,41 @@ impl<'t> OpenCheck<'t> {
     }
 
     /// Takes the next bytes of the stream with this number, and returns the first frame in it that is wrong, or `None`.
-    /// It keeps the beginning of a frame at their end, and copies the bytes that come behind one. If it is refused,
-    /// nothing is taken.
+    /// It keeps the beginning of a frame at their end, and copies only what the frame at their front needs. If it is
+    /// refused, nothing is taken.
     pub fn take(&mut self, stream: usize, piece: &[u8]) -> Result<Option<Finding>, Refused> {
         let place = self.place(stream)?;
+        let behind = if self.streams[place].left.is_empty() {
+            piece
+        } else {
+            piece.get(self.take_cut(place, piece)?..).unwrap_or_default()
+        };
+        if self.streams[place].first.is_some() || behind.is_empty() {
+            return Ok(self.streams[place].first);
+        }
+        self.take_behind(place, behind)
+    }
+
+    /// Takes the frame whose beginning was kept, and returns how many of the next bytes that took.
+    fn take_cut(&mut self, place: usize, piece: &[u8]) -> Result<usize, Refused> {
         let stream = &mut self.streams[place];
-        if stream.first.is_some() {
-            return Ok(stream.first);
-        }
-        if stream.left.is_empty() {
-            return self.take_behind(place, piece);
-        }
-        let mut whole = room::empty(stream.left.len() + piece.len())?;
+        let began = stream.left.len();
+        let longest = 9 + self.trace.sizes().page_length();
+        let count = piece.len().min(longest.saturating_sub(began));
+        let mut whole = mem::take(&mut stream.cut);
+        whole.clear();
         whole.extend_from_slice(&stream.left);
-        whole.extend_from_slice(piece);
-        self.take_behind(place, &whole)
+        whole.extend_from_slice(&piece[..count]);
+        let told = self.take_behind(place, &whole);
+        let stream = &mut self.streams[place];
+        stream.cut = whole;
+        told?;
+        if stream.left.len() == began + count {
+            return Ok(count);
+        }
+        let taken = (began + count).saturating_sub(stream.left.len());
+        stream.left.clear();
+        Ok(taken.saturating_sub(began))
     }
 
     /// Takes bytes of a stream that begin where the whole frames that were taken end.

@@ -2,7 +2,6 @@
 
 use crate::refusals::{checked, checked_buffer, with_record, Refused, NO_RECORD};
 use crate::{calls, room, Finding, OpenCheck, Sizes, Status};
-use std::marker::PhantomData;
 
 /// C's `struct precopy_trace`.
 #[repr(C)]
@@ -16,13 +15,14 @@ pub(crate) struct Trace {
     words_length: usize,
 }
 
-/// A trace that stays open: each call over it costs what it answers, and not another pass over the trace. Its bytes are
-/// borrowed, and not copied.
+/// A trace that stays open: each call over it costs what it answers, and not another test of the trace. Its bytes are
+/// borrowed, and not copied. Several threads may ask at once.
 pub struct OpenTrace<'a> {
     shown: Trace,
     /// The index, to which `shown` points.
     _words: Vec<u32>,
-    _bytes: PhantomData<&'a [u8]>,
+    /// The trace, to which it points too.
+    bytes: &'a [u8],
 }
 
 // SAFETY: all calls only read the bytes and the words that `shown` points to.
@@ -34,7 +34,8 @@ unsafe impl Sync for OpenTrace<'_> {}
 type VersionsCall<P> = unsafe extern "C" fn(*const Trace, P, *mut u32, usize, *mut usize) -> u32;
 
 impl<'a> OpenTrace<'a> {
-    /// Opens the trace with these bytes.
+    /// Opens the trace with these bytes, or returns why and at which record they are refused. No later call refuses the
+    /// trace.
     pub fn open(bytes: &'a [u8]) -> Result<OpenTrace<'a>, Refused> {
         let most = (bytes.len().saturating_sub(16) / 16).min(1 << 20);
         let mut words = room::filled(3 * most + (1 << 16), 0)?;
@@ -63,7 +64,7 @@ impl<'a> OpenTrace<'a> {
         Ok(OpenTrace {
             shown,
             _words: words,
-            _bytes: PhantomData,
+            bytes,
         })
     }
 
@@ -71,6 +72,10 @@ impl<'a> OpenTrace<'a> {
     pub fn sizes(&self) -> Sizes {
         let calls::Sizes { shift, pages, writes } = self.shown.sizes;
         Sizes { shift, pages, writes }
+    }
+
+    pub(crate) fn bytes(&self) -> &'a [u8] {
+        self.bytes
     }
 
     pub(crate) fn shown(&self) -> *const Trace {

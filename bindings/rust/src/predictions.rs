@@ -1,7 +1,8 @@
 //! Predictions: what a migration with given limits will be, in time and bytes, and what is enough for its limit.
 
-use crate::refusals::{checked, with_record, Refused, NO_RECORD};
-use crate::{calls, Reason};
+use crate::open_trace::Trace;
+use crate::refusals::{checked, Refused};
+use crate::{calls, OpenTrace, Reason};
 
 /// What is asked of a migration: how much it may take, what ticks and pages of the trace stand for, where it begins,
 /// and by whose plan it goes. Rates are in bytes a second, times in microseconds. `first`, `increment`, `rounds` and
@@ -182,24 +183,6 @@ impl Prediction {
     }
 }
 
-/// Returns what the migration of a trace will be with the limits of a question.
-pub fn predict(trace: &[u8], question: &Question) -> Result<Prediction, Refused> {
-    let (mut found, mut errors) = (calls::Prediction::default(), calls::Errors::default());
-    let mut record = NO_RECORD;
-    // SAFETY: the slice is there for its length; what is written is this function's.
-    let status = unsafe {
-        calls::precopy_predict(
-            trace.as_ptr(),
-            trace.len(),
-            &question.as_c(),
-            &mut found,
-            &mut errors,
-            &mut record,
-        )
-    };
-    with_record(record, checked(status).map(|()| Prediction::of(&found, &errors)))
-}
-
 /// How sure a prediction is: in how many draws of a sample's pages, and from how many starts, it is the same.
 #[derive(Clone, Copy, Debug, PartialEq, Eq)]
 pub struct Agreement {
@@ -239,15 +222,6 @@ impl Agreement {
     }
 }
 
-/// Returns how sure the verdicts on the migration of a trace with the limits of a question are.
-pub fn agreement(trace: &[u8], question: &Question) -> Result<Agreement, Refused> {
-    let (mut found, mut record) = (calls::Agreement::default(), NO_RECORD);
-    // SAFETY: the slice is there for its length; what is written is this function's.
-    let status =
-        unsafe { calls::precopy_agreement(trace.as_ptr(), trace.len(), &question.as_c(), &mut found, &mut record) };
-    with_record(record, checked(status).map(|()| Agreement::of(&found)))
-}
-
 /// What is enough for the downtime limit of a question, each amount by itself, and to end within the trace.
 #[derive(Clone, Copy, Debug, PartialEq, Eq)]
 pub struct Amounts {
@@ -280,16 +254,6 @@ impl Amounts {
             ending_start: given(found.has_ending_start, found.ending_start),
         }
     }
-}
-
-/// Returns whether the migration of a trace keeps the limit of a question, and the least amounts that do: up from what
-/// is asked if it does not, and else down from it; and what ends it within the trace if it does not.
-pub fn enough(trace: &[u8], question: &Question) -> Result<Amounts, Refused> {
-    let (mut found, mut record) = (calls::Amounts::default(), NO_RECORD);
-    // SAFETY: the slice is there for its length; what is written is this function's.
-    let status =
-        unsafe { calls::precopy_enough(trace.as_ptr(), trace.len(), &question.as_c(), &mut found, &mut record) };
-    with_record(record, checked(status).map(|()| Amounts::of(&found)))
 }
 
 /// Why a migration ends whose hypervisor goes on as QEMU does.
@@ -347,15 +311,6 @@ impl Forecast {
     }
 }
 
-/// Returns what the migration of a trace comes to like QEMU, with the limits of a question.
-pub fn forecast(trace: &[u8], question: &Question) -> Result<Forecast, Refused> {
-    let (mut found, mut record) = (calls::Forecast::default(), NO_RECORD);
-    // SAFETY: the slice is there for its length; what is written is this function's.
-    let status =
-        unsafe { calls::precopy_forecast(trace.as_ptr(), trace.len(), &question.as_c(), &mut found, &mut record) };
-    with_record(record, checked(status).map(|()| Forecast::of(&found)))
-}
-
 /// Down to which share of its link a migration has the verdict that it has at all of it.
 #[derive(Clone, Copy, Debug, PartialEq, Eq)]
 pub struct LinkShares {
@@ -375,15 +330,6 @@ impl LinkShares {
             below: (found.below != found.converges).then(|| Verdict::of(found.below)),
         }
     }
-}
-
-/// Returns down to which share of its link the migration of a trace has the verdict that it has at all of it.
-pub fn link_shares(trace: &[u8], question: &Question) -> Result<LinkShares, Refused> {
-    let (mut found, mut record) = (calls::LinkShares::default(), NO_RECORD);
-    // SAFETY: the slice is there for its length; what is written is this function's.
-    let status =
-        unsafe { calls::precopy_link_shares(trace.as_ptr(), trace.len(), &question.as_c(), &mut found, &mut record) };
-    with_record(record, checked(status).map(|()| LinkShares::of(&found)))
 }
 
 /// From which starts a migration is tried: that of its question, and then one after the other, at a fixed spacing. The
@@ -445,22 +391,63 @@ impl BestStart {
     }
 }
 
-/// Returns the best start of the migration of a trace, or none if it ends within the trace from no start. A start that
-/// is likely to keep the limit of the question is better than one that is not.
-pub fn best_start(trace: &[u8], question: &Question, starts: &Starts) -> Result<Option<BestStart>, Refused> {
-    let (mut found, mut errors) = (calls::BestStart::default(), calls::Errors::default());
-    let mut record = NO_RECORD;
-    // SAFETY: the slice is there for its length; what is written is this function's.
-    let status = unsafe {
-        calls::precopy_best_start(
-            trace.as_ptr(),
-            trace.len(),
-            &question.as_c(),
-            &starts.as_c(),
-            &mut found,
-            &mut errors,
-            &mut record,
-        )
-    };
-    with_record(record, checked(status).map(|()| BestStart::of(&found, &errors)))
+/// The form of the calls that write one answer to a question.
+type QuestionCall<A> = unsafe extern "C" fn(*const Trace, *const calls::Question, *mut A) -> u32;
+
+impl OpenTrace<'_> {
+    /// Returns what the migration of the trace will be with the limits of a question. It is an error if the question is
+    /// out of its range, or if the trace has pages of another size than it says, or more than it says were recorded.
+    pub fn predict(&self, question: &Question) -> Result<Prediction, Refused> {
+        let (mut found, mut errors) = (calls::Prediction::default(), calls::Errors::default());
+        // SAFETY: the trace is as it was opened, and what is written is this function's.
+        let status = unsafe { calls::precopy_trace_predict(self.shown(), &question.as_c(), &mut found, &mut errors) };
+        checked(status).map(|()| Prediction::of(&found, &errors))
+    }
+
+    fn answer<A: Default>(&self, call: QuestionCall<A>, question: &Question) -> Result<A, Refused> {
+        let mut found = A::default();
+        // SAFETY: as in `predict`; only calls of the library come here.
+        let status = unsafe { call(self.shown(), &question.as_c(), &mut found) };
+        checked(status).map(|()| found)
+    }
+
+    /// Returns how sure the verdicts on the migration of the trace with the limits of a question are. Its errors are
+    /// those of [`predict`](OpenTrace::predict).
+    pub fn agreement(&self, question: &Question) -> Result<Agreement, Refused> {
+        let found = self.answer(calls::precopy_trace_agreement, question)?;
+        Ok(Agreement::of(&found))
+    }
+
+    /// Returns whether the migration of the trace keeps the limit of a question, and the least amounts that do: up from
+    /// what is asked if it does not, and else down from it; and what ends it within the trace if it does not. Its
+    /// errors are those of [`predict`](OpenTrace::predict).
+    pub fn enough(&self, question: &Question) -> Result<Amounts, Refused> {
+        let found = self.answer(calls::precopy_trace_enough, question)?;
+        Ok(Amounts::of(&found))
+    }
+
+    /// Returns what the migration of the trace comes to like QEMU, with the limits of a question. Its errors are those
+    /// of [`predict`](OpenTrace::predict).
+    pub fn forecast(&self, question: &Question) -> Result<Forecast, Refused> {
+        let found = self.answer(calls::precopy_trace_forecast, question)?;
+        Ok(Forecast::of(&found))
+    }
+
+    /// Returns down to which share of its link the migration of the trace has the verdict that it has at all of it. Its
+    /// errors are those of [`predict`](OpenTrace::predict).
+    pub fn link_shares(&self, question: &Question) -> Result<LinkShares, Refused> {
+        let found = self.answer(calls::precopy_trace_link_shares, question)?;
+        Ok(LinkShares::of(&found))
+    }
+
+    /// Returns the best start of the migration of the trace, or none if it ends within the trace from no start. A start
+    /// that is likely to keep the limit of the question is better than one that is not. Its errors are those of
+    /// [`predict`](OpenTrace::predict), more than 4,096 starts, and a start at tick 2^40 or later.
+    pub fn best_start(&self, question: &Question, starts: &Starts) -> Result<Option<BestStart>, Refused> {
+        let (mut found, mut errors) = (calls::BestStart::default(), calls::Errors::default());
+        let (asked, tried) = (question.as_c(), starts.as_c());
+        // SAFETY: as in `predict`.
+        let status = unsafe { calls::precopy_trace_best_start(self.shown(), &asked, &tried, &mut found, &mut errors) };
+        checked(status).map(|()| BestStart::of(&found, &errors))
+    }
 }

@@ -169,15 +169,6 @@ impl Finding {
 
 impl std::error::Error for Finding {}
 
-/// Returns how many writes of a trace are before a tick.
-pub fn writes_before(trace: &[u8], tick: u64) -> Result<u32, Refused> {
-    let mut count = 0;
-    let mut record = NO_RECORD;
-    // SAFETY: the slice is there for its length; what is written is this function's.
-    let status = unsafe { calls::precopy_writes_before(trace.as_ptr(), trace.len(), tick, &mut count, &mut record) };
-    with_record(record, checked(status).map(|()| count))
-}
-
 /// What a call that finds something returns.
 pub(crate) fn told(status: u32, found: &calls::Finding, record: u32) -> Result<Option<Finding>, Refused> {
     match Finding::of(Status::of(status), found) {
@@ -187,11 +178,12 @@ pub(crate) fn told(status: u32, found: &calls::Finding, record: u32) -> Result<O
 }
 
 /// Returns what is wrong first in the streams of a migration that stops its guest after the first `stop` writes of a
-/// trace, or `None`. `bytes` are those of all streams, one after the other, and `sizes` is how many each has.
+/// trace, or `None`. `bytes` are those of all streams, one after the other, and `sizes` is how many each has. Of a tick
+/// [`OpenTrace::writes_before`](crate::OpenTrace::writes_before) tells how many writes come before it.
 pub fn check_streams(trace: &[u8], stop: u32, bytes: &[u8], sizes: &[usize]) -> Result<Option<Finding>, Refused> {
     let mut found = calls::Finding::default();
     let mut record = NO_RECORD;
-    // SAFETY: as in `writes_before`.
+    // SAFETY: each slice is there for its length; what is written is this function's.
     let status = unsafe {
         calls::precopy_check_streams(
             trace.as_ptr(),

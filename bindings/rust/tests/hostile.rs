@@ -1,6 +1,9 @@
 //! Numbers and bytes that nobody means: each is an answer or a refusal, and no call panics.
 
-use precopy::{FlatMemory, Question, Refused, Settings, Sizes};
+mod guest;
+
+use guest::TRACE;
+use precopy::{FlatMemory, OpenTrace, Question, Refused, Settings, Sizes};
 
 /// Numbers without a pattern, always the same (xorshift).
 struct Numbers(u64);
@@ -58,6 +61,7 @@ fn settings() {
         1 << 63,
         u64::MAX,
     ];
+    let opened = OpenTrace::open(&trace).unwrap();
     let mut numbers = Numbers(62);
     for _ in 0..5000 {
         let mut drawn = || values[numbers.below(10) as usize];
@@ -77,13 +81,17 @@ fn settings() {
         assert!(matches!(checked, Ok(()) | Err(Refused::Settings { .. })));
         assert_eq!(precopy::plan(&trace, &settings).map(|_| ()), checked);
         assert_eq!(precopy::report(&trace, &settings).map(|_| ()), checked);
-        assert_eq!(precopy::sweep(&trace, &[settings]).map(|_| ()), checked);
+        assert_eq!(opened.plan(&settings), precopy::plan(&trace, &settings));
+        assert_eq!(opened.report(&settings), precopy::report(&trace, &settings));
+        assert_eq!(opened.rounds(&settings).map(|_| ()), checked);
+        assert_eq!(opened.sweep(&[settings]).map(|_| ()), checked);
     }
 }
 
 #[test]
 fn questions() {
     let trace = [0x50, 0x43, 0x57, 0x54, 1, 4, 0, 0, 1, 0, 0, 0, 0, 0, 0, 0];
+    let opened = OpenTrace::open(&trace).unwrap();
     let values = [0, 1, 16, 64, 1000, 1 << 20, 1 << 32, u64::MAX];
     let mut numbers = Numbers(64);
     let mut told = [0; 2];
@@ -105,8 +113,8 @@ fn questions() {
             skip: drawn() > 1000,
             clark: drawn() > 1000,
         };
-        let predicted = precopy::predict(&trace, &question);
-        let enough = precopy::enough(&trace, &question);
+        let predicted = opened.predict(&question);
+        let enough = opened.enough(&question);
         assert_eq!(enough.map(|_| ()), predicted.map(|_| ()));
         match predicted {
             Ok(_) => told[0] += 1,
@@ -158,6 +166,38 @@ fn bytes() {
         trace.truncate(length as usize);
         assert_eq!(precopy::memory(&trace).is_ok(), precopy::check_trace(&trace).is_ok());
     }
+}
+
+/// Returns what each call that tests the bytes of a trace says of these: all of them the same.
+fn tested(trace: &[u8]) -> Result<(), Refused> {
+    let (told, settings) = (precopy::check_trace(trace).map(|_| ()), Settings::default());
+    assert_eq!(precopy::plan(trace, &settings).map(|_| ()), told);
+    assert_eq!(precopy::report(trace, &settings).map(|_| ()), told);
+    assert_eq!(precopy::memory(trace).map(|_| ()), told);
+    assert_eq!(precopy::check_streams(trace, 3, &[], &[]).map(|_| ()), told);
+    assert_eq!(OpenTrace::open(trace).map(|_| ()), told);
+    told
+}
+
+#[test]
+fn traces() {
+    let (mut numbers, mut told) = (Numbers(65), [0; 2]);
+    for _ in 0..3000 {
+        let mut trace = TRACE;
+        for _ in 0..numbers.below(3) {
+            trace[numbers.below(102) as usize] = numbers.next() as u8;
+        }
+        let length = if numbers.below(4) == 0 { numbers.below(103) } else { 102 };
+        let trace = &trace[..length as usize];
+        told[usize::from(tested(trace).is_ok())] += 1;
+        if let Ok(opened) = OpenTrace::open(trace) {
+            let settings = Settings::default();
+            assert_eq!(opened.plan(&settings), precopy::plan(trace, &settings));
+            assert_eq!(opened.report(&settings), precopy::report(trace, &settings));
+            assert_eq!(opened.memory_before(u64::MAX), precopy::memory(trace));
+        }
+    }
+    assert!(told.iter().all(|&count| 300 < count), "{told:?}");
 }
 
 #[test]

@@ -19,7 +19,7 @@ const SENT: [u8; 118] = [
 #[test]
 fn streams() {
     let check = |bytes: &[u8], sizes: &[usize]| precopy::check_streams(&TRACE, 3, bytes, sizes);
-    assert_eq!(precopy::writes_before(&TRACE, 2500), Ok(3));
+    assert_eq!(OpenTrace::open(&TRACE).unwrap().writes_before(2500), Ok(3));
     assert_eq!(check(&SENT[..93], &[93]), Ok(None));
     assert_eq!(check(&SENT, &[93, 25]), Ok(None));
     let older = Finding::Frame {

@@ -1,90 +1,54 @@
--- Memory on the way through the writes, of which those behind the first `from` and up to `to` count.
-use Rattle.std.proofs.Common.{◌≡◌, ◌≢◌, ℕ, suc, ◌+◌, ◌-◌, ◌*◌, ◌^◌, ◌<◌, ◌≤◌, List, [], ◌∷◌, ◌++◌, length, take, drop}
-use Rattle.std.proofs.Common.{sym, ap, ◌∙◌, arith}
+-- Memory that is brought on, write after write.
+use Rattle.std.proofs.Common.{◌⊎◌, ◌≡◌, ℕ, ◌+◌, ◌*◌, ◌^◌, ◌<◌, ◌≤◌, List, [], ◌++◌, length, take, drop, get_or}
+use Rattle.std.proofs.Common.{inl, inr, refl, sym, ap, ◌∙◌, arith}
 use Rattle.std.specs.List.{fold}
-use Rattle.std.proofs.Math.Seq.{drop-nil, take-nil}
-use Rattle.std.proofs.lemmas.List.{length-replicate, take-append-drop, take-take}
+use Rattle.std.proofs.lemmas.List.{drop_all, get_or-take, get_or_default, length-replicate, length-take}
+use Rattle.std.proofs.lemmas.List.{take-append-drop, take-take}
 use Rattle.std.proofs.lemmas.List.Elements.{All-take}
 use Rattle.std.proofs.lemmas.List.Sums.{fold-append}
 use Rattle.migration_model.specs.Memory.{GuestMemory, apply, bytes_put, image_after, memory_with, put, replay, zeros}
 use Rattle.migration_model.specs.Trace.{GuestTrace, GuestWrite, IsGuestWrite, IsTrace}
-use Rattle.migration_model.proofs.Pages.{length-applied, length-put}
-use Rattle.image_build.proofs.Replays.{write_fits}
+use Rattle.migration_model.proofs.Pages.{length-applied}
+use Rattle.guest_log.specs.Writes.{no_write}
+use Rattle.image_build.proofs.Replays.{Becomes, Becomes-item, write_there}
 use Rattle.c_answers.specs.Places.{IsStep, brought_on}
 
--- the remaining ones of these writes, after `place` writes
-abbrev pub left_in : ℕ → ℕ → ℕ → List GuestWrite → List GuestWrite
-left_in from to place left = drop (from - place) (take (to - place) left)
+-- the writes up to the first `to`, from an index on
+abbrev pub left_to : GuestTrace → ℕ → ℕ → List GuestWrite
+left_to trace to index = drop index (take to trace.writes)
 
--- Memory so far, which they turn into the whole.
-pub record Steps (shift pages from to place : ℕ) (memory : List ℕ) (left : List GuestWrite) (whole : List ℕ)
-    : Type 0 where
-  pub len : length memory ≡ pages * 2 ^ shift
-  pub early : place ≤ to
-  pub rest : (fold apply (memory_with shift pages memory) (left_in from to place left)).bytes ≡ whole
+-- memory with these bytes, after the writes behind the first `from` and up to the first `to`
+abbrev pub whole_after : GuestTrace → ℕ → ℕ → List ℕ → GuestMemory
+whole_after trace from to bytes = fold apply (memory_with trace.shift trace.pages bytes) (left_to trace to from)
 
-pub Steps-start : (trace : GuestTrace) (shift pages from to : ℕ) (memory : List ℕ)
-    → shift ≡ trace.shift → pages ≡ trace.pages → length memory ≡ trace.pages * 2 ^ trace.shift
-    → Steps shift pages from to 0 memory trace.writes (brought_on trace from to memory)
-Steps-start trace shift pages from to memory shift_is pages_is len =
-    let first : from - 0 ≡ from = omega arith in
-    let last : to - 0 ≡ to = omega arith in
-    record {
-      len = len ∙ sym (λ i. pages_is i * 2 ^ shift_is i);
-      early = omega arith;
-      rest = (λ i. (fold apply (memory_with (shift_is i) (pages_is i) memory)
-          (drop (first i) (take (last i) trace.writes))).bytes);
-    }
+pub Steps-start : (trace : GuestTrace) (from to : ℕ) (memory : List ℕ) → length memory ≡ trace.pages * 2 ^ trace.shift
+    → Becomes trace.shift trace.pages memory (left_to trace to from) (whole_after trace from to memory)
+Steps-start trace from to memory len = record { len = len; rest = refl }
 
-pub Steps-put : (version shift pages from to place : ℕ) (memory next : List ℕ) (write : GuestWrite)
-    (left : List GuestWrite) (whole : List ℕ)
-    → Steps shift pages from to place memory (write ∷ left) whole → place ≢ to → from ≤ place
-    → IsGuestWrite version shift pages write
-    → next ≡ put memory (write.page * 2 ^ shift + write.offset) (bytes_put shift write)
-    → Steps shift pages from to (place + 1) next left whole
-Steps-put version shift pages from to place memory next write left whole before more behind fits is =
-    let one : to - place ≡ suc (to - (place + 1)) = omega (arith, before.early, more) in
-    let none : from - place ≡ 0 = omega (arith, behind) in
-    let still : from - (place + 1) ≡ 0 = omega (arith, behind) in
-    let at : ℕ = write.page * 2 ^ shift + write.offset in
-    record {
-      len = ap length is ∙ length-put memory at (bytes_put shift write)
-          (write_fits version shift pages memory write before.len fits) ∙ before.len;
-      early = omega (arith, before.early, more);
-      rest = (λ i. (fold apply (memory_with shift pages (is i)) (drop (still i) (take (to - (place + 1)) left))).bytes)
-          ∙ sym (λ i. (fold apply (memory_with shift pages memory) (drop (none i) (take (one i) (write ∷ left)))).bytes)
-          ∙ before.rest;
-    }
+pub Steps-next : (trace : GuestTrace) (to index : ℕ) (memory next : List ℕ) (seen : GuestWrite) (whole : GuestMemory)
+    → IsTrace trace → index < to → index < length trace.writes → seen ≡ get_or trace.writes index no_write
+    → Becomes trace.shift trace.pages memory (left_to trace to index) whole
+    → next ≡ put memory (seen.page * 2 ^ trace.shift + seen.offset) (bytes_put trace.shift seen)
+    → Becomes trace.shift trace.pages next (left_to trace to (index + 1)) whole
+Steps-next trace to index memory next seen whole is low inside at before puts =
+    let items : List GuestWrite = take to trace.writes in
+    let there : index < length items = omega (arith, low, inside, length-take to trace.writes) in
+    let here : seen ≡ get_or items index no_write = at ∙ sym (get_or-take to trace.writes index no_write low) in
+    Becomes-item trace.version trace.shift trace.pages memory next items index seen seen whole
+    before there (here ∙ get_or_default items index no_write seen there) refl
+    (write_there trace index seen is inside at) puts
 
-pub Steps-skip : (shift pages from to place : ℕ) (memory : List ℕ) (write : GuestWrite) (left : List GuestWrite)
-    (whole : List ℕ)
-    → Steps shift pages from to place memory (write ∷ left) whole → place ≢ to → place < from
-    → Steps shift pages from to (place + 1) memory left whole
-Steps-skip shift pages from to place memory write left whole before more ahead =
-    let one : to - place ≡ suc (to - (place + 1)) = omega (arith, before.early, more) in
-    let some : from - place ≡ suc (from - (place + 1)) = omega (arith, ahead) in
-    record {
-      len = before.len;
-      early = omega (arith, before.early, more);
-      rest = sym (λ i. (fold apply (memory_with shift pages memory)
-          (drop (some i) (take (one i) (write ∷ left)))).bytes) ∙ before.rest;
-    }
-
-pub Steps-counted : (shift pages from to place : ℕ) (memory : List ℕ) (left : List GuestWrite) (whole : List ℕ)
-    → Steps shift pages from to place memory left whole → place ≡ to → memory ≡ whole
-Steps-counted shift pages from to place memory left whole before all =
-    let none : to - place ≡ 0 = omega (arith, all) in
-    sym (ap (λ (n : ℕ). (fold apply (memory_with shift pages memory) (drop (from - place) (take n left))).bytes) none
-    ∙ ap (λ (l : List GuestWrite). (fold apply (memory_with shift pages memory) l).bytes) (drop-nil (from - place)))
-    ∙ before.rest
-
-pub Steps-end : (shift pages from to place : ℕ) (memory whole : List ℕ)
-    → Steps shift pages from to place memory [] whole → memory ≡ whole
-Steps-end shift pages from to place memory whole before =
-    sym (ap (λ (l : List GuestWrite). (fold apply (memory_with shift pages memory) (drop (from - place) l)).bytes)
-    (take-nil (to - place))
-    ∙ ap (λ (l : List GuestWrite). (fold apply (memory_with shift pages memory) l).bytes) (drop-nil (from - place)))
-    ∙ before.rest
+pub Steps-end : (trace : GuestTrace) (to index : ℕ) (memory : List ℕ) (whole : GuestMemory)
+    → (to ≤ index) ⊎ (length trace.writes ≤ index)
+    → Becomes trace.shift trace.pages memory (left_to trace to index) whole → memory ≡ whole.bytes
+Steps-end trace to index memory whole past before =
+    let items : List GuestWrite = take to trace.writes in
+    let none : left_to trace to index ≡ [] = elim past [
+      | inl early ↦ drop_all index items (omega (arith, early, length-take to trace.writes))
+      | inr all ↦ drop_all index items (omega (arith, all, length-take to trace.writes))
+    ] in
+    ap (λ (m : GuestMemory). m.bytes)
+    (sym (ap (fold apply (memory_with trace.shift trace.pages memory)) none) ∙ before.rest)
 
 -- memory after the first `from` writes becomes that after the first `to`
 pub step_on : (trace : GuestTrace) (from to : ℕ) (memory : List ℕ) → IsTrace trace → from ≤ to

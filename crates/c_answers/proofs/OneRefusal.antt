@@ -24,9 +24,9 @@ use Rattle.c_answers.specs.declared.settings.SizedSettings.{SizedSettings}
 use Rattle.c_answers.specs.declared.sizes.GuestSizes.{GuestSizes}
 use Rattle.c_answers.specs.FlatMemory.{RefusesFlat}
 use Rattle.c_answers.specs.Frames.{BeginsWithFrame, RefusesDecoding, RefusesEncoding}
-use Rattle.c_answers.specs.Plans.{RefusesPlan, RefusesTouches}
+use Rattle.c_answers.specs.Plans.{LacksPlan, RefusesPlan, RefusesTouches}
 use Rattle.c_answers.specs.Settings.{AreGiven, RefusesSettings, settings_in, shape_in, shape_refusal}
-use Rattle.c_answers.specs.Sweeps.{RefusesCase, RefusesSweep}
+use Rattle.c_answers.specs.Sweeps.{LacksSweep, RefusesCase}
 
 -- ---- settings
 
@@ -117,6 +117,12 @@ one_plan bytes s a b x y = elim (plan_parts bytes s a x) [
   ]
 ]
 
+pub one_open_plan : (s : SizedSettings) (a b : Refusal) → LacksPlan s a → LacksPlan s b → a ≡ b
+one_open_plan s a b (inl x) (inl y) = one_settings s a b x y
+one_open_plan s a b (inl x) (inr y) = absurd (settings_not s a x y.0)
+one_open_plan s a b (inr x) (inl y) = absurd (settings_not s b y x.0)
+one_open_plan s a b (inr x) (inr y) = x.1 ∙ sym y.1
+
 -- ---- the first case
 
 first_given : (before after : List SizedSettings) (s : SizedSettings) → All AreGiven (before ++ s ∷ after) → AreGiven s
@@ -151,31 +157,11 @@ case_not : (cases : List SizedSettings) (r : Refusal) → RefusesCase cases r �
 case_not cases r is all =
     settings_not is.case r is.refused (first_given is.before is.after is.case (subst (All AreGiven) is.parts all))
 
-sweep_parts : (bytes : List ℕ) (cases : List SizedSettings) (r : Refusal) → RefusesSweep bytes cases r
-    → RefusesCase cases r ⊎ (All AreGiven cases × RefusesTouches bytes r)
-sweep_parts bytes cases (refusals.Trace e) is = inr is
-sweep_parts bytes cases refusals.SettingsSize is = inl is
-sweep_parts bytes cases (refusals.Settings e) is = inl is
-sweep_parts bytes cases (refusals.Frame e) is = absurd is
-sweep_parts bytes cases refusals.Memory is = inr (is.0, (is.1, is.2))
-sweep_parts bytes cases refusals.ShortBuffer is = absurd is
-sweep_parts bytes cases refusals.PageLength is = absurd is
-sweep_parts bytes cases refusals.MemoryLength is = absurd is
-sweep_parts bytes cases refusals.PageCount is = absurd is
-sweep_parts bytes cases refusals.PageMissing is = absurd is
-
-pub one_sweep : (bytes : List ℕ) (cases : List SizedSettings) (a b : Refusal) → RefusesSweep bytes cases a
-    → RefusesSweep bytes cases b → a ≡ b
-one_sweep bytes cases a b x y = elim (sweep_parts bytes cases a x) [
-  | inl p ↦ elim (sweep_parts bytes cases b y) [
-    | inl q ↦ one_case cases a b p q
-    | inr q ↦ absurd (case_not cases a p q.0)
-  ]
-  | inr p ↦ elim (sweep_parts bytes cases b y) [
-    | inl q ↦ absurd (case_not cases b q p.0)
-    | inr q ↦ one_touches bytes a b p.1 q.1
-  ]
-]
+pub one_sweep : (cases : List SizedSettings) (a b : Refusal) → LacksSweep cases a → LacksSweep cases b → a ≡ b
+one_sweep cases a b (inl x) (inl y) = one_case cases a b x y
+one_sweep cases a b (inl x) (inr y) = absurd (case_not cases a x y.0)
+one_sweep cases a b (inr x) (inl y) = absurd (case_not cases b y x.0)
+one_sweep cases a b (inr x) (inr y) = x.1 ∙ sym y.1
 
 -- ---- sizes and frames
 

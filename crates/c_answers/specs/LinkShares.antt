@@ -1,7 +1,7 @@
 -- What C sees of the shares of a link that have one verdict. Why there is nothing to tell is as for a prediction.
-use Rattle.std.specs.Prelude.{◌≡◌, ℕ, List}
+use Rattle.std.specs.Prelude.{◌≡◌}
 use Rattle.migration_model.specs.Touches.{GuestTouches, touches_in}
-use Rattle.migration_model.specs.Trace.{GuestTrace, Spells}
+use Rattle.migration_model.specs.Trace.{GuestTrace}
 use Rattle.predictions.specs.Questions.{Fits, scale_in}
 use Rattle.predictions.specs.Remedies.Questions.{trial_in}
 use Rattle.predictions.specs.Remedies.Trials.{MigrationTrial}
@@ -17,9 +17,7 @@ pub record AreSharesOver (trial : MigrationTrial) (log : GuestTouches) (numbers 
   pub is_share : IsLinkShare (VerdictAt log.pages log.touches trial) found
   pub numbers_are : numbers ≡ share_numbers found
 
--- they say so of a question over the trace that these bytes encode, which has the question's scale
-pub record AreSharesOf (bytes : List ℕ) (q : Question) (numbers : ShareNumbers) : Type 0 where
-  pub trace : GuestTrace
-  pub spells : Spells bytes trace
+-- they say so of a question over a trace that has the question's scale
+pub record AreSharesOf (trace : GuestTrace) (q : Question) (numbers : ShareNumbers) : Type 0 where
   pub fits : Fits (scale_in q) trace.shift trace.pages
   pub are_shares : AreSharesOver (trial_in q) (touches_in trace) numbers

@@ -25,7 +25,6 @@ abbrev pub LacksVersion : GuestTrace → ℕ → ℕ → ℕ → PlaceRefusal �
 LacksVersion trace page stamp room refusals.NoPage = trace.pages ≤ page
 LacksVersion trace page stamp room refusals.NoVersion = (page < trace.pages) × (version_after trace page stamp ≢ stamp)
 LacksVersion trace page stamp room refusals.ShortBuffer = IsVersion trace page stamp × (room < 2 ^ trace.shift)
-LacksVersion trace page stamp room (refusals.Trace e) = ⊥
 LacksVersion trace page stamp room refusals.Backwards = ⊥
 LacksVersion trace page stamp room refusals.MemoryLength = ⊥
 

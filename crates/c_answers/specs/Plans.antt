@@ -1,5 +1,5 @@
 -- What C sees of plans and reports, and why there is none.
-use Rattle.std.specs.Prelude.{◌≡◌, ◌≢◌, ℕ, List, Some}
+use Rattle.std.specs.Prelude.{◌≡◌, ◌≢◌, ◌⊎◌, ℕ, List, Some}
 use Rattle.migration_model.specs.Trace.{GuestTrace, Spells}
 use Rattle.migration_model.specs.Touches.{touches_of}
 use Rattle.migration_model.specs.Rates.{MigrationSettings}
@@ -10,7 +10,7 @@ use Rattle.sweep_report.specs.Reports.{IsReport}
 use Rattle.c_answers.specs.declared.answers.Refusal.{Refusal}
 use Rattle.c_answers.specs.declared.answers.Refusal.TheVariants as refusals
 use Rattle.c_answers.specs.declared.settings.SizedSettings.{SizedSettings}
-use Rattle.c_answers.specs.Settings.{AreGiven, settings_in}
+use Rattle.c_answers.specs.Settings.{AreGiven, RefusesSettings, settings_in}
 
 -- the plan of the trace that these bytes encode
 pub record IsPlanOf (bytes : List ℕ) (settings : MigrationSettings) (plan : MigrationPlan) : Type 0 where
@@ -49,3 +49,7 @@ RefusesPlan bytes s refusals.PageLength = ⊥
 RefusesPlan bytes s refusals.MemoryLength = ⊥
 RefusesPlan bytes s refusals.PageCount = ⊥
 RefusesPlan bytes s refusals.PageMissing = ⊥
+
+-- no plan or report of an open trace is made: the settings are refused, or else memory ran out
+abbrev pub LacksPlan : SizedSettings → Refusal → Type 0
+LacksPlan s refusal = RefusesSettings s refusal ⊎ (AreGiven s × (refusal ≡ refusals.Memory))

@@ -1,8 +1,8 @@
 -- What C sees of predictions, and why there is none.
-use Rattle.std.specs.Prelude.{◌≡◌, ◌≢◌, ℕ, List, Option}
-use Rattle.c_layout.specs.Refusals.{number_of_misfit, number_of_trace, number_of_units, record_after}
+use Rattle.std.specs.Prelude.{◌≡◌, ◌≢◌, ℕ, Option}
+use Rattle.c_layout.specs.Refusals.{number_of_misfit, number_of_units}
 use Rattle.migration_model.specs.Touches.{GuestTouches, touches_in, touches_of}
-use Rattle.migration_model.specs.Trace.{GuestTrace, Spells}
+use Rattle.migration_model.specs.Trace.{GuestTrace}
 use Rattle.predictions.specs.Questions.{AcceptsQuestion, Fits, IsMisfit, RefusesQuestion, error_numbers, scale_in}
 use Rattle.predictions.specs.Questions.{terms_of}
 use Rattle.predictions.specs.Questions.Answers.{IsAnswer}
@@ -11,7 +11,6 @@ use Rattle.predictions.specs.declared.answer.ErrorNumbers.{ErrorNumbers}
 use Rattle.predictions.specs.declared.question.Question.{Question}
 use Rattle.predictions.specs.declared.question.Terms.{Terms}
 use Rattle.predictions.specs.Redrawn.Errors.{AreErrors, SampleErrors}
-use Rattle.trace_codec.specs.Refusals.{RefusesUnlessMemory}
 use Rattle.c_answers.specs.declared.inquiries.Inquiry.{Inquiry}
 use Rattle.c_answers.specs.declared.questions.QuestionRefusal.{QuestionRefusal}
 use Rattle.c_answers.specs.declared.questions.QuestionRefusal.TheVariants as refusals
@@ -20,32 +19,20 @@ use Rattle.c_answers.specs.declared.questions.SizedQuestion.{SizedQuestion}
 abbrev pub number_of_question : QuestionRefusal → ℕ
 number_of_question refusals.Size = 31
 number_of_question (refusals.Units e) = number_of_units e
-number_of_question (refusals.Trace e) = number_of_trace e
 number_of_question (refusals.Misfit e) = number_of_misfit e
 number_of_question refusals.Memory = 16
 
-abbrev pub record_of_question : QuestionRefusal → ℕ → ℕ
-record_of_question refusals.Size old = old
-record_of_question (refusals.Units e) old = old
-record_of_question (refusals.Trace e) old = record_after e old
-record_of_question (refusals.Misfit e) old = old
-record_of_question refusals.Memory old = old
-
--- this is the number of a refusal for which that holds, and its record is told
-abbrev pub IsToldOf : ℕ → ℕ → ℕ → (QuestionRefusal → Type 0) → Type 0
-IsToldOf number old new Holds = (refusal : QuestionRefusal) × (number ≡ number_of_question refusal)
-    × (new ≡ record_of_question refusal old) × Holds refusal
+-- this is the number of a refusal for which that holds
+abbrev pub IsNumberOfQuestion : ℕ → (QuestionRefusal → Type 0) → Type 0
+IsNumberOfQuestion number Holds = (refusal : QuestionRefusal) × (number ≡ number_of_question refusal) × Holds refusal
 
 -- the struct is as long as this library knows it, and the question is not refused
 abbrev pub IsAsked : SizedQuestion → Type 0
 IsAsked asked = (asked.size ≡ 128) × AcceptsQuestion asked.question
 
--- a question that may be asked, what it comes to, and the touches of the trace that these bytes encode, which has the
--- question's scale
-pub record IsInquiry (bytes : List ℕ) (asked : SizedQuestion) (inquiry : Inquiry) : Type 0 where
+-- a question that may be asked of a trace, what it comes to, and the touches of the trace, which has its scale
+pub record IsInquiry (trace : GuestTrace) (asked : SizedQuestion) (inquiry : Inquiry) : Type 0 where
   pub is_asked : IsAsked asked
-  pub trace : GuestTrace
-  pub spells : Spells bytes trace
   pub fits : Fits (scale_in asked.question) trace.shift trace.pages
   pub terms_are : inquiry.terms ≡ terms_of asked.question
   pub log_is : inquiry.log ≡ touches_in trace
@@ -56,21 +43,18 @@ pub record AreNumbersOver (terms : Terms) (log : GuestTouches) (numbers : ErrorN
   pub are_errors : AreErrors terms.manner log.pages log.touches terms.settings terms.scale errors
   pub numbers_are : numbers ≡ error_numbers errors
 
--- the answer and its standard errors, over the trace that these bytes encode, which has the question's scale
-pub record IsPredictionOf (bytes : List ℕ) (q : Question) (answer : Answer) (numbers : ErrorNumbers) : Type 0 where
-  pub trace : GuestTrace
-  pub spells : Spells bytes trace
+-- the answer and its standard errors, over a trace that has the question's scale
+pub record IsPredictionOf (trace : GuestTrace) (q : Question) (answer : Answer) (numbers : ErrorNumbers)
+    : Type 0 where
   pub fits : Fits (scale_in q) trace.shift trace.pages
   pub answered : IsAnswer (terms_of q) trace.pages (touches_of trace) answer
   pub numbered : AreNumbersOver (terms_of q) (touches_in trace) numbers
 
--- There is no answer: the struct is longer or shorter, or else the question is refused, or else the bytes, or else the
--- trace since it does not have the scale; or memory ran out.
-abbrev pub RefusesPrediction : List ℕ → SizedQuestion → QuestionRefusal → Type 0
-RefusesPrediction bytes asked refusals.Size = asked.size ≢ 128
-RefusesPrediction bytes asked (refusals.Units e) = (asked.size ≡ 128) × RefusesQuestion asked.question e
-RefusesPrediction bytes asked (refusals.Trace e) = IsAsked asked × RefusesUnlessMemory bytes e
-RefusesPrediction bytes asked (refusals.Misfit e) = IsAsked asked × (trace : GuestTrace) × Spells bytes trace
-    × IsMisfit (scale_in asked.question) trace.shift trace.pages e
-RefusesPrediction bytes asked refusals.Memory = IsAsked asked × (trace : GuestTrace) × Spells bytes trace
-    × Fits (scale_in asked.question) trace.shift trace.pages
+-- There is no answer: the struct is longer or shorter, or else the question is refused, or else the trace since it does
+-- not have the scale; or memory ran out.
+abbrev pub RefusesPrediction : GuestTrace → SizedQuestion → QuestionRefusal → Type 0
+RefusesPrediction trace asked refusals.Size = asked.size ≢ 128
+RefusesPrediction trace asked (refusals.Units e) = (asked.size ≡ 128) × RefusesQuestion asked.question e
+RefusesPrediction trace asked (refusals.Misfit e) =
+    IsAsked asked × IsMisfit (scale_in asked.question) trace.shift trace.pages e
+RefusesPrediction trace asked refusals.Memory = IsAsked asked × Fits (scale_in asked.question) trace.shift trace.pages

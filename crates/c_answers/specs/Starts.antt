@@ -4,7 +4,7 @@ use Rattle.c_layout.specs.Refusals.{number_of_settings}
 use Rattle.c_layout.specs.Starts.{best_errors, best_numbers}
 use Rattle.c_layout.specs.declared.starts.BestStartNumbers.{BestStartNumbers}
 use Rattle.migration_model.specs.Touches.{GuestTouches, last_tick_of, touches_in, touches_of}
-use Rattle.migration_model.specs.Trace.{GuestTrace, Spells}
+use Rattle.migration_model.specs.Trace.{GuestTrace}
 use Rattle.predictions.specs.Questions.{Fits, error_numbers, given, scale_in, settings_of, terms_of}
 use Rattle.predictions.specs.Starts.Cases.{AreCases}
 use Rattle.predictions.specs.Starts.Choices.{IsBest}
@@ -17,7 +17,7 @@ use Rattle.predictions.specs.declared.starts.cases.Starts.{Starts}
 use Rattle.predictions.specs.declared.starts.error.StartsError.{StartsError}
 use Rattle.predictions.specs.declared.starts.planned.PlannedCase.{PlannedCase}
 use Rattle.predictions.specs.declared.starts.error.StartsError.TheVariants as errors
-use Rattle.c_answers.specs.Predictions.{IsAsked, RefusesPrediction, number_of_question, record_of_question}
+use Rattle.c_answers.specs.Predictions.{IsAsked, RefusesPrediction, number_of_question}
 use Rattle.c_answers.specs.declared.questions.SizedQuestion.{SizedQuestion}
 use Rattle.c_answers.specs.declared.starts.SizedStarts.{SizedStarts}
 use Rattle.c_answers.specs.declared.starts.StartsRefusal.{StartsRefusal}
@@ -44,12 +44,9 @@ pub record IsBestOver (terms : Terms) (starts : Starts) (log : GuestTouches) (be
       (cases_from terms.settings starts (last_tick_of log.touches)) cases
   pub is_best : IsBest terms.manner log.pages log.touches terms.scale terms.limits cases (length cases) best
 
--- these numbers tell the best start of a question over the trace that these bytes encode, which has the question's
--- scale
-pub record IsBestOf (bytes : List ℕ) (q : Question) (starts : SizedStarts) (numbers : BestStartNumbers)
+-- these numbers tell the best start of a question over a trace that has the question's scale
+pub record IsBestOf (trace : GuestTrace) (q : Question) (starts : SizedStarts) (numbers : BestStartNumbers)
     (errors : ErrorNumbers) : Type 0 where
-  pub trace : GuestTrace
-  pub spells : Spells bytes trace
   pub fits : Fits (scale_in q) trace.shift trace.pages
   pub best : Option CostAtStart
   pub is_best : IsBestOver (terms_of q) (starts_in q starts) (touches_in trace) best
@@ -67,30 +64,22 @@ number_of_best refusals.Size = 31
 number_of_best (refusals.Question e) = number_of_question e
 number_of_best (refusals.Starts e) = number_of_starts e
 
-abbrev pub record_of_best : StartsRefusal → ℕ → ℕ
-record_of_best refusals.Size old = old
-record_of_best (refusals.Question e) old = record_of_question e old
-record_of_best (refusals.Starts e) old = old
-
--- this is the number of a refusal for which that holds, and its record is told
-abbrev pub IsToldOfBest : ℕ → ℕ → ℕ → (StartsRefusal → Type 0) → Type 0
-IsToldOfBest number old new Holds = (refusal : StartsRefusal) × (number ≡ number_of_best refusal)
-    × (new ≡ record_of_best refusal old) × Holds refusal
+-- this is the number of a refusal for which that holds
+abbrev pub IsNumberOfBest : ℕ → (StartsRefusal → Type 0) → Type 0
+IsNumberOfBest number Holds = (refusal : StartsRefusal) × (number ≡ number_of_best refusal) × Holds refusal
 
 -- There is no best start: the struct of the starts is longer or shorter, or else the question has no answer over the
 -- trace, or else the starts are refused, or memory ran out.
-abbrev pub RefusesBest : List ℕ → SizedQuestion → SizedStarts → StartsRefusal → Type 0
-RefusesBest bytes asked starts refusals.Size = starts.size ≢ 32
-RefusesBest bytes asked starts (refusals.Question e) = (starts.size ≡ 32) × RefusesPrediction bytes asked e
-RefusesBest bytes asked starts (refusals.Starts e) = (starts.size ≡ 32) × IsAsked asked × (trace : GuestTrace)
-    × Spells bytes trace × Fits (scale_in asked.question) trace.shift trace.pages
+abbrev pub RefusesBest : GuestTrace → SizedQuestion → SizedStarts → StartsRefusal → Type 0
+RefusesBest trace asked starts refusals.Size = starts.size ≢ 32
+RefusesBest trace asked starts (refusals.Question e) = (starts.size ≡ 32) × RefusesPrediction trace asked e
+RefusesBest trace asked starts (refusals.Starts e) = (starts.size ≡ 32) × IsAsked asked
+    × Fits (scale_in asked.question) trace.shift trace.pages
     × RefusesStarts (settings_of asked.question) (starts_in asked.question starts)
     (last_tick_of (touches_of trace)) e
 
 -- the best start of a question is told over this trace if memory is there
-pub record IsAskedOfBest (bytes : List ℕ) (asked : SizedQuestion) (starts : SizedStarts) (trace : GuestTrace)
-    : Type 0 where
-  pub spells : Spells bytes trace
+pub record IsAskedOfBest (trace : GuestTrace) (asked : SizedQuestion) (starts : SizedStarts) : Type 0 where
   pub is_asked : IsAsked asked
   pub fits : Fits (scale_in asked.question) trace.shift trace.pages
   pub size : starts.size ≡ 32

@@ -2,10 +2,9 @@
 
 // `IsPrediction` holds of one value alone: `one_prediction`.
 // `IsAgreement` holds of one value alone: `one_agreement`.
-// `RefusesPrediction` holds of one value alone, but for memory: `one_refused_prediction`.
+// `RefusesPrediction` holds of one value alone: `one_refused_prediction`.
 
 ghost use Rattle.std.specs.Prelude.{◌≡◌, IfErr, IfOk, OnOk};
-ghost use Rattle.migration_model.specs.Trace.{GuestTrace, Spells};
 ghost use Rattle.predictions.specs.Questions.{Fits, scale_in};
 ghost use Rattle.c_answers.specs.Agreements.{IsAgreementOf};
 ghost use Rattle.c_layout.specs.Agreements.{IsAgreementOver};
@@ -13,6 +12,7 @@ ghost use Rattle.c_answers.specs.Predictions.{IsAsked, RefusesPrediction, number
 
 use crate::inquiries::{Inquiry, inquiry_of};
 use crate::questions::{QuestionRefusal, SizedQuestion};
+use open_traces::OpenTrace;
 use predictions::agreement::{Agreement, AgreementNumbers};
 use predictions::redrawn::Errors;
 use predictions::{Measure, Prediction, Terms};
@@ -44,19 +44,19 @@ fn agreement_over(
     Ok(AgreementNumbers::new(limits.downtime, &agreement, &prediction, &errors))
 }
 
-/// Returns how sure the answer to a question is over the trace that the bytes encode. The question is tested first.
+/// Returns how sure the answer to a question is over a trace. The question is tested first.
 pub fn agreed(
     alloc: Global,
-    bytes: &[u8],
+    trace: &OpenTrace<'_>,
     asked: &SizedQuestion,
 ) -> Result<AgreementNumbers, QuestionRefusal>
-    ensures made { IfOk result (IsAgreementOf bytes.now asked.now.question) }
+    ensures made { IfOk result (IsAgreementOf trace.now asked.now.question) }
     ensures accepted { OnOk result (IsAsked asked.now) }
-    ensures refused { IfErr result (RefusesPrediction bytes.now asked.now) }
-    ensures only { (t : GuestTrace) → Spells bytes.now t → IsAsked asked.now
-        → Fits (scale_in asked.now.question) t.shift t.pages → IfErr result (λ e. number_of_question e ≡ 16) }
+    ensures refused { IfErr result (RefusesPrediction trace.now asked.now) }
+    ensures only { IsAsked asked.now → Fits (scale_in asked.now.question) trace.now.shift trace.now.pages
+        → IfErr result (λ e. number_of_question e ≡ 16) }
 {
-    let Inquiry { terms, log } = inquiry_of(alloc, bytes, asked)?;
+    let Inquiry { terms, log } = inquiry_of(alloc, trace, asked)?;
     let found = agreement_over(alloc, &terms, &log)?;
     Ok(found)
 }

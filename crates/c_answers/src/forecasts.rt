@@ -1,10 +1,9 @@
 //! What comes of a migration if its hypervisor goes on as QEMU does.
 
 // `IsForecast` holds of one value alone: `one_forecast`.
-// `RefusesPrediction` holds of one value alone, but for memory: `one_refused_prediction`.
+// `RefusesPrediction` holds of one value alone: `one_refused_prediction`.
 
 ghost use Rattle.std.specs.Prelude.{◌≡◌, IfErr, IfOk, OnOk};
-ghost use Rattle.migration_model.specs.Trace.{GuestTrace, Spells};
 ghost use Rattle.predictions.specs.Questions.{Fits, scale_in};
 ghost use Rattle.c_answers.specs.Forecasts.{IsForecastOf, IsForecastOver};
 ghost use Rattle.c_answers.specs.Predictions.{IsAsked, RefusesPrediction, number_of_question};
@@ -12,6 +11,7 @@ ghost use Rattle.c_answers.specs.Predictions.{IsAsked, RefusesPrediction, number
 use crate::inquiries::{Inquiry, inquiry_of};
 use crate::questions::{QuestionRefusal, SizedQuestion};
 use c_layout::ForecastNumbers;
+use open_traces::OpenTrace;
 use predictions::Terms;
 use predictions::looks::LookForecast;
 use round_planner::PlanError;
@@ -32,19 +32,19 @@ fn forecast_over(alloc: Global, terms: &Terms, log: &TouchLog) -> Result<Forecas
     Ok(ForecastNumbers::new(&forecast))
 }
 
-/// Returns what comes of a question over the trace that the bytes encode. The question is tested first.
+/// Returns what comes of a question over a trace. The question is tested first.
 pub fn foretold(
     alloc: Global,
-    bytes: &[u8],
+    trace: &OpenTrace<'_>,
     asked: &SizedQuestion,
 ) -> Result<ForecastNumbers, QuestionRefusal>
-    ensures made { IfOk result (IsForecastOf bytes.now asked.now.question) }
+    ensures made { IfOk result (IsForecastOf trace.now asked.now.question) }
     ensures accepted { OnOk result (IsAsked asked.now) }
-    ensures refused { IfErr result (RefusesPrediction bytes.now asked.now) }
-    ensures only { (t : GuestTrace) → Spells bytes.now t → IsAsked asked.now
-        → Fits (scale_in asked.now.question) t.shift t.pages → IfErr result (λ e. number_of_question e ≡ 16) }
+    ensures refused { IfErr result (RefusesPrediction trace.now asked.now) }
+    ensures only { IsAsked asked.now → Fits (scale_in asked.now.question) trace.now.shift trace.now.pages
+        → IfErr result (λ e. number_of_question e ≡ 16) }
 {
-    let Inquiry { terms, log } = inquiry_of(alloc, bytes, asked)?;
+    let Inquiry { terms, log } = inquiry_of(alloc, trace, asked)?;
     let found = forecast_over(alloc, &terms, &log)?;
     Ok(found)
 }

@@ -1,13 +1,14 @@
-//! A question of a trace, read: what it comes to, and the touches.
+//! A question of an open trace: what it comes to, and the touches.
 
 ghost use Rattle.std.specs.Prelude.{◌≡◌, IfErr, IfOk};
-ghost use Rattle.migration_model.specs.Trace.{GuestTrace, Spells};
 ghost use Rattle.predictions.specs.Questions.{Fits, scale_in};
 ghost use Rattle.c_answers.specs.Predictions.{IsAsked, IsInquiry, RefusesPrediction, number_of_question};
 
 use crate::questions::{QuestionRefusal, SIZE, SizedQuestion};
+use open_traces::OpenTrace;
 use predictions::{Terms, check_fit};
 use std::alloc::Global;
+use trace_codec::WriteLog;
 use trace_readers::TouchLog;
 
 /// A question in range, and the touches of a trace that has its scale.
@@ -17,22 +18,22 @@ pub(crate) struct Inquiry {
     pub(crate) log: TouchLog,
 }
 
-/// Returns what a question comes to, and the touches of the trace that the bytes encode. The question is tested first.
+/// Returns what a question comes to, and the touches of a trace. The question is tested first.
 pub(crate) fn inquiry_of(
     alloc: Global,
-    bytes: &[u8],
+    trace: &OpenTrace<'_>,
     asked: &SizedQuestion,
 ) -> Result<Inquiry, QuestionRefusal>
-    ensures made { IfOk result (IsInquiry bytes.now asked.now) }
-    ensures refused { IfErr result (RefusesPrediction bytes.now asked.now) }
-    ensures only { (t : GuestTrace) → Spells bytes.now t → IsAsked asked.now
-        → Fits (scale_in asked.now.question) t.shift t.pages → IfErr result (λ e. number_of_question e ≡ 16) }
+    ensures made { IfOk result (IsInquiry trace.now asked.now) }
+    ensures refused { IfErr result (RefusesPrediction trace.now asked.now) }
+    ensures only { IsAsked asked.now → Fits (scale_in asked.now.question) trace.now.shift trace.now.pages
+        → IfErr result (λ e. number_of_question e ≡ 16) }
 {
     if asked.size != SIZE {
         return Err(QuestionRefusal::Size);
     }
     let terms = asked.question.terms()?;
-    let log = TouchLog::parse(alloc, bytes)?;
-    check_fit(&terms.scale, &log.shape())?;
+    check_fit(&terms.scale, &trace.shape())?;
+    let log = TouchLog::of_log(alloc, trace)?;
     Ok(Inquiry { terms, log })
 }

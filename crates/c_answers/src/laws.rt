@@ -2,14 +2,15 @@
 //!
 //! A law is a function with an empty body: its contract is the law, and a call brings it into the caller's proof.
 
-ghost use Rattle.std.specs.Prelude.{◌≡◌, ◌≢◌, ℕ, List, []};
+ghost use Rattle.std.specs.Prelude.{◌≡◌, ℕ, List, []};
 ghost use Rattle.migration_model.specs.Frames.{GuestShape, IsGuestShape};
+ghost use Rattle.migration_model.specs.Trace.{GuestTrace};
 ghost use Rattle.page_message.specs.declared.error.FrameError.{FrameError};
 ghost use Rattle.c_answers.specs.FlatMemory.{IsFirstMissing, RefusesFlat, StopsFlat, TakesFlat};
 ghost use Rattle.c_answers.specs.Frames.{RefusesDecoding, RefusesEncoding};
-ghost use Rattle.c_answers.specs.Plans.{RefusesPlan};
-ghost use Rattle.c_answers.specs.Predictions.{RefusesPrediction, number_of_question};
-ghost use Rattle.c_answers.specs.Sweeps.{RefusesSweep};
+ghost use Rattle.c_answers.specs.Plans.{LacksPlan, RefusesPlan};
+ghost use Rattle.c_answers.specs.Predictions.{RefusesPrediction};
+ghost use Rattle.c_answers.specs.Sweeps.{LacksSweep};
 ghost use Rattle.c_answers.specs.declared.answers.Refusal.{Refusal};
 ghost use Rattle.c_answers.specs.declared.flat_memory.PageState.{PageState};
 ghost use Rattle.c_answers.specs.declared.flat_memory.StreamTaken.{StreamTaken};
@@ -24,16 +25,20 @@ pub fn one_refused_plan()
         → a ≡ b }
 {}
 
-/// A sweep is refused for one thing. For want of memory it is only where nothing else is wrong.
-pub fn one_refused_sweep()
-    ensures { (bytes : List ℕ) (cases : List SizedSettings) (a b : Refusal) → RefusesSweep bytes cases a
-        → RefusesSweep bytes cases b → a ≡ b }
+/// So is one of an open trace.
+pub fn one_lacking_plan()
+    ensures { (s : SizedSettings) (a b : Refusal) → LacksPlan s a → LacksPlan s b → a ≡ b }
 {}
 
-/// A question over a trace is refused for one thing, unless memory runs out.
+/// A sweep is refused for one thing. For want of memory it is only where nothing else is wrong.
+pub fn one_lacking_sweep()
+    ensures { (cases : List SizedSettings) (a b : Refusal) → LacksSweep cases a → LacksSweep cases b → a ≡ b }
+{}
+
+/// A question over a trace is refused for one thing. For want of memory it is only where nothing else is wrong.
 pub fn one_refused_prediction()
-    ensures { (bytes : List ℕ) (asked : SizedQuestion) (a b : QuestionRefusal) → number_of_question a ≢ 16
-        → number_of_question b ≢ 16 → RefusesPrediction bytes asked a → RefusesPrediction bytes asked b → a ≡ b }
+    ensures { (trace : GuestTrace) (asked : SizedQuestion) (a b : QuestionRefusal) → RefusesPrediction trace asked a
+        → RefusesPrediction trace asked b → a ≡ b }
 {}
 
 /// A frame is not encoded for one thing. For want of memory it is only where nothing else is wrong.

@@ -1,10 +1,10 @@
 //! Memory as the writes of a trace leave it, in the caller's buffer.
 
 ghost use Rattle.std.specs.Prelude.{◌≡◌, ◌+◌, ◌*◌, ◌^◌, ◌<◌, ◌≤◌, IfErr, OnErr, OnOk, length};
-ghost use Rattle.migration_model.specs.Memory.{bytes_put, image_after, image_before, put};
+ghost use Rattle.migration_model.specs.Memory.{bytes_put, image_of, put};
 ghost use Rattle.guest_log.specs.Writes.{shown};
 ghost use Rattle.c_answers.specs.Buffers.{over};
-ghost use Rattle.c_answers.specs.Memories.{memory_length, writes_before};
+ghost use Rattle.c_answers.specs.Memories.{memory_length};
 
 use crate::answers::Refusal;
 use guest_log::{Shape, WriteView};
@@ -22,29 +22,26 @@ pub(crate) fn write_over(memory: &mut [u8], shape: Shape, write: &WriteView<'_>)
     write.put_at(shape, memory, start);
 }
 
-/// Makes the memory after the writes before a tick.
-fn replay_before(trace: &TraceView<'_>, tick: u64, memory: &mut [u8])
+/// Makes the memory after all writes.
+fn replay_all(trace: &TraceView<'_>, memory: &mut [u8])
     requires { length memory.old ≡ memory_length trace.now }
-    ensures { memory.new ≡ (image_before trace.now tick).bytes }
+    ensures { memory.new ≡ (image_of trace.now).bytes }
 {
     let shape = trace.shape();
     memory.fill(0);
     for write in trace.records() {
-        if write.tick < tick {
-            write_over(memory, shape, &write);
-        }
+        write_over(memory, shape, &write);
     }
 }
 
-/// Makes the memory after the writes before a tick over the front of a buffer, and sets `needed` to its length.
+/// Makes the memory after all writes over the front of a buffer, and sets `needed` to its length.
 pub fn answer_memory(
     trace: &TraceView<'_>,
-    tick: u64,
     room: &mut [u8],
     needed: &mut usize,
 ) -> Result<(), Refusal>
     ensures needed { needed.new ≡ memory_length trace.now }
-    ensures put { OnOk result (room.new ≡ over (image_before trace.now tick).bytes room.old) }
+    ensures put { OnOk result (room.new ≡ over (image_of trace.now).bytes room.old) }
     ensures refused { IfErr result (λ e. e ≡ Refusal.ShortBuffer) }
     ensures fits { OnOk result (memory_length trace.now ≤ length room.old) }
     ensures short { OnErr result (length room.old < memory_length trace.now) }
@@ -57,22 +54,6 @@ pub fn answer_memory(
         return Err(Refusal::ShortBuffer);
     }
     let (front, _) = room.split_at_mut(count);
-    replay_before(trace, tick, front);
+    replay_all(trace, front);
     Ok(())
-}
-
-/// Returns how many writes have a tick below this one.
-pub fn count_before(trace: &TraceView<'_>, tick: u64) -> u32
-    ensures count { result ≡ writes_before trace.now tick }
-    ensures memory { image_after trace.now result ≡ image_before trace.now tick }
-{
-    // For the proof: a trace has at most 2^20 writes, in the order of their ticks.
-    let _ = trace.shape();
-    let mut count = 0u32;
-    for record in trace.records() {
-        if record.tick < tick {
-            count += 1;
-        }
-    }
-    count
 }

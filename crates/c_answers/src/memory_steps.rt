@@ -1,52 +1,46 @@
 //! Memory that is brought on from one place of a trace to another.
 
-// `Refuses` holds of one value alone: `TraceView::parse: first`.
-// `Spells` holds of one value alone: `one_trace`.
-
 ghost use Rattle.std.specs.Prelude.{◌≡◌, ◌≤◌, IfErr, IsOk, OnErr, OnOk, length};
-ghost use Rattle.migration_model.specs.Trace.{GuestTrace, Spells};
 ghost use Rattle.c_answers.specs.Memories.{memory_length};
 ghost use Rattle.c_answers.specs.Places.{IsStep, RefusesStep};
 
 use crate::memories::write_over;
 use crate::place_answers::PlaceRefusal;
-use trace_codec::TraceView;
+use open_traces::OpenTrace;
+use trace_codec::WriteLog;
 
 /// Applies the writes behind the first `from` ones, up to the first `to`, to memory.
-fn bring_memory(trace: &TraceView<'_>, from: u32, to: u32, memory: &mut [u8])
+fn bring_memory(trace: &OpenTrace<'_>, from: u32, to: u32, memory: &mut [u8])
     requires order { from ≤ to }
     requires len { length memory.old ≡ memory_length trace.now }
     ensures { IsStep trace.now from to memory.old memory.new }
 {
     let shape = trace.shape();
-    let mut place = 0u32;
-    for write in trace.records() {
-        if place == to {
-            return;
-        }
-        place += 1;
-        if place > from {
-            write_over(memory, shape, &write);
-        }
+    let end = to.min(shape.writes);
+    for index in from as usize..end as usize {
+        write_over(memory, shape, &trace.write(index));
     }
 }
 
-/// Brings memory on, for the call.
-pub fn answer_step(trace: &[u8], from: u32, to: u32, memory: &mut [u8]) -> Result<(), PlaceRefusal>
-    ensures made { OnOk result ((t : GuestTrace) × Spells trace.now t × IsStep t from to memory.old memory.new) }
+/// Brings memory on, for the call. It reads the writes in between alone.
+pub fn answer_step(
+    trace: &OpenTrace<'_>,
+    from: u32,
+    to: u32,
+    memory: &mut [u8],
+) -> Result<(), PlaceRefusal>
+    ensures made { OnOk result (IsStep trace.now from to memory.old memory.new) }
     ensures refused { IfErr result (RefusesStep trace.now from to (length memory.old)) }
-    ensures only { (t : GuestTrace) → Spells trace.now t → from ≤ to → length memory.old ≡ memory_length t
-        → IsOk result }
+    ensures only { from ≤ to → length memory.old ≡ memory_length trace.now → IsOk result }
     ensures unchanged { OnErr result (memory.new ≡ memory.old) }
 {
     if to < from {
         return Err(PlaceRefusal::Backwards);
     }
-    let view = TraceView::parse(trace)?;
-    let shape = view.shape();
+    let shape = trace.shape();
     if memory.len() != shape.pages as usize * shape.page_size() {
         return Err(PlaceRefusal::MemoryLength);
     }
-    bring_memory(&view, from, to, memory);
+    bring_memory(trace, from, to, memory);
     Ok(())
 }

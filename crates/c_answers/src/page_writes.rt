@@ -6,7 +6,8 @@ ghost use Rattle.c_answers.specs.Buffers.{over};
 ghost use Rattle.c_answers.specs.Places.{row_at, rows_of};
 
 use guest_log::WriteView;
-use trace_codec::TraceView;
+use open_traces::OpenTrace;
+use trace_codec::WriteLog;
 
 /// A write to a page: C's `struct precopy_write`.
 #[derive(Clone, Copy)]
@@ -34,35 +35,39 @@ fn row(place: u32, write: &WriteView<'_>) -> PageWrite
     }
 }
 
-/// Returns how many writes there are to a page.
-pub fn count_writes(trace: &TraceView<'_>, page: u32) -> usize
+/// Returns how many writes there are to a page. It looks at these alone.
+pub fn count_writes(trace: &OpenTrace<'_>, page: u32) -> usize
+    requires { page < trace.now.pages }
     ensures { result ≡ length (rows_of trace.now page) }
 {
     // For the proof: a trace has at most 2^20 writes.
     let _ = trace.shape();
     let mut count = 0usize;
-    for write in trace.records() {
-        if write.page == page {
-            count += 1;
-        }
+    let mut last = 0u32;
+    let mut next = trace.behind(page, last);
+    while next != 0 {
+        count += 1;
+        last = next;
+        next = trace.behind(page, last);
     }
     count
 }
 
-/// Writes the writes to a page over the front of a buffer.
-pub fn put_writes(trace: &TraceView<'_>, page: u32, rows: &mut [PageWrite])
-    requires { length (rows_of trace.now page) ≤ length rows.old }
+/// Writes the writes to a page over the front of a buffer. It reads these alone.
+pub fn put_writes(trace: &OpenTrace<'_>, page: u32, rows: &mut [PageWrite])
+    requires page { page < trace.now.pages }
+    requires room { length (rows_of trace.now page) ≤ length rows.old }
     ensures { rows.new ≡ over (rows_of trace.now page) rows.old }
 {
     // For the proof: a trace has at most 2^20 writes.
     let _ = trace.shape();
-    let mut place = 0u32;
     let mut count = 0usize;
-    for write in trace.records() {
-        place += 1;
-        if write.page == page {
-            rows[count] = row(place, &write);
-            count += 1;
-        }
+    let mut last = 0u32;
+    let mut next = trace.behind(page, last);
+    while next != 0 {
+        last = next;
+        rows[count] = row(last, &trace.write(last as usize - 1));
+        count += 1;
+        next = trace.behind(page, last);
     }
 }

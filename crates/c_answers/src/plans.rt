@@ -2,19 +2,22 @@
 
 // `IsPlan` holds of one value alone: `one_plan`.
 // `RefusesPlan` holds of one value alone: `one_refused_plan`.
+// `LacksPlan` holds of one value alone: `one_lacking_plan`.
 // `Spells` holds of one value alone: `one_trace`.
 
 ghost use Rattle.std.specs.Prelude.{◌≡◌, ◌<◌, ◌≤◌, IfErr, IfOk, OnOk, length, map};
-ghost use Rattle.migration_model.specs.Touches.{touches_in};
+ghost use Rattle.migration_model.specs.Rounds.{IsPlan};
+ghost use Rattle.migration_model.specs.Touches.{touches_in, touches_of};
 ghost use Rattle.migration_model.specs.Trace.{GuestTrace, Spells};
 ghost use Rattle.round_planner.specs.Rows.{row_of};
 ghost use Rattle.c_answers.specs.Answers.{number_of};
 ghost use Rattle.c_answers.specs.Buffers.{over};
-ghost use Rattle.c_answers.specs.Plans.{IsPlanOf, RefusesPlan, RefusesTouches};
+ghost use Rattle.c_answers.specs.Plans.{IsPlanOf, LacksPlan, RefusesPlan, RefusesTouches};
 ghost use Rattle.c_answers.specs.Settings.{AreGiven, settings_in};
 
 use crate::answers::Refusal;
 use crate::settings::SizedSettings;
+use open_traces::OpenTrace;
 use round_planner::{Plan, Round, RoundRow, plan};
 use std::alloc::Global;
 use trace_codec::TraceView;
@@ -60,6 +63,22 @@ pub fn planned(alloc: Global, trace: &[u8], settings: &SizedSettings) -> Result<
         Err(refusal) => return Err(refusal),
     };
     let log = read_touches(alloc, trace)?;
+    Ok(plan(alloc, &log, &settings)?)
+}
+
+/// Returns the plan of an open trace. The settings are tested first.
+pub fn open_planned(
+    alloc: Global,
+    trace: &OpenTrace<'_>,
+    settings: &SizedSettings,
+) -> Result<Plan, Refusal>
+    ensures made { IfOk result (IsPlan trace.now.pages (touches_of trace.now) (settings_in settings.now)) }
+    ensures given { OnOk result (AreGiven settings.now) }
+    ensures refused { IfErr result (LacksPlan settings.now) }
+    ensures only { AreGiven settings.now → IfErr result (λ e. e ≡ Refusal.Memory) }
+{
+    let settings = settings.checked()?;
+    let log = TouchLog::of_log(alloc, trace)?;
     Ok(plan(alloc, &log, &settings)?)
 }
 

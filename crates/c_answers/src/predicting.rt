@@ -1,17 +1,16 @@
 //! Predictions: what a migration with given limits will be, in time and bytes, and how far a sample's draw moves that.
 
 // `IsAnswer` holds of one value alone: `one_answer`.
-// `RefusesPrediction` holds of one value alone, but for memory: `one_refused_prediction`.
-// `Spells` holds of one value alone: `one_trace`.
+// `RefusesPrediction` holds of one value alone: `one_refused_prediction`.
 
 ghost use Rattle.std.specs.Prelude.{◌≡◌, IfErr, IfOk, OnOk};
-ghost use Rattle.migration_model.specs.Trace.{GuestTrace, Spells};
 ghost use Rattle.predictions.specs.Questions.{Fits, scale_in};
 ghost use Rattle.c_answers.specs.Predictions.{AreNumbersOver, IsAsked, IsPredictionOf};
 ghost use Rattle.c_answers.specs.Predictions.{RefusesPrediction, number_of_question};
 
 use crate::inquiries::{Inquiry, inquiry_of};
 use crate::questions::{QuestionRefusal, SizedQuestion};
+use open_traces::OpenTrace;
 use predictions::redrawn::Errors;
 use predictions::{Answer, ErrorNumbers, Terms};
 use std::alloc::{AllocError, Global};
@@ -32,19 +31,19 @@ fn numbers(alloc: Global, terms: &Terms, log: &TouchLog) -> Result<ErrorNumbers,
     Ok(ErrorNumbers::new(&errors))
 }
 
-/// Returns what is told of a migration over the trace that the bytes encode. The question is tested first.
+/// Returns what is told of a migration over a trace. The question is tested first.
 pub fn predicted(
     alloc: Global,
-    bytes: &[u8],
+    trace: &OpenTrace<'_>,
     asked: &SizedQuestion,
 ) -> Result<ToldPrediction, QuestionRefusal>
-    ensures made { IfOk result (λ told. IsPredictionOf bytes.now asked.now.question told.answer told.errors) }
+    ensures made { IfOk result (λ told. IsPredictionOf trace.now asked.now.question told.answer told.errors) }
     ensures accepted { OnOk result (IsAsked asked.now) }
-    ensures refused { IfErr result (RefusesPrediction bytes.now asked.now) }
-    ensures only { (t : GuestTrace) → Spells bytes.now t → IsAsked asked.now
-        → Fits (scale_in asked.now.question) t.shift t.pages → IfErr result (λ e. number_of_question e ≡ 16) }
+    ensures refused { IfErr result (RefusesPrediction trace.now asked.now) }
+    ensures only { IsAsked asked.now → Fits (scale_in asked.now.question) trace.now.shift trace.now.pages
+        → IfErr result (λ e. number_of_question e ≡ 16) }
 {
-    let Inquiry { terms, log } = inquiry_of(alloc, bytes, asked)?;
+    let Inquiry { terms, log } = inquiry_of(alloc, trace, asked)?;
     let answer = Answer::of_trace(alloc, &log, &terms)?;
     let errors = numbers(alloc, &terms, &log)?;
     Ok(ToldPrediction { answer, errors })

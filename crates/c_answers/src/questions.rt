@@ -3,15 +3,14 @@
 ghost use Rattle.std.specs.Prelude.{◌≡◌};
 ghost use Rattle.c_answers.specs.declared.questions.QuestionRefusal.TheVariants.{Memory as OutOfMemory};
 ghost use Rattle.c_answers.specs.declared.questions.QuestionRefusal.TheVariants.{Misfit as OfMisfit};
-ghost use Rattle.c_answers.specs.declared.questions.QuestionRefusal.TheVariants.{Trace as OfTrace, Units as OfUnits};
+ghost use Rattle.c_answers.specs.declared.questions.QuestionRefusal.TheVariants.{Units as OfUnits};
 
 use crate::answers::Refusal;
-use c_layout::{misfit_number, refuse_trace, units_number};
+use c_layout::{misfit_number, units_number};
 use predictions::units::UnitsError;
 use predictions::{Misfit, Question};
 use round_planner::PlanError;
 use std::alloc::AllocError;
-use trace_codec::TraceError;
 
 /// How many bytes the struct of a question has.
 pub(crate) const SIZE: u64 = 128;
@@ -33,8 +32,6 @@ pub enum QuestionRefusal {
     Size,
     /// The question is out of range.
     Units(UnitsError),
-    /// The bytes are not a trace.
-    Trace(TraceError),
     /// The trace does not have the question's scale.
     Misfit(Misfit),
     /// Memory ran out.
@@ -46,14 +43,6 @@ impl From<UnitsError> for QuestionRefusal {
 
     fn from(error: UnitsError) -> QuestionRefusal {
         QuestionRefusal::Units(error)
-    }
-}
-
-impl From<TraceError> for QuestionRefusal {
-    ghost from_gives = { λ e r. r ≡ OfTrace e };
-
-    fn from(error: TraceError) -> QuestionRefusal {
-        QuestionRefusal::Trace(error)
     }
 }
 
@@ -83,19 +72,16 @@ impl From<AllocError> for QuestionRefusal {
 
 impl QuestionRefusal {
     ghost use Rattle.std.specs.Prelude.{◌≡◌, ◌≤◌};
-    ghost use Rattle.c_answers.specs.Predictions.{number_of_question, record_of_question};
+    ghost use Rattle.c_answers.specs.Predictions.{number_of_question};
 
-    /// Tells C of this refusal: sets `record` to the record of a trace that it names, if it names one, and returns its
-    /// number.
-    pub fn told(self, record: &mut u32) -> u32
+    /// Returns the number that C sees.
+    pub fn number(self) -> u32
         ensures number { result ≡ number_of_question self }
         ensures some { 1 ≤ result }
-        ensures record { record.new ≡ record_of_question self record.old }
     {
         match self {
             QuestionRefusal::Size => Refusal::SettingsSize.number(),
             QuestionRefusal::Units(error) => units_number(error),
-            QuestionRefusal::Trace(error) => refuse_trace(error, record),
             QuestionRefusal::Misfit(misfit) => misfit_number(misfit),
             QuestionRefusal::Memory => Refusal::Memory.number(),
         }

@@ -2,7 +2,6 @@
 
 // `IsBest` holds of one value alone: `one_best`.
 // `AreCases` holds of one value alone: `one_list_of_cases`.
-// `Spells` holds of one value alone: `one_trace`.
 
 ghost use Rattle.std.specs.Prelude.{◌≡◌, ◌≤◌, IfErr, IfOk, OnOk};
 ghost use Rattle.migration_model.specs.Touches.{last_tick_of};
@@ -20,6 +19,7 @@ use crate::inquiries::{Inquiry, inquiry_of};
 use crate::questions::{QuestionRefusal, SizedQuestion};
 use c_layout::{BestStartNumbers, best_error_numbers, settings_number};
 use guest_log::last_tick;
+use open_traces::OpenTrace;
 use predictions::starts::{StartCost, Starts, StartsError, best_start, cases_by};
 use predictions::{ErrorNumbers, Measure, Question, Terms};
 use std::alloc::Global;
@@ -85,18 +85,16 @@ fn starts_number(error: StartsError) -> u32
 
 impl StartsRefusal {
     ghost use Rattle.std.specs.Prelude.{◌≡◌, ◌≤◌};
-    ghost use Rattle.c_answers.specs.Starts.{number_of_best, record_of_best};
+    ghost use Rattle.c_answers.specs.Starts.{number_of_best};
 
-    /// Tells C of this refusal: sets `record` to the record of a trace that it names, if it names one, and returns its
-    /// number.
-    pub fn told(self, record: &mut u32) -> u32
+    /// Returns the number that C sees.
+    pub fn number(self) -> u32
         ensures number { result ≡ number_of_best self }
         ensures some { 1 ≤ result }
-        ensures record { record.new ≡ record_of_best self record.old }
     {
         match self {
             StartsRefusal::Size => Refusal::SettingsSize.number(),
-            StartsRefusal::Question(refusal) => refusal.told(record),
+            StartsRefusal::Question(refusal) => refusal.number(),
             StartsRefusal::Starts(error) => starts_number(error),
         }
     }
@@ -156,25 +154,24 @@ fn best_over(
     Ok(best_start(alloc, log, &measure, &cases)?)
 }
 
-/// Returns what is told of the best start of a question over the trace that the bytes encode. Sizes and the question
-/// are tested first, and the starts last.
+/// Returns what is told of the best start of a question over a trace. Sizes and the question are tested first, and the
+/// starts last.
 pub fn best_told(
     alloc: Global,
-    bytes: &[u8],
+    trace: &OpenTrace<'_>,
     asked: &SizedQuestion,
     starts: &SizedStarts,
 ) -> Result<ToldStart, StartsRefusal>
-    ensures made { IfOk result (λ told. IsBestOf bytes.now asked.now.question starts.now told.best told.errors) }
+    ensures made { IfOk result (λ told. IsBestOf trace.now asked.now.question starts.now told.best told.errors) }
     ensures accepted { OnOk result (IsAsked asked.now) }
     ensures size { OnOk result (starts.now.size ≡ 32) }
-    ensures refused { IfErr result (RefusesBest bytes.now asked.now starts.now) }
-    ensures only { (t : GuestTrace) → IsAskedOfBest bytes.now asked.now starts.now t
-        → IfErr result (λ e. number_of_best e ≡ 16) }
+    ensures refused { IfErr result (RefusesBest trace.now asked.now starts.now) }
+    ensures only { IsAskedOfBest trace.now asked.now starts.now → IfErr result (λ e. number_of_best e ≡ 16) }
 {
     if starts.size != SIZE {
         return Err(StartsRefusal::Size);
     }
-    let Inquiry { terms, log } = inquiry_of(alloc, bytes, asked)?;
+    let Inquiry { terms, log } = inquiry_of(alloc, trace, asked)?;
     let starts = starts.of_question(&asked.question);
     let best = best_over(alloc, &terms, &starts, &log)?;
     Ok(ToldStart {

@@ -1,26 +1,25 @@
 //! Sweeps: the sums of many plans of one trace, and the best of them.
 
 // `IsPlan` holds of one value alone: `one_plan`.
-// `RefusesSweep` holds of one value alone: `one_refused_sweep`.
-// `Spells` holds of one value alone: `one_trace`.
+// `LacksSweep` holds of one value alone: `one_lacking_sweep`.
 
 ghost use Rattle.std.specs.Prelude.{◌≡◌, ◌<◌, ◌≤◌, IfErr, IfOk, IsOk, OnOk, length, map};
 ghost use Rattle.std.specs.List.{All};
-ghost use Rattle.migration_model.specs.Sweeps.{best_of};
-ghost use Rattle.migration_model.specs.Trace.{GuestTrace, Spells};
-ghost use Rattle.c_answers.specs.Answers.{number_of};
+ghost use Rattle.migration_model.specs.Sweeps.{AreLines, best_of};
+ghost use Rattle.migration_model.specs.Touches.{touches_of};
 ghost use Rattle.c_answers.specs.Buffers.{over};
 ghost use Rattle.c_answers.specs.Settings.{AreGiven, settings_in};
-ghost use Rattle.c_answers.specs.Sweeps.{IsSweepOf, RefusesCase, RefusesSweep, line_sums};
+ghost use Rattle.c_answers.specs.Sweeps.{LacksSweep, RefusesCase, line_sums};
 
 use crate::answers::Refusal;
-use crate::plans::read_touches;
 use crate::settings::SizedSettings;
 use c_layout::PlanSums;
+use open_traces::OpenTrace;
 use rate_limit::Settings;
 use round_planner::Outcome;
 use std::alloc::{AllocError, Global};
 use sweep_report::{Line, best_case, sweep_in_turn};
+use trace_readers::TouchLog;
 
 /// Tests the cases, in order: an error is the refusal of the first that is out of range. It allocates nothing.
 fn test_cases(cases: &[SizedSettings]) -> Result<(), Refusal>
@@ -51,18 +50,22 @@ fn settings_of_cases(alloc: Global, cases: &[SizedSettings]) -> Result<Vec<Setti
     Ok(checked)
 }
 
-/// Returns the lines of a sweep of the trace that the bytes encode. The cases are tested first.
-pub fn swept(alloc: Global, trace: &[u8], cases: &[SizedSettings]) -> Result<Vec<Line>, Refusal>
-    ensures made { IfOk result (λ lines. IsSweepOf trace.now (map settings_in cases.now) lines.items) }
+/// Returns the lines of a sweep of an open trace. The cases are tested first.
+pub fn swept(
+    alloc: Global,
+    trace: &OpenTrace<'_>,
+    cases: &[SizedSettings],
+) -> Result<Vec<Line>, Refusal>
+    ensures made { IfOk result (λ lines. AreLines trace.now.pages (touches_of trace.now) (map settings_in cases.now)
+        lines.items) }
     ensures given { OnOk result (All AreGiven cases.now) }
-    ensures refused { IfErr result (RefusesSweep trace.now cases.now) }
-    ensures only { (t : GuestTrace) → Spells trace.now t → All AreGiven cases.now
-        → IfErr result (λ e. number_of e ≡ 16) }
+    ensures refused { IfErr result (LacksSweep cases.now) }
+    ensures only { All AreGiven cases.now → IfErr result (λ e. e ≡ Refusal.Memory) }
 {
     if let Err(refusal) = test_cases(cases) {
         return Err(refusal);
     }
-    let log = read_touches(alloc, trace)?;
+    let log = TouchLog::of_log(alloc, trace)?;
     let checked = settings_of_cases(alloc, cases)?;
     Ok(sweep_in_turn(alloc, &log, &checked)?)
 }

@@ -1,4 +1,5 @@
-pub mod NextPlaces
 pub mod RecordPlaces
 pub mod Opened
 pub mod PageWalks
+pub mod PagePlaces
+pub mod Searched

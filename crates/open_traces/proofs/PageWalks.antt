@@ -15,17 +15,13 @@ use Rattle.std.proofs.lemmas.List.{length-take, length-take-le, take_all, take_m
 use Rattle.std.proofs.lemmas.List.Sums.{fold-append}
 use Rattle.std.proofs.lemmas.List.Elements.{All-head, All-nil, All-tail, All-weaker}
 use Rattle.std.proofs.lemmas.List.FromFn.{get_or-range_with_len, length-range_with_len}
-use Rattle.migration_model.specs.Memory.{bytes_put, put}
-use Rattle.migration_model.specs.Touches.{touches_of}
-use Rattle.migration_model.specs.Trace.{GuestTrace, GuestWrite, IsGuestWrite, IsTrace}
+use Rattle.migration_model.specs.Trace.{GuestTrace, GuestWrite, IsGuestWrite}
 use Rattle.migration_model.specs.Versions.{page_at}
-use Rattle.migration_model.proofs.Pages.{length-page_at, page_replayed, puts_within}
+use Rattle.migration_model.proofs.Pages.{page_replayed}
 use Rattle.migration_model.proofs.Places.{from}
 use Rattle.guest_log.specs.Writes.{no_write}
-use Rattle.page_versions.specs.Index.{index_with, places_of, version_after}
-use Rattle.page_versions.specs.Pages.{overwrite, write_at}
-use Rattle.page_versions.proofs.Later.{later_page}
-use Rattle.page_versions.proofs.Places.{bounds, filter_none, places_of_is, places_past, places_upto, same_places}
+use Rattle.page_versions.specs.Index.{places_of, version_after}
+use Rattle.page_versions.proofs.Places.{bounds, filter_none, places_of_is, places_past, places_upto}
 use Rattle.open_traces.specs.Index.{next_after, versions_at}
 
 -- the places of a page behind a place
@@ -38,7 +34,7 @@ filter_behind trace page place =
     ap (filter (λ (v : ℕ). ltb place v)) (places_of_is trace page)
     ∙ places_past (λ (w : GuestWrite). eqb w.page page) 1 trace.writes place place (omega arith)
 
-next_is : (trace : GuestTrace) (page place : ℕ) → next_after trace page place ≡ get_or (behind trace page place) 0 0
+pub next_is : (trace : GuestTrace) (page place : ℕ) → next_after trace page place ≡ get_or (behind trace page place) 0 0
 next_is trace page place = ap (λ (l : List ℕ). get_or l 0 0) (filter_behind trace page place)
 
 -- ---- the first of some places
@@ -149,14 +145,6 @@ pub record Reached (trace : GuestTrace) (page version count next : ℕ) : Type 0
   pub rest : fold max version (filter (λ (v : ℕ). leb v count) (behind trace page version))
       ≡ version_after trace page count
 
-pub Reached-none : (trace : GuestTrace) (page count next : ℕ) → next ≡ next_after trace page 0
-    → Reached trace page 0 count next
-Reached-none trace page count next is = record {
-  within = omega arith;
-  is = is;
-  rest = ap (λ (l : List ℕ). fold max 0 (filter (λ (v : ℕ). leb v count) l)) (sym (places_of_is trace page));
-}
-
 pub Reached-next : (trace : GuestTrace) (page version count next after : ℕ) → Reached trace page version count next
     → next ≢ 0 → next ≤ count → after ≡ next_after trace page next → Reached trace page next count after
 Reached-next trace page version count next after before some low is =
@@ -179,25 +167,6 @@ Reached-all trace page version count next at end =
 
 -- ---- its bytes
 
-page_between : (trace : GuestTrace) (page earlier later : ℕ) (places : List ℕ) → IsTrace trace → page < trace.pages
-    → earlier ≤ later → earlier ≤ length trace.writes
-    → filter (λ (v : ℕ). leb v later) (behind trace page earlier) ≡ places
-    → fold (λ bytes place. overwrite trace.shift bytes (write_at trace.writes place)) (page_at trace page earlier)
-    places
-    ≡ page_at trace page later
-page_between trace page earlier later places is low rise within same =
-    let step : List ℕ → ℕ → List ℕ = λ bytes place. overwrite trace.shift bytes (write_at trace.writes place) in
-    sym (ap (fold step (page_at trace page earlier))
-    (ap (λ (l : List ℕ). filter (λ (v : ℕ). leb v later) (filter (λ (v : ℕ). ltb earlier v) l)) (same_places trace page)
-    ∙ ap (filter (λ (v : ℕ). leb v later)) (filter_behind trace page earlier) ∙ same))
-    ∙ later_page trace (index_with trace.pages (touches_of trace)) page earlier later is (refl, refl) low rise within
-
-pub record Turned (trace : GuestTrace) (page count version next : ℕ) (bytes : List ℕ) : Type 0 where
-  pub within : version ≤ length trace.writes
-  pub early : version ≤ count
-  pub is : next ≡ next_after trace page version
-  pub bytes_are : bytes ≡ page_at trace page version
-
 -- before its first write a page is zeros
 pub zeros_first : (trace : GuestTrace) (page : ℕ) (room bytes : List ℕ) → page < trace.pages
     → length room ≡ 2 ^ trace.shift → bytes ≡ replicate (length room) 0 → bytes ≡ page_at trace page 0
@@ -205,57 +174,6 @@ zeros_first trace page room bytes low size zeros =
     zeros ∙ ap (λ (n : ℕ). replicate n 0) size
     ∙ sym (page_replayed trace.version trace.shift trace.pages [] page low
     (All-nil (IsGuestWrite trace.version trace.shift trace.pages)))
-
-pub Turned-len : (trace : GuestTrace) (page count version next : ℕ) (bytes : List ℕ) → IsTrace trace
-    → page < trace.pages
-    → Turned trace page count version next bytes → length bytes ≡ 2 ^ trace.shift
-Turned-len trace page count version next bytes is low at = ap length at.bytes_are
-    ∙ length-page_at trace page version is low
-
--- the next write is one of the trace, to the page
-pub Turned-is : (trace : GuestTrace) (page count version next : ℕ) (bytes : List ℕ)
-    → Turned trace page count version next bytes → next ≢ 0 → IsNext trace page version next
-Turned-is trace page count version next bytes at some = IsNext-from trace page version next at.is some at.within
-
-pub Turned-next : (trace : GuestTrace) (page count version next after : ℕ) (bytes new : List ℕ)
-    (write : GuestWrite) → IsTrace trace → page < trace.pages → Turned trace page count version next bytes → next ≢ 0
-    → next ≤ count
-    → write ≡ get_or trace.writes (next - 1) no_write
-    → new ≡ put bytes write.offset (bytes_put trace.shift write) → after ≡ next_after trace page next
-    → Turned trace page count next after new
-Turned-next trace page count version next after bytes new write is low before some early at puts after_is =
-    let next_at = IsNext-from trace page version next before.is some before.within in
-    let left : List ℕ = filter (λ (v : ℕ). leb v next) (behind trace page next) in
-    let here : filter (λ (v : ℕ). leb v next) (behind trace page version) ≡ next ∷ [] =
-    ap (filter (λ (v : ℕ). leb v next)) next_at.rest
-    ∙ cond-true (leb next next) (next ∷ left) left (le-leb next next (omega arith))
-    ∙ ap (λ (l : List ℕ). next ∷ l) (none_to trace page next next (omega arith)) in
-    record {
-      within = next_at.within;
-      early = early;
-      is = after_is;
-      bytes_are = puts
-          ∙ (λ i. overwrite trace.shift (before.bytes_are i) (at i))
-          ∙ page_between trace page version next (next ∷ []) is low (omega (arith, next_at.later)) before.within
-          here;
-    }
-
-pub Turned-all : (trace : GuestTrace) (page count version next : ℕ) (bytes : List ℕ) → IsTrace trace
-    → page < trace.pages → Turned trace page count version next bytes → (next ≡ 0) ⊎ (count < next)
-    → bytes ≡ page_at trace page count
-Turned-all trace page count version next bytes is low at end =
-    at.bytes_are
-    ∙ page_between trace page version count [] is low at.early at.within
-    (none_left trace page version next count at.is at.within end)
-
--- a write of the trace stays within its page
-pub write_fits : (trace : GuestTrace) (next : ℕ) (write : GuestWrite) → IsTrace trace → 1 ≤ next
-    → next ≤ length trace.writes → write ≡ get_or trace.writes (next - 1) no_write
-    → write.offset + length (bytes_put trace.shift write) ≤ 2 ^ trace.shift
-write_fits trace next write is some low at =
-    puts_within trace.version trace.shift trace.pages write
-    (subst (IsGuestWrite trace.version trace.shift trace.pages) (sym at)
-    (is.writes.each (next - 1) no_write (omega (arith, some, low))))
 
 -- ---- the versions of all pages
 

@@ -1,6 +1,6 @@
--- The index of a trace that is read in place: where its records are, and how the writes to a page follow one another.
+-- The index of a trace that is read in place: where its records are, and the places of the writes to each page.
 -- This project's own.
-use Rattle.std.specs.Prelude.{◌≡◌, ℕ, ◌+◌, ◌==◌, ◌<◌, ◌≤◌, ◌++◌, List, length, map, nat_lt, slice_index}
+use Rattle.std.specs.Prelude.{◌≡◌, ℕ, ◌+◌, ◌==◌, ◌++◌, List, length, map, nat_lt}
 use Rattle.std.specs.Prelude.{slice_index_or, take}
 use Rattle.std.specs.List.{enumerate_from, filter, flat_map, range_with_len}
 use Rattle.migration_model.specs.Trace.{GuestTrace, GuestWrite, Spells, write_text}
@@ -19,17 +19,26 @@ pages_of writes = map (λ write. write.page) writes
 abbrev pub next_after : GuestTrace → ℕ → ℕ → ℕ
 next_after trace page place = slice_index_or (filter (λ next. nat_lt place next) (places_of trace page)) 0 0
 
--- the place of the next write to the page of each write, or 0
-abbrev pub nexts_of : GuestTrace → List ℕ
-nexts_of trace = map (λ at. next_after trace at.1.page at.0) (enumerate_from 1 trace.writes)
+-- the places of these pages that are this page, in ascending order: the first of all has place 1
+abbrev pub places_in : List ℕ → ℕ → List ℕ
+places_in pages page = map (λ at. at.0) (filter (λ at. at.1 == page) (enumerate_from 1 pages))
 
--- the place of the first write to each page, or 0
-abbrev pub firsts_of : GuestTrace → List ℕ
-firsts_of trace = map (λ page. next_after trace page 0) (range_with_len 0 trace.pages)
+-- the places of the first `count` pages, page after page
+abbrev pub places_below : List ℕ → ℕ → List ℕ
+places_below pages count = flat_map (λ page. places_in pages page) (range_with_len 0 count)
 
--- the whole index, one list after the other
+-- where in that list the places of each of these pages begin
+abbrev pub starts_below : List ℕ → ℕ → List ℕ
+starts_below pages count = map (λ page. length (places_below pages page)) (range_with_len 0 count)
+
+-- and where they end
+abbrev pub ends_below : List ℕ → ℕ → List ℕ
+ends_below pages count = map (λ page. length (places_below pages (page + 1))) (range_with_len 0 count)
+
+-- the whole index: where records begin, their pages, the places of each page, and where these begin
 abbrev pub index_of : GuestTrace → List ℕ
-index_of trace = begins_of trace.writes ++ (pages_of trace.writes ++ (nexts_of trace ++ firsts_of trace))
+index_of trace = begins_of trace.writes ++ (pages_of trace.writes
+    ++ (places_below (pages_of trace.writes) trace.pages ++ starts_below (pages_of trace.writes) trace.pages))
 
 -- how many words it has
 abbrev pub index_length : GuestTrace → ℕ
@@ -50,27 +59,13 @@ pub record IsOpenWith (header : Header) (bytes words : List ℕ) : Type 0 where
   pub writes_is : header.shape.writes ≡ length trace.writes
 
 -- the same, with the index cut into its lists
-pub record IsOpenAs (trace : GuestTrace) (bytes begins pages nexts firsts : List ℕ) : Type 0 where
+pub record IsOpenAs (trace : GuestTrace) (bytes begins pages places starts : List ℕ) : Type 0 where
   pub spells : Spells bytes trace
   pub begins_are : begins ≡ begins_of trace.writes
   pub pages_are : pages ≡ pages_of trace.writes
-  pub nexts_are : nexts ≡ nexts_of trace
-  pub firsts_are : firsts ≡ firsts_of trace
+  pub places_are : places ≡ places_below (pages_of trace.writes) trace.pages
+  pub starts_are : starts ≡ starts_below (pages_of trace.writes) trace.pages
 
 -- the versions of all pages after the first `count` writes, page by page
 abbrev pub versions_at : GuestTrace → ℕ → List ℕ
 versions_at trace count = map (λ page. version_after trace page count) (range_with_len 0 trace.pages)
-
--- ---- links over pages alone
-
--- the place of the first of these pages behind a place that is this page, or 0
-abbrev pub next_in : List ℕ → ℕ → ℕ → ℕ
-next_in pages page place = slice_index_or
-    (filter (λ next. nat_lt place next) (map (λ at. at.0) (filter (λ at. at.1 == page) (enumerate_from 1 pages)))) 0 0
-
--- from a place on, each page is linked with the next that is the same
-pub record AreLinked (pages : List ℕ) (place : ℕ) (nexts firsts : List ℕ) : Type 0 where
-  pub len : length nexts ≡ length pages
-  pub each : (n : ℕ) → place ≤ n → n < length pages
-      → slice_index nexts n ≡ next_in pages (slice_index pages n) (n + 1)
-  pub first : (page : ℕ) → page < length firsts → slice_index firsts page ≡ next_in pages page place

@@ -2,8 +2,8 @@
 //! writes to a page follow one another. Nothing is copied, and nothing is allocated.
 #![tactic(auto)]
 
-mod links;
 mod open_trace;
+mod places;
 mod records;
 mod walks;
 

@@ -9,9 +9,9 @@ ghost use Rattle.migration_model.specs.TraceReading.{length_in, write_in};
 ghost use Rattle.guest_log.specs.Writes.{no_write};
 ghost use Rattle.trace_readers.specs.Texts.{held_trace};
 ghost use Rattle.open_traces.specs.Index.{IsOpenAs, IsOpenWith, index_length as length_of_index, index_of};
-ghost use Rattle.open_traces.specs.Index.{next_after};
+ghost use Rattle.page_versions.specs.Index.{places_of};
 
-use crate::links::put_links;
+use crate::places::put_places;
 use crate::records::put_records;
 use std::marker::Model;
 use trace_codec::{Header, Shape, Timeline, Touch, TraceView, WriteLog, WriteView, first_write};
@@ -33,9 +33,9 @@ pub fn put_index(trace: &TraceView<'_>, words: &mut [u32])
     let count = writes as usize;
     let (begins, rest) = words.split_at_mut(count);
     let (pages, rest) = rest.split_at_mut(count);
-    let (nexts, firsts) = rest.split_at_mut(count);
+    let (places, starts) = rest.split_at_mut(count);
     put_records(trace, begins, pages);
-    put_links(pages, nexts, firsts);
+    put_places(pages, places, starts);
 }
 
 /// A trace that is read from its bytes and its index, each write in one step. Nothing changes it, so several threads
@@ -46,8 +46,8 @@ pub struct OpenTrace<'a> {
     bytes: &'a [u8],
     begins: &'a [u32],
     pages: &'a [u32],
-    nexts: &'a [u32],
-    firsts: &'a [u32],
+    places: &'a [u32],
+    starts: &'a [u32],
 }
 
 impl<'a> Model for OpenTrace<'a> {
@@ -57,7 +57,7 @@ impl<'a> Model for OpenTrace<'a> {
         t.bytes.now };
 
     ghost invariant = { λ t. IsOpenAs (held_trace t.header.version t.header.shape.shift t.header.shape.pages
-        t.header.shape.writes t.bytes.now) t.bytes.now t.begins.now t.pages.now t.nexts.now t.firsts.now };
+        t.header.shape.writes t.bytes.now) t.bytes.now t.begins.now t.pages.now t.places.now t.starts.now };
 }
 
 impl<'a> OpenTrace<'a> {
@@ -70,14 +70,14 @@ impl<'a> OpenTrace<'a> {
         let count = header.shape.writes as usize;
         let (begins, rest) = words.split_at(count);
         let (pages, rest) = rest.split_at(count);
-        let (nexts, firsts) = rest.split_at(count);
+        let (places, starts) = rest.split_at(count);
         OpenTrace {
             header,
             bytes,
             begins,
             pages,
-            nexts,
-            firsts,
+            places,
+            starts,
         }
     }
 
@@ -91,21 +91,19 @@ impl<'a> OpenTrace<'a> {
         record
     }
 
-    /// Returns the place of the first write to a page, or 0 if there is none.
-    pub(crate) fn first(&self, page: u32) -> u32
+    /// Returns the places of the writes to a page, in ascending order.
+    pub(crate) fn places(&self, page: u32) -> &[u32]
         requires { page < self.now.pages }
-        ensures { result ≡ next_after self.now page 0 }
+        ensures { result.now ≡ places_of self.now page }
     {
-        self.firsts[page as usize]
-    }
-
-    /// Returns the place of the next write to the page of a write, or 0 if there is none.
-    pub(crate) fn next(&self, place: u32) -> u32
-        requires some { 1 ≤ place }
-        requires within { place ≤ length self.now.writes }
-        ensures { result ≡ next_after self.now (slice_index_or self.now.writes (place - 1) no_write).page place }
-    {
-        self.nexts[place as usize - 1]
+        let start = self.starts[page as usize];
+        let (_, rest) = self.places.split_at(start as usize);
+        let next = page as usize + 1;
+        if next == self.starts.len() {
+            return rest;
+        }
+        let (own, _) = rest.split_at((self.starts[next] - start) as usize);
+        own
     }
 
     /// Returns the page of a write.

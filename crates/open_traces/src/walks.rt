@@ -1,12 +1,27 @@
-//! The versions of pages, along the links between their writes.
+//! The versions of pages, by the places of their writes.
 
-ghost use Rattle.std.specs.Prelude.{◌≡◌, ◌↔◌, ◌<◌, ◌≤◌, ◌^◌, IsTrue, length};
+ghost use Rattle.std.specs.Prelude.{◌≡◌, ◌↔◌, ◌<◌, ◌≤◌, ◌^◌, IsTrue, length, nat_le};
+ghost use Rattle.std.specs.List.Sorted.{IsNonDecreasing};
 ghost use Rattle.migration_model.specs.Versions.{page_at};
 ghost use Rattle.page_versions.specs.Index.{version_after as version_at};
+ghost use Rattle.page_versions.specs.Layout.{IsCountTo};
 ghost use Rattle.open_traces.specs.Index.{next_after, versions_at};
 
 use crate::open_trace::OpenTrace;
+use page_versions::put_writes;
 use trace_codec::WriteLog;
+
+/// Returns how many of the places are not after a version.
+fn count_to(places: &[u32], version: u32) -> usize
+    requires { IsNonDecreasing places.now }
+    ensures { IsCountTo places.now version result }
+{
+    places.partition_point(
+        |place: &u32| -> bool
+            ensures { result ≡ nat_le place.now version }
+        { *place <= version },
+    )
+}
 
 impl<'a> OpenTrace<'a> {
     /// Returns the page's version after the first `count` writes: the place of the last of them that is to the page, or
@@ -15,15 +30,12 @@ impl<'a> OpenTrace<'a> {
         requires { page < self.now.pages }
         ensures { result ≡ version_at self.now page count }
     {
-        // For the proof: `shape` promises that this is a trace.
-        let _ = self.shape();
-        let mut version = 0u32;
-        let mut next = self.first(page);
-        while next != 0 && next <= count {
-            version = next;
-            next = self.next(version);
+        let places = self.places(page);
+        let few = count_to(places, count);
+        if few == 0 {
+            return 0;
         }
-        version
+        places[few - 1]
     }
 
     /// Makes the versions of all pages after the first `count` writes, page by page.
@@ -52,10 +64,12 @@ impl<'a> OpenTrace<'a> {
         requires is { version ≡ version_at self.now page version }
         ensures { result ≡ next_after self.now page version }
     {
-        if version == 0 {
-            return self.first(page);
+        let places = self.places(page);
+        let few = count_to(places, version);
+        if few == places.len() {
+            return 0;
         }
-        self.next(version)
+        places[few]
     }
 
     /// Returns whether a version of a page is still its version after the first `count` writes. It looks at the next
@@ -81,15 +95,11 @@ impl<'a> OpenTrace<'a> {
         requires bytes { content.old ≡ page_at self.now page from }
         ensures { content.new ≡ page_at self.now page count }
     {
-        let shape = self.shape();
-        let mut version = from;
-        let mut next = self.behind(page, from);
-        while next != 0 && next <= count {
-            version = next;
-            let write = self.write(version as usize - 1);
-            write.put_at(shape, content, write.offset as usize);
-            next = self.next(version);
-        }
+        // For the proof: `shape` promises that this is a trace.
+        let _ = self.shape();
+        let places = self.places(page);
+        let later = &places[count_to(places, from)..];
+        put_writes(content, self, &later[..count_to(later, count)]);
     }
 
     /// Makes the bytes of a page after the first `count` writes. What is in the room for them is lost.

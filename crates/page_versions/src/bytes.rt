@@ -133,8 +133,9 @@ fn released_at<W: WriteLog>(trace: &W, places: &[u32]) -> usize
     0
 }
 
-/// Applies the writes at these places to the bytes of their page, from the last release on, up to eight at a time.
-pub(crate) fn put_writes<W: WriteLog>(bytes: &mut [u8], trace: &W, places: &[u32])
+/// Applies the writes at these places to the bytes of their page, one after the other, from the last release on. It
+/// looks up to eight of them up before it applies the first.
+pub fn put_writes<W: WriteLog>(bytes: &mut [u8], trace: &W, places: &[u32])
     requires room { length bytes.old ≡ 2 ^ (W.trace trace.now).shift }
     requires places { All (λ place. (1 ≤ place) × (place ≤ length (W.trace trace.now).writes)) places.now }
     requires is_trace { IsTrace (W.trace trace.now) }

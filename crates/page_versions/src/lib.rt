@@ -17,6 +17,7 @@ mod searching;
 mod source;
 mod trace_pages;
 
+pub use bytes::put_writes;
 pub use error::IndexError;
 pub use index::{PageIndex, PageProgress};
 pub use packed::{PackedWrites, are_short};

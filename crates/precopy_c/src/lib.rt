@@ -10,6 +10,7 @@ mod migration_plans;
 mod migration_questions;
 mod open_trace_checks;
 mod open_trace_memory;
+mod open_trace_plans;
 mod page_frames;
 mod stream_checks;
 mod trace_memory;

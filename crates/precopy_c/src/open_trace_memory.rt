@@ -1,4 +1,4 @@
-//! Traces that stay open between calls: memory, and versions of pages.
+//! Traces that stay open between calls: memory, versions of pages, and the writes to a page.
 
 // `Refuses` holds of one value alone: `TraceView::parse: first`.
 // `Spells`, and so `Shows`, holds of one value alone: `one_trace`.
@@ -15,13 +15,15 @@ ghost use Rattle.c_layout.specs.Refusals.{number_of_trace, record_after};
 ghost use Rattle.c_answers.specs.Buffers.{over};
 ghost use Rattle.c_answers.specs.Memories.{memory_length, writes_before};
 ghost use Rattle.c_answers.specs.Opened.{IsOpened, Shows, IsNumberOfPlace, LacksVersion};
-ghost use Rattle.c_answers.specs.Places.{IsVersion};
+ghost use Rattle.c_answers.specs.Places.{IsStep, IsVersion, RefusesStep, rows_of};
 
 use c_answers::answers::Refusal;
+use c_answers::memory_steps::answer_step;
 use c_answers::open_answers::{
     answer_open_memory, answer_open_page, answer_open_versions, open_count_before,
 };
 use c_answers::opened::TraceHandle;
+use c_answers::page_writes::{PageWrite, count_writes, put_writes};
 use c_answers::place_answers::PlaceRefusal;
 use c_layout::refuse_trace;
 use open_traces::{index_length, put_index};
@@ -197,4 +199,57 @@ pub extern "C" fn precopy_trace_page_at(
         Ok(()) => 0,
         Err(refusal) => refusal.number(),
     }
+}
+
+/// Brings memory after the first `from` writes on, in place, to that after the first `to` writes. It allocates nothing.
+#[unsafe(no_mangle)]
+pub extern "C" fn precopy_trace_memory_step(
+    trace: &TraceHandle<'_>,
+    from: u32,
+    to: u32,
+    memory: &mut [u8],
+) -> u32
+    requires { IsOpened trace.now }
+    ensures made { result ≡ 0 → (t : GuestTrace) × Shows trace.now t × IsStep t from to memory.old memory.new }
+    ensures refused { result ≢ 0 → (t : GuestTrace) × Shows trace.now t
+        × IsNumberOfPlace result (RefusesStep t from to (length memory.old)) }
+    ensures only { (t : GuestTrace) → Shows trace.now t → from ≤ to → length memory.old ≡ memory_length t
+        → result ≡ 0 }
+    ensures unchanged { result ≢ 0 → memory.new ≡ memory.old }
+{
+    match answer_step(&trace.opened(), from, to, memory) {
+        Ok(()) => 0,
+        Err(refusal) => refusal.number(),
+    }
+}
+
+/// Writes the writes to a page, in their order, over the front of a buffer, and sets `count` to their number. If the
+/// buffer is too short, it sets only that. It allocates nothing.
+#[unsafe(no_mangle)]
+pub extern "C" fn precopy_trace_page_writes(
+    trace: &TraceHandle<'_>,
+    page: u32,
+    writes: &mut [PageWrite],
+    count: &mut usize,
+) -> u32
+    requires { IsOpened trace.now }
+    ensures made { result ≡ 0 → (t : GuestTrace) × Shows trace.now t × (page < t.pages)
+        × (count.new ≡ length (rows_of t page)) × (writes.new ≡ over (rows_of t page) writes.old) }
+    ensures short { result ≡ 61 → (t : GuestTrace) × Shows trace.now t × (page < t.pages)
+        × (count.new ≡ length (rows_of t page)) × (length writes.old < count.new) }
+    ensures refused { result ≢ 0 → result ≢ 61 → (t : GuestTrace) × Shows trace.now t × (result ≡ 67) × (t.pages ≤ page)
+        × (count.new ≡ count.old) }
+    ensures only { (t : GuestTrace) → Shows trace.now t → page < t.pages → (result ≡ 0) ⊎ (result ≡ 61) }
+    ensures unchanged { result ≢ 0 → writes.new ≡ writes.old }
+{
+    let opened = trace.opened();
+    if page >= opened.shape().pages {
+        return PlaceRefusal::NoPage.number();
+    }
+    *count = count_writes(&opened, page);
+    if writes.len() < *count {
+        return PlaceRefusal::ShortBuffer.number();
+    }
+    put_writes(&opened, page, writes);
+    0
 }

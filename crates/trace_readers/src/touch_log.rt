@@ -17,7 +17,9 @@ use crate::visiting::{Taken, take_header, visit_rest};
 use crate::write_visitor::WriteVisitor;
 use std::alloc::{AllocError, Global};
 use std::marker::Model;
-use trace_codec::{Header, Shape, Source, Timeline, Touch, TraceError, TraceReader, WriteView};
+use trace_codec::{
+    Header, Shape, Source, Timeline, Touch, TraceError, TraceReader, WriteLog, WriteView,
+};
 
 /// How many bytes the shortest record has: that of a release, which has only its 16 bytes of numbers.
 pub(crate) const SHORTEST_RECORD: usize = 16;
@@ -116,6 +118,22 @@ fn log_of_source<S: Source>(alloc: Global, source: &mut S) -> Result<TouchLog, T
 }
 
 impl TouchLog {
+    /// Returns the touches of the writes of a log, which are in memory. The only error is that memory runs out.
+    pub fn of_log<W: WriteLog>(alloc: Global, log: &W) -> Result<TouchLog, AllocError>
+        ensures { IfOk result (λ touches. touches ≡ touches_in (W.trace log.now)) }
+    {
+        let header = Header {
+            version: log.version(),
+            shape: log.shape(),
+        };
+        let count = log.touch_count();
+        let mut touches = Vec::with_capacity(alloc, count)?;
+        for index in 0..count {
+            touches.push(log.touch(index))?;
+        }
+        Ok(TouchLog { header, touches })
+    }
+
     /// Reads the touches of a trace from its bytes, in one pass over the records. It never returns `E17`. It allocates
     /// no more than the bytes' length, whatever the header claims.
     pub fn parse(alloc: Global, bytes: &[u8]) -> Result<TouchLog, TraceError>

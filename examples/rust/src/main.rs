@@ -1,7 +1,7 @@
 //! Reads a trace from standard input, and prints the report on it, as `precopy report` does; or, given `memory TICK`,
 //! the memory before a tick; or, given `receive SHIFT PAGES WRITES`, the memory that a stream of frames leaves.
 
-use precopy::{memory_before, report, FlatMemory, Settings, Sizes};
+use precopy::{report, FlatMemory, OpenTrace, Settings, Sizes};
 use std::error::Error;
 use std::io::{Read, Write};
 use std::str::FromStr;
@@ -34,7 +34,7 @@ fn received(words: &[String], stream: &[u8]) -> Result<Vec<u8>, Box<dyn Error>> 
 
 fn output(words: &[String], input: &[u8]) -> Result<Vec<u8>, Box<dyn Error>> {
     match words.first().map(String::as_str) {
-        Some("memory") => Ok(memory_before(input, number(words, 1)?)?),
+        Some("memory") => Ok(OpenTrace::open(input)?.memory_before(number(words, 1)?)?),
         Some("receive") => received(words, input),
         _ => Ok(report(input, &Settings::default())?.into_bytes()),
     }

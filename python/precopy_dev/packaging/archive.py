@@ -40,6 +40,15 @@ def add(tar, name, entry, moment):
     tar.addfile(told, io.BytesIO(entry.data))
 
 
+def tarball(name, entries):
+    """A compressed tarball of one folder of this name. The same entries give the same bytes."""
+    packed = io.BytesIO()
+    with tarfile.open(fileobj=packed, mode="w", format=tarfile.GNU_FORMAT) as tar:
+        for entry in sorted(entries, key=lambda entry: entry.place):
+            add(tar, name, entry, contents.moment(contents.version.DATE))
+    return gzip.compress(packed.getvalue(), 9, mtime=0)
+
+
 def build(folder):
     """Writes the tarball and its checksum into a folder, and returns their paths."""
     version, machine = contents.version.VERSION, platform.machine()
@@ -49,11 +58,7 @@ def build(folder):
     text = INSTALL.format(version=version, machine=machine, libc=least_libc(entries), python=LEAST_PYTHON)
     entries.append(contents.Entry("INSTALL", text.encode()))
     name = f"precopy-{version}-linux-{machine}"
-    packed = io.BytesIO()
-    with tarfile.open(fileobj=packed, mode="w", format=tarfile.GNU_FORMAT) as tar:
-        for entry in sorted(entries, key=lambda entry: entry.place):
-            add(tar, name, entry, contents.moment(contents.version.DATE))
-    data = gzip.compress(packed.getvalue(), 9, mtime=0)
+    data = tarball(name, entries)
     sum_line = f"{hashlib.sha256(data).hexdigest()}  {name}.tar.gz\n"
     for path, what in ((f"{name}.tar.gz", data), (f"{name}.tar.gz.sha256", sum_line.encode())):
         with open(os.path.join(folder, path), "wb") as file:

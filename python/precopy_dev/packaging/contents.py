@@ -206,10 +206,17 @@ def page_that_plans(places) -> Iterator[Entry]:
         yield Entry(os.path.join(folder, PAGE), link=os.path.relpath(place, folder))
 
 
-def joined_page() -> bytes:
-    """The page as `make page` writes it."""
+def module() -> bytes:
+    """The WebAssembly module of the page, which the package for Node has too."""
     if not os.path.isfile(os.path.join(TOP, MODULE)):
         raise NotBuilt("the page's module is not built: make page builds it")
+    with open(os.path.join(TOP, MODULE), "rb") as file:
+        return file.read()
+
+
+def joined_page() -> bytes:
+    """The page as `make page` writes it."""
+    module()
     with tempfile.TemporaryDirectory() as folder:
         made = os.path.join(folder, PAGE)
         joined = subprocess.run([os.path.join(TOP, "dev", "join-page"), os.path.join(TOP, MODULE), made])

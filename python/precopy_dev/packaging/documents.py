@@ -1,5 +1,6 @@
 """The documents as they are installed: programs and tools have their installed names, and what only sources have is
-left out. Documents for those who change precopy, and the README of the crate for Rust, stay as they are.
+left out. Documents for those who change precopy, and the READMEs of the crate for Rust and of the package for Node,
+stay as they are.
 """
 
 import re
@@ -13,6 +14,7 @@ ONLY_SOURCES = {
 OF_BUILDERS = {
     "CHANGELOG.md",
     "CONTRIBUTING.md",
+    "bindings/js/README.md",
     "bindings/rust/README.md",
     "docs/ARCHITECTURE.md",
     "docs/DECISIONS.md",
@@ -31,6 +33,7 @@ RENAMED = {
     "`make lib` builds a static and a shared library": "the package `libprecopy-dev` has the library",
     "`make deb` makes `python3-precopy`": "the package `python3-precopy` has the module",
     "`./precopy` and installed programs add": "Programs add",
+    " by the page's module (`make js`)": ", in the sources, by the page's module",
     "    $ examples/left_out.py": "    $ python3 examples/left_out.py",
     "predictions the built `precopy-view`": "predictions `precopy-view`",
     "machine code in the\npackage, and in the sources after `make scan`, which needs a C compiler": "machine code",

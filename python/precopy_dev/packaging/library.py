@@ -1,4 +1,4 @@
-"""The library for C: libprecopy.a and libprecopy.so.5, made of the proved archive of crates/precopy_c.
+"""The library for C: libprecopy.a and libprecopy.so.6, made of the proved archive of crates/precopy_c.
 
 Both hold the same object, in which only the functions of include/precopy.h have names that others see.
 """
@@ -15,7 +15,7 @@ from precopy_dev.tree import TOP
 ARCHIVE = os.path.join(TOP, "crates", "precopy_c", "out", "libprecopy_c.a")
 FOLDER = os.path.join(TOP, "out", "library")
 # The number of the interface, which is PRECOPY_ABI.
-INTERFACE = 5
+INTERFACE = 6
 NAME = f"libprecopy.so.{INTERFACE}"
 # What it is made of besides the archive.
 PARTS = ("include/precopy.h", "packaging/messages.c", "packaging/status_texts.h", "packaging/library.map")

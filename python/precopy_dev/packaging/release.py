@@ -5,11 +5,13 @@ import os
 import re
 import subprocess
 
+from precopy_dev import js_package
 from precopy_dev.packaging import archive, contents, debian, notices
 from precopy_dev.tree import TOP
 from precopy_tools.version import VERSION
 
 TAG = f"v{VERSION}"
+NODE = f"precopy-planner-{VERSION}.tgz"
 
 
 class NotClean(Exception):
@@ -39,12 +41,19 @@ def changes():
     return dict(zip(parts[1::2], parts[2::2]))[VERSION].strip() + "\n"
 
 
+def node_package():
+    """The package for Node as npm packs one: a tarball of the folder `package`."""
+    files = js_package.package_of(contents.module())
+    return archive.tarball("package", [contents.Entry(path, data) for path, data in files.items()])
+
+
 def build(folder, maintainer):
     """Writes the files of the release into a folder, and returns their paths. The same tree gives the same bytes."""
     tag()
     paths = [*debian.build_all(folder, maintainer), *archive.build(folder)]
     texts = {
         contents.PAGE: contents.joined_page(),
+        NODE: node_package(),
         "NOTICES": notices.notices().encode(),
         "CHANGES.md": changes().encode(),
     }

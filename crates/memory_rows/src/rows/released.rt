@@ -6,7 +6,7 @@ use super::fixtures::{AT_END, FIRST, FOURTH, Page, SECOND, THIRD, ZEROS, releasi
 use super::version::{Later, are_later, are_pages, page_at};
 use image_build::replay_before;
 use page_message::{encode_frame, frame_of};
-use page_versions::PageIndex;
+use page_versions::{PageIndex, put_writes};
 use std::alloc::Global;
 use std::process::Abort;
 use std::thread::Threads;
@@ -37,6 +37,20 @@ fn released_pages_at_later_versions(rt: HostRuntime) {
     ];
     let trace = releasing_guest(&rt, rt.alloc());
     assert!(rt; are_later(&rt, rt.alloc(), &trace, &ROWS, 1));
+}
+
+#[test]
+fn writes_at_places(rt: HostRuntime) {
+    let trace = releasing_guest(&rt, rt.alloc());
+    let shape = trace.shape();
+    let mut page = ZEROS;
+    if page.len() != shape.page_size() || shape.writes < 5 {
+        panic!(rt; "a guest of five writes");
+    }
+    put_writes(&mut page, &trace, &[2, 3]);
+    assert!(rt; page == THIRD);
+    put_writes(&mut page, &trace, &[2, 5]);
+    assert!(rt; page == ZEROS);
 }
 
 /// Returns the pages that a cache of one page returns of page 1, asked for these versions in order.

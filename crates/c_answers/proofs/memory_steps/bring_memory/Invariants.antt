@@ -1,12 +1,7 @@
-use Rattle.std.specs.List.{All}
-use Rattle.migration_model.specs.Trace.{IsGuestWrite}
-use Rattle.c_answers.specs.Places.{brought_on}
-use Rattle.c_answers.proofs.MemorySteps.{Steps}
+use Rattle.image_build.proofs.Replays.{Becomes}
+use Rattle.c_answers.proofs.MemorySteps.{left_to, whole_after}
 use Rattle.c_answers.proofs.memory_steps.bring_memory.Given as goal
 
-abbrev pub invariant-loop-write : goal.invariant-loop-write
-invariant-loop-write l = record {
-  steps : Steps l.shape.shift l.shape.pages l.from l.to l.place l.memory l.write-iterator
-      (brought_on l.trace l.from l.to l.fn.memory);
-  fit : All (IsGuestWrite l.trace.version l.shape.shift l.shape.pages) l.write-iterator;
-}
+abbrev pub invariant-loop-index : goal.invariant-loop-index
+invariant-loop-index l = Becomes l.shape.shift l.shape.pages l.memory (left_to l.trace l.to l.index)
+    (whole_after l.trace l.from l.to l.fn.memory)

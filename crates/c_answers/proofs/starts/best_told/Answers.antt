@@ -1,25 +1,28 @@
-use Rattle.std.proofs.Common.{◌≡◌, ◌∙◌, ap, subst, sym}
+use Rattle.std.proofs.Common.{◌≡◌, rules, subst, sym}
 use Rattle.std.proofs.lemmas.Result.{err_from_is_err_and}
-use Rattle.migration_model.proofs.Traces.{one_trace_lem}
-use Rattle.migration_model.specs.Touches.{GuestTouches, touches_in}
+use Rattle.migration_model.specs.Touches.{GuestTouches, last_tick_of, touches_of}
+use Rattle.predictions.specs.Questions.{settings_of}
+use Rattle.predictions.specs.Starts.{RefusesStarts}
 use Rattle.predictions.specs.declared.question.Terms.{Terms}
 use Rattle.predictions.specs.declared.starts.cases.Starts.{Starts}
-use Rattle.predictions.specs.declared.starts.error.StartsError.{StartsError}
-use Rattle.c_answers.specs.Starts.{AreTaken, number_of_best, starts_in}
-use Rattle.c_answers.specs.declared.starts.StartsRefusal.TheVariants.{Starts as OfStarts}
+use Rattle.c_answers.specs.Starts.{RefusesBest}
 use Rattle.c_answers.proofs.starts.best_told.Goals as goal
 
-pub returns-in_err-best-clause-only : goal.returns-in_err-best-clause-only
-returns-in_err-best-clause-only c t asked =
+pub returns-in_err-best-clause-refused : goal.returns-in_err-best-clause-refused
+returns-in_err-best-clause-refused c =
     let p = err_from_is_err_and c.from_residual-in_err-best.result c.from_residual-in_err-best.ensures.1 in
     let made = c.in_ok-terms.ensures.made in
     let found = c.in_ok-terms.field-0 in
-    let ticks = starts_in c.args.asked.now.question c.args.starts.now in
-    let same : made.trace ≡ t = one_trace_lem c.args.bytes.now made.trace t made.spells asked.spells in
-    let log : touches_in t ≡ found.log = ap touches_in (sym same) ∙ sym made.log_is in
-    let taken : AreTaken found.terms c.of_question-starts.result found.log =
-    subst (λ (l : GuestTouches). AreTaken found.terms c.of_question-starts.result l) log
-    (subst (λ (s : Starts). AreTaken found.terms s (touches_in t)) (sym c.of_question-starts.ensures)
-    (subst (λ (m : Terms). AreTaken m ticks (touches_in t)) (sym made.terms_are) asked.taken)) in
-    let memory = c.in_err-best.ensures.only taken in
-    rw p.1 (ap number_of_best p.2 ∙ ap (λ (e : StartsError). number_of_best (OfStarts e)) memory)
+    let e = c.in_err-best.field-0.0 in
+    let size : c.args.starts.now.size ≡ 32 = search rules in
+    let refused =
+    subst (λ (l : GuestTouches). RefusesStarts found.terms.settings c.of_question-starts.result
+    (last_tick_of l.touches) e) made.log_is c.in_err-best.ensures.refused in
+    let of_terms =
+    subst (λ (t : Terms). RefusesStarts t.settings c.of_question-starts.result
+    (last_tick_of (touches_of c.args.trace.now)) e) made.terms_are refused in
+    let of_starts =
+    subst (λ (s : Starts). RefusesStarts (settings_of c.args.asked.now.question) s
+    (last_tick_of (touches_of c.args.trace.now)) e) c.of_question-starts.ensures of_terms in
+    rw p.1 (subst (RefusesBest c.args.trace.now c.args.asked.now c.args.starts.now) (sym p.2)
+    (size, made.is_asked, made.fits, of_starts))

@@ -1,20 +1,18 @@
-use Rattle.std.proofs.Common.{◌≡◌, ◌≤◌, ◌∙◌, ap, arith}
-use Rattle.open_traces.specs.Index.{next_after}
-use Rattle.open_traces.proofs.PageWalks.{version_to, version_within}
+use Rattle.std.proofs.Common.{◌∙◌, List, ℕ, ap, get_or, length, arith}
+use Rattle.open_traces.proofs.Searched.{next_found, next_none, places_of_rise}
 use Rattle.open_traces.proofs.open_trace.OpenTrace.behind.Goals as goal
 
-pub returns-then-version-eq0 : goal.returns-then-version-eq0
-returns-then-version-eq0 c =
-    let none : 0 ≡ c.args.version = omega (arith, c.if-version-eq0.true) in
-    c.first.ensures ∙ ap (next_after c.args.self.now c.args.page) none
-
-pub next-requires-clause-within : goal.next-requires-clause-within
-next-requires-clause-within c = version_within c.args.self.now c.args.page c.args.version c.requires.is
+pub count_to-few-requires : goal.count_to-few-requires
+count_to-few-requires c = rw c.places-places.ensures (places_of_rise c.args.self.now c.args.page)
 
 pub returns : goal.returns
 returns c =
-    let trace = c.args.self.now in
-    let some : 1 ≤ c.args.version = omega (arith, c.if-version-eq0.false) in
-    c.next.ensures
-    ∙ ap (λ page. next_after trace page c.args.version) (version_to trace c.args.page c.args.version some
-    (version_within trace c.args.page c.args.version c.requires.is) c.requires.is)
+    ap (λ (l : List ℕ). get_or l c.count_to-few.result 0) c.places-places.ensures
+    ∙ next_found c.args.self.now c.args.page c.args.version c.count_to-few.result
+    (rw c.places-places.ensures at c.count_to-few.ensures)
+
+pub returns-then-few-places : goal.returns-then-few-places
+returns-then-few-places c =
+    next_none c.args.self.now c.args.page c.args.version c.count_to-few.result
+    (rw c.places-places.ensures at c.count_to-few.ensures)
+    (omega (arith, c.if-few-places.true, ap length c.places-places.ensures))

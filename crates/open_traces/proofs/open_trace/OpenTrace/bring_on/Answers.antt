@@ -1,71 +1,49 @@
-use Rattle.std.proofs.Common.{inl, inr, ◌∙◌, ap, arith}
-use Rattle.guest_log.specs.Writes.{shown}
-use Rattle.open_traces.specs.Index.{next_after}
-use Rattle.open_traces.proofs.PageWalks.{Turned-all, Turned-is, Turned-len, Turned-next, version_within, write_fits}
+use Rattle.std.proofs.Common.{◌≡◌, ◌-◌, ◌≤◌, ◌∙◌, ap, drop, length, take, ℕ, arith}
+use Rattle.std.proofs.lemmas.List.Elements.{All-drop, All-take}
+use Rattle.std.proofs.lemmas.List.Sorted.{IsNonDecreasingBy-drop}
+use Rattle.std.proofs.lemmas.Slice.{between_to_end}
+use Rattle.migration_model.proofs.Pages.{length-page_at}
+use Rattle.page_versions.specs.Index.{places_of}
+use Rattle.page_versions.specs.Pages.{put_all}
+use Rattle.open_traces.proofs.PageWalks.{version_within}
+use Rattle.open_traces.proofs.Searched.{page_found, places_of_fit, places_of_rise}
 use Rattle.open_traces.proofs.open_trace.OpenTrace.bring_on.Goals as goal
 
-pub loop-next-init : goal.loop-next-init
-loop-next-init c = record {
-  within = version_within c.args.self.now c.args.page c.args.from c.requires.is;
-  early = c.requires.later;
-  is = c.behind-next.ensures;
-  bytes_are = c.requires.bytes;
-}
+pub count_to-requires : goal.count_to-requires
+count_to-requires c = rw c.places-places.ensures (places_of_rise c.args.self.now c.args.page)
 
-pub write-write-requires : goal.write-write-requires
-write-write-requires c =
-    let at = c.loop-next in
-    let next = Turned-is c.args.self.now c.args.page c.args.count at.version at.next at.content at.invariant
-    c.loop-next-test.true in
-    omega (arith, next.later, next.within)
+pub count_to-requires-2 : goal.count_to-requires-2
+count_to-requires-2 c =
+    let places = c.places-places.result.now in
+    let few = c.count_to.result in
+    rw (between_to_end places few (length places) (omega arith), c.places-places.ensures)
+    (IsNonDecreasingBy-drop (λ v. v) few (places_of c.args.self.now c.args.page)
+    (places_of_rise c.args.self.now c.args.page))
 
-pub put_at-requires : goal.put_at-requires
-put_at-requires c =
-    let at = c.loop-next in
+pub put_writes-requires-clause-room : goal.put_writes-requires-clause-room
+put_writes-requires-clause-room c =
+    ap length c.requires.bytes
+    ∙ length-page_at c.args.self.now c.args.page c.args.from c.shape.ensures.is_trace c.requires.page
+
+pub put_writes-requires-clause-places : goal.put_writes-requires-clause-places
+put_writes-requires-clause-places c =
     let trace = c.args.self.now in
-    let shape = c.shape-shape in
-    let next = Turned-is trace c.args.page c.args.count at.version at.next at.content at.invariant
-    c.loop-next-test.true in
-    let len = Turned-len trace c.args.page c.args.count at.version at.next at.content shape.ensures.is_trace
-    c.requires.page at.invariant in
-    let fits = write_fits trace at.next (shown c.write-write.result) shape.ensures.is_trace (omega (arith, next.later))
-    next.within c.write-write.ensures in
-    rw shape.ensures.shift (omega (arith, fits, len))
+    let places = c.places-places.result.now in
+    let few = c.count_to.result in
+    let P : ℕ → Type 0 = λ v. (1 ≤ v) × (v ≤ length trace.writes) in
+    rw (between_to_end places few (length places) (omega arith), c.places-places.ensures)
+    (All-take P c.count_to-2.result (drop few (places_of trace c.args.page))
+    (All-drop P few (places_of trace c.args.page) (places_of_fit trace c.args.page)))
 
-pub next-next-requires-clause-within : goal.next-next-requires-clause-within
-next-next-requires-clause-within c =
-    let at = c.loop-next in
-    (Turned-is c.args.self.now c.args.page c.args.count at.version at.next at.content at.invariant
-    c.loop-next-test.true).within
-
-pub loop-next-smaller : goal.loop-next-smaller
-loop-next-smaller c =
-    let at = c.loop-next in
-    let next = Turned-is c.args.self.now c.args.page c.args.count at.version at.next at.content at.invariant
-    c.loop-next-test.true in
-    omega (arith, next.later, next.within)
-
-pub loop-next-preserved : goal.loop-next-preserved
-loop-next-preserved c =
-    let at = c.loop-next in
+pub returns : goal.returns
+returns c =
     let trace = c.args.self.now in
-    let shape = c.shape-shape in
-    let next = Turned-is trace c.args.page c.args.count at.version at.next at.content at.invariant
-    c.loop-next-test.true in
-    let puts = rw shape.ensures.shift at c.put_at.ensures in
-    Turned-next trace c.args.page c.args.count at.version at.next c.next-next.result at.content c.put_at.new.bytes
-    (shown c.write-write.result) shape.ensures.is_trace c.requires.page at.invariant c.loop-next-test.true
-    c.if-next-count.true c.write-write.ensures puts
-    (c.next-next.ensures ∙ ap (λ page. next_after trace page at.next) next.own)
-
-pub returns-else-next-count : goal.returns-else-next-count
-returns-else-next-count c =
-    let at = c.loop-next in
-    Turned-all c.args.self.now c.args.page c.args.count at.version at.next at.content c.shape-shape.ensures.is_trace
-    c.requires.page at.invariant (inr (omega (arith, c.if-next-count.false)))
-
-pub returns-after-loop-next : goal.returns-after-loop-next
-returns-after-loop-next c =
-    let at = c.loop-next in
-    Turned-all c.args.self.now c.args.page c.args.count at.version at.next at.content c.shape-shape.ensures.is_trace
-    c.requires.page at.invariant (inl (omega (arith, c.loop-next-test.false)))
+    let places = c.places-places.result.now in
+    let few = c.count_to.result in
+    let later : take (length places - few) (drop few places) ≡ drop few (places_of trace c.args.page) =
+    between_to_end places few (length places) (omega arith) ∙ ap (drop few) c.places-places.ensures in
+    c.put_writes.ensures
+    ∙ (λ i. put_all trace (c.requires.bytes i) (take c.count_to-2.result (later i)))
+    ∙ page_found trace c.args.page c.args.from c.args.count few c.count_to-2.result c.shape.ensures.is_trace
+    c.requires.page c.requires.later (version_within trace c.args.page c.args.from c.requires.is)
+    (rw c.places-places.ensures at c.count_to.ensures) (rw later at c.count_to-2.ensures)

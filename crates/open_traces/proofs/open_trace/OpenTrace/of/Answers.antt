@@ -9,7 +9,7 @@ use Rattle.open_traces.proofs.open_trace.OpenTrace.of.Goals as goal
 pub split_at-requires-2 : goal.split_at-requires-2
 split_at-requires-2 c =
     let size : length c.args.words.now ≡ index_length c.requires.trace = ap length c.requires.is_open.words_are
-    ∙ length-index c.requires.trace in
+    ∙ length-index c.requires.trace c.requires.is_open.spells.is_trace in
     omega (
       arith,
       size,
@@ -22,7 +22,7 @@ pub split_at-requires-3 : goal.split_at-requires-3
 split_at-requires-3 c =
     let n = c.args.header.shape.writes in
     let size : length c.args.words.now ≡ index_length c.requires.trace = ap length c.requires.is_open.words_are
-    ∙ length-index c.requires.trace in
+    ∙ length-index c.requires.trace c.requires.is_open.spells.is_trace in
     omega (
       arith,
       size,

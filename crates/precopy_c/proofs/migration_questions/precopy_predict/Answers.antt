@@ -1,6 +1,0 @@
-use Rattle.std.proofs.Common.{inr, ◌∙◌}
-use Rattle.precopy_c.proofs.migration_questions.precopy_predict.Goals as goal
-
-pub returns-in-Err-clause-only : goal.returns-in-Err-clause-only
-returns-in-Err-clause-only c t spells asked fits =
-    inr (c.told.ensures.number ∙ c.in-Err.ensures.only t spells asked fits)
