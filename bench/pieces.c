@@ -116,7 +116,11 @@ int main(int argc, char **argv) {
     uint32_t *words = malloc(sizeof(*words) * PRECOPY_WORDS_BOUND(trace.length));
     struct precopy_trace opened;
     double least[4];
-    for (int run = 0; words && run < atoi(argv[3]); run++) {
+    int runs = atoi(argv[3]);
+    if (!words || runs < 1) {
+        stop("no memory, or no run");
+    }
+    for (int run = 0; run < runs; run++) {
         double open = opening(trace, words, &opened), once = at_once(trace, stream, opened.sizes.writes);
         double took[4] = {once, open, in_pieces(&opened, stream, 0), in_pieces(&opened, stream, 1)};
         for (int at = 0; at < 4; at++) {
