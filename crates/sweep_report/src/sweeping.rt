@@ -296,9 +296,9 @@ fn one_by_one<T: Timeline>(
     Ok(lines)
 }
 
-/// Returns the line of each case, in order: the sums of its plan, each case planned by itself. Up to `workers` workers,
-/// 1 to 16, take case after case, if there is enough to do; the lines are the same for any number of them. The error is
-/// `Memory`, if memory runs out for a list or for marks of pages.
+/// Returns the line of each case, in order: the sums of its plan. Cases that begin alike share rounds. Up to `workers`
+/// workers, 1 to 16, take some cases after others, if there is enough to do; the lines are the same for any number of
+/// them. The error is `Memory`, if memory runs out for a list or for marks of pages.
 pub fn sweep<R: Threads + Sync, T: Timeline + Sync>(
     rt: &R,
     alloc: Global,
