@@ -1,15 +1,17 @@
 -- Rounds that plans of one trace share: what a round does hangs on how it begins alone.
-use Rattle.std.proofs.Common.{◌≡◌, ℕ, ◌≤◌, ◌&&◌, leb, Option, Some, List, [], ◌∷◌, ◌++◌, length, take, replicate, sym}
+use Rattle.std.proofs.Common.{◌≡◌, ℕ, ◌≤◌, ◌&&◌, leb, Option, None, Some, List, [], ◌∷◌, ◌++◌, length, take, replicate, sym}
 use Rattle.std.proofs.Common.{ap, subst, ◌∙◌, arith, ◌-◌, ◌⊎◌, inl, inr}
 use Rattle.std.specs.Prelude.{IfSome}
+use Rattle.std.proofs.lemmas.List.Elements.{All-replicate}
 use Rattle.migration_model.specs.Rates.{MigrationSettings}
 use Rattle.migration_model.specs.Rounds.{IsSent, NextRound, first_round, pages_lacking, round_after}
 use Rattle.migration_model.specs.Touches.{GuestTouch, pages_written}
 use Rattle.page_bitmap.specs.Listing.{word_count}
 use Rattle.round_planner.specs.Indexing.{IsFirst, IsMarkedAt, IsTurned, RanTo}
-use Rattle.round_planner.specs.Known.{BeginsSo, IsAhead, RunsSo, start_of}
+use Rattle.round_planner.specs.Known.{AreKnown, BeginsSo, IsAhead, RunsSo, start_of, sums_of}
 use Rattle.round_planner.specs.Steps.{IsAfter, numbers_after}
 use Rattle.round_planner.specs.declared.known.Ahead.{Ahead}
+use Rattle.round_planner.specs.declared.known.KnownRound.{KnownRound}
 use Rattle.round_planner.specs.declared.known.RoundStart.{RoundStart}
 use Rattle.round_planner.specs.declared.numbers.RoundSums.{RoundSums}
 use Rattle.round_planner.specs.declared.step.After.TheVariants.{Go}
@@ -17,6 +19,15 @@ use Rattle.round_planner.specs.declared.step.Step.{Step}
 use Rattle.round_planner.proofs.MarkedWays.{marked_next}
 use Rattle.round_planner.proofs.Outcomes.{goes_further, starts}
 use Rattle.round_planner.proofs.Scans.{begun}
+
+abbrev pub no_round : Option KnownRound
+no_round = None
+
+-- empty slots hold no round
+pub none_known : (pages : ℕ) (touches : List GuestTouch) (known : List (Option KnownRound))
+    → known ≡ replicate 64 no_round → AreKnown pages touches known
+none_known pages touches known is = rw is (All-replicate
+    (λ (slot : Option KnownRound). IfSome slot (λ round. RunsSo pages touches round.start (sums_of round))) 64 no_round tt)
 
 -- what a round did, each round does that begins so
 pub runs_so : (pages : ℕ) (touches : List GuestTouch) (s : MigrationSettings) (coming : NextRound) (start : RoundStart)

@@ -1,6 +1,6 @@
 //! Rounds that the plans of one trace share: what a round does hangs on the trace and on how it begins alone.
 
-ghost use Rattle.std.specs.Prelude.{◌≡◌, ◌<◌, ℕ, IfSome, List, length};
+ghost use Rattle.std.specs.Prelude.{◌≡◌, ◌<◌, ℕ, IfOk, IfSome, List, None, length, replicate};
 ghost use Rattle.migration_model.specs.Touches.{GuestTouch};
 ghost use Rattle.round_planner.specs.Indexing.{IsFirst};
 ghost use Rattle.round_planner.specs.Known.{AreKnown, IsFollowed, RunsSo, start_of, sums_of};
@@ -10,6 +10,7 @@ use crate::parts::Outcome;
 use crate::planning::may_skip;
 use guest_log::Timeline;
 use rate_limit::Settings;
+use std::alloc::{AllocError, Global};
 
 /// How a round begins.
 #[derive(Clone, Copy, PartialEq, Eq)]
@@ -83,6 +84,17 @@ impl KnownRound {
             dirtied: self.dirtied,
         }
     }
+}
+
+/// Returns a slot for the round of each number, all of them empty.
+pub(crate) fn no_rounds(alloc: Global) -> Result<Vec<Option<KnownRound>>, AllocError>
+    ensures { IfOk result (λ known. known.items ≡ replicate 64 None) }
+{
+    let mut known = Vec::with_capacity(alloc, 64)?;
+    for _ in 0..64usize {
+        known.push(None)?;
+    }
+    Ok(known)
 }
 
 /// Returns what round `done` does that begins so, if it is known.

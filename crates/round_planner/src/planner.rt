@@ -2,14 +2,14 @@
 
 // `IsPlan` holds of one value alone: `one_plan`.
 
-ghost use Rattle.std.specs.Prelude.{IfErr, IfOk, ◌≡◌};
+ghost use Rattle.std.specs.Prelude.{IfErr, IfOk, None, replicate, ◌≡◌};
 ghost use Rattle.migration_model.specs.Sweeps.{IsOutcome};
 ghost use Rattle.round_planner.specs.Indexing.{IsRoundIndexOf};
 ghost use Rattle.round_planner.specs.Known.{IsPlannerFor};
 
 use crate::error::PlanError;
 use crate::index::RoundIndex;
-use crate::known::{Followed, KnownRound, follow};
+use crate::known::{Followed, KnownRound, follow, no_rounds};
 use crate::marked::marked_on;
 use crate::parts::Outcome;
 use crate::tally::{counted_rounds, first_counted};
@@ -48,6 +48,8 @@ impl Planner {
     /// Returns a planner for a trace. The error is `Memory`, if memory runs out for its buffers of 33 bits a page and
     /// of 64 rounds.
     pub fn new<T: Timeline>(alloc: Global, timeline: &T) -> Result<Planner, PlanError>
+        ensures value { IfOk result (λ planner. planner
+            ≡ record { pages = T.pages timeline.now; known = replicate 64 None }) }
         ensures planner { IfOk result (IsPlannerFor (T.pages timeline.now) (T.touches timeline.now)) }
         ensures refusal { IfErr result (λ e. e ≡ PlanError.Memory) }
     {
@@ -55,7 +57,7 @@ impl Planner {
         Ok(Planner {
             marks: Vec::from_elem(alloc, 0, word_count(pages))?,
             room: Vec::from_elem(alloc, 0, pages)?,
-            known: Vec::from_elem(alloc, None, 64)?,
+            known: no_rounds(alloc)?,
         })
     }
 
