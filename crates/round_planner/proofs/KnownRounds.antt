@@ -1,6 +1,6 @@
 -- Rounds that plans of one trace share: what a round does hangs on how it begins alone.
-use Rattle.std.proofs.Common.{◌≡◌, ℕ, ◌≤◌, ◌&&◌, leb, Option, None, Some, List, [], ◌∷◌, ◌++◌, length, take, replicate, sym}
-use Rattle.std.proofs.Common.{ap, subst, ◌∙◌, arith, ◌-◌, ◌⊎◌, inl, inr}
+use Rattle.std.proofs.Common.{◌≡◌, ℕ, ◌≤◌, ◌&&◌, leb, Option, None, Some, List, [], ◌∷◌, ◌++◌, length, take, replicate}
+use Rattle.std.proofs.Common.{sym, ap, subst, ◌∙◌, arith, ◌-◌, ◌⊎◌, inl, inr}
 use Rattle.std.specs.Prelude.{IfSome}
 use Rattle.std.proofs.lemmas.List.Elements.{All-replicate}
 use Rattle.migration_model.specs.Rates.{MigrationSettings}
@@ -27,7 +27,8 @@ no_round = None
 pub none_known : (pages : ℕ) (touches : List GuestTouch) (known : List (Option KnownRound))
     → known ≡ replicate 64 no_round → AreKnown pages touches known
 none_known pages touches known is = rw is (All-replicate
-    (λ (slot : Option KnownRound). IfSome slot (λ round. RunsSo pages touches round.start (sums_of round))) 64 no_round tt)
+    (λ (slot : Option KnownRound). IfSome slot (λ round. RunsSo pages touches round.start (sums_of round))) 64 no_round
+    tt)
 
 -- what a round did, each round does that begins so
 pub runs_so : (pages : ℕ) (touches : List GuestTouch) (s : MigrationSettings) (coming : NextRound) (start : RoundStart)
@@ -131,7 +132,8 @@ order_next : (pages : ℕ) (touches : List GuestTouch) (s : MigrationSettings) (
     → since ≡ Some ahead.numbers.step.from → IfSome since (λ tick. tick ≤ r.round.to)
 order_next pages touches s ahead since ran is r since_is =
     let from : r.round.from ≡ ahead.numbers.step.from = r.run.is_round.from_is ∙ sym is.way.at.from_is in
-    subst (λ (base : Option ℕ). IfSome base (λ tick. tick ≤ r.round.to)) (sym since_is) (omega (arith, r.run.order, from))
+    subst (λ (base : Option ℕ). IfSome base (λ tick. tick ≤ r.round.to)) (sym since_is)
+    (omega (arith, r.run.order, from))
 
 -- the round after one
 pub ahead_next : (pages : ℕ) (touches : List GuestTouch) (s : MigrationSettings) (ahead next : Ahead)
@@ -211,6 +213,6 @@ marked_ahead_next pages touches s ahead next ran step marks room new_marks new_r
         order = order_next pages touches s ahead next.since ran is r since;
         in_range = is.in_range;
       };
-      at = rw numbers (marked_next pages touches s ahead.numbers is.coming ran step new_marks new_room is.way.at r way.at
-          turned len);
+      at = rw numbers (marked_next pages touches s ahead.numbers is.coming ran step new_marks new_room is.way.at r
+          way.at turned len);
     }

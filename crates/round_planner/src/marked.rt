@@ -214,8 +214,8 @@ fn list_all(room: &mut [u32], count: u32)
     }
 }
 
-/// Lists the pages that a destination lacks at a tick: all, or, if it begins with the memory before a base, those written
-/// since. Returns how many there are.
+/// Lists the pages that a destination lacks at a tick: all, or, if it begins with the memory before a base, those
+/// written since. Returns how many there are.
 fn list_lacking<T: Timeline>(
     timeline: &T,
     base: Option<u64>,

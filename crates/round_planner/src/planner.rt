@@ -64,8 +64,8 @@ impl Planner {
     /// Returns the sums of the plan of some settings: as many rounds, the same end and as many pages sent as the plan
     /// of `plan` has. It allocates nothing.
     ///
-    /// Rounds that are remembered cost nothing. Of the others, if no page is skipped, it reads 4 bytes for each touch in
-    /// their ticks and no more. If pages are skipped, it marks the pages of these touches, and of those in the last
+    /// Rounds that are remembered cost nothing. Of the others, if no page is skipped, it reads 4 bytes for each touch
+    /// in their ticks and no more. If pages are skipped, it marks the pages of these touches, and of those in the last
     /// round that was remembered. If the settings have a base, it also reads 4 bytes for each touch from there to the
     /// first tick.
     pub fn outcome<T: Timeline>(

@@ -6,8 +6,8 @@ ghost use Rattle.std.specs.List.{All};
 use rate_limit::Settings;
 use std::alloc::{AllocError, Global};
 
-/// The number of a case, and how its plan begins. In order, cases come one after another whose plans begin alike, and of
-/// those the case with the least threshold first: its plan has the most rounds.
+/// The number of a case, and how its plan begins. In order, cases come one after another whose plans begin alike, and
+/// of those the case with the least threshold first: its plan has the most rounds.
 #[derive(Clone, Copy, PartialEq, Eq, PartialOrd, Ord)]
 pub(crate) struct CasePlace {
     skip: bool,
