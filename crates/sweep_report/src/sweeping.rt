@@ -99,7 +99,7 @@ fn plan_cases<T: Timeline>(
 /// to many workers.
 const CASES_AT_ONCE: usize = 8;
 
-/// Takes some cases after others by a counter that all workers share. Returns the lines of the cases taken.
+/// Takes a few cases at a time by a counter that all workers share. Returns the lines of the cases taken.
 fn take_cases<T: Timeline>(
     alloc: Global,
     timeline: &T,
