@@ -2,8 +2,8 @@
 //!
 //! A round that skips nothing only counts the pages that are written in it. With an index that is the number of writes
 //! whose page was not written before them in the round: one comparison a write. Else bits are set and counted. A round
-//! that skips sets the bits of pages as its scan comes to their ticks, so one test of a bit decides for each page. What a
-//! round does hangs on how it begins alone, so plans that begin alike share their first rounds.
+//! that skips sets the bits of pages as its scan comes to their ticks, so one test of a bit decides for each page. What
+//! a round does hangs on how it begins alone, so plans that begin alike share their first rounds.
 
 use crate::memory::zeros;
 use crate::text::Text;
