@@ -63,7 +63,7 @@ def check_form(tally):
     needed = set(re.findall(r"NEEDED.*\[(.*)\]", told))
     tally.add(needed <= {"libc.so.6"}, f"libprecopy.so.6 needs {sorted(needed)}")
     size = os.path.getsize(shared)
-    tally.add(size < 136 * 1024, f"libprecopy.so.6 has {size} bytes")
+    tally.add(size < 144 * 1024, f"libprecopy.so.6 has {size} bytes")
     print(f"libprecopy.so.6 has {size} bytes, libprecopy.a {os.path.getsize(archive)}", flush=True)
     # The contracts say the same numbers, but for two that no call answers: a failed read, and threads out of range.
     names = ("Answers", "Places", "Predictions", "Starts", "StreamChecks")

@@ -1,6 +1,6 @@
 """Tests the planner's page in a headless Chromium, and what users do with it in Firefox too.
 
-    checks/run page [--seed N] [--only PART] [--pictures FOLDER] [--module MODULE] [PRECOPY]
+    checks/run page [--seed N] [--only PART] [--without PART] [--pictures FOLDER] [--module MODULE] [PRECOPY]
 
 MODULE is the WebAssembly module, by default out/browser_planner.wasm, which `make page` builds; if it is missing,
 dev/page-module builds it. The page is joined from web/. Numbers that it shows for 440 random settings over 20 traces
@@ -19,7 +19,8 @@ With --pictures only looks are tried, and FOLDER gets them for a reader's eye: i
 page at each width, in light and in dark, PDFs of what is printed, and the files that the page saves; in Firefox too the
 scenes of checks/page/pictures.py, in light, in dark, on a phone, at 200 per cent, and on paper. With --only one
 part is tried: `node`, `package`, `firefox`, or in Chromium `numbers`, `starts`, `damages`, `addresses`, `uses`,
-`states`, `looks`, `loads` or `silence`; or one trial of these by the name of its function, as `check_told`.
+`states`, `looks`, `loads` or `silence`; or one trial of these by the name of its function, as `check_told`. With
+--without a part is not tried.
 """
 
 import html
@@ -51,6 +52,7 @@ from precopy_tools.refusals import Refused
 
 MOST_MODULE, MOST_PAGE = 65_536, 400_000
 IN_CHROMIUM = ["numbers", "starts", "damages", "addresses", "uses", "states", "looks", "loads", "silence"]
+PARTS = ["node", "package", "firefox", *IN_CHROMIUM]
 # The trials of a page that need nothing else, by their functions' names.
 TRIALS = {
     act.__name__: (words, act)
@@ -349,20 +351,22 @@ def check_all(tally, folder, module, path, precopy, only):
 
 
 def check(tally, given):
-    if unknown := set(given.only or ()) - {"node", "package", "firefox", *IN_CHROMIUM, *TRIALS}:
+    if unknown := {*(given.only or ()), *given.without} - {*PARTS, *TRIALS}:
         tally.add(False, f"there is no part {sorted(unknown)}")
         return
+    only = given.only or (given.without and [part for part in PARTS if part not in given.without])
     with tempfile.TemporaryDirectory() as folder:
         module, path = built_page(folder, given.module)
         if given.pictures:
             check_pictures(tally, path, given.pictures)
         else:
-            check_all(tally, folder, module, path, given.precopy, given.only)
+            check_all(tally, folder, module, path, given.precopy, only)
 
 
 def more(parser):
     parser.add_argument("--pictures", metavar="FOLDER")
     parser.add_argument("--module", type=os.path.abspath)
+    parser.add_argument("--without", action="append", default=[], metavar="PART")
 
 
 if __name__ == "__main__":

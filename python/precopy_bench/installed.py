@@ -35,6 +35,7 @@ ROWS = [
     ("uniform", "`sweep`, 16 cases", SWEEP),
     ("uniform", "`live`, 1 of each", live(1)),
     ("uniform", "`live`, 4 of each", live(4)),
+    ("uniform", "`live`, 16 of each", live(16)),
     ("uniform", "`live`, 1, short", live(1, 1024)),
     *[(trace, *row) for trace in ("zipf", "phase", "big", "full") for row in OTHERS],
 ]

@@ -26,6 +26,8 @@ MAIN = ("uniform", "zipf", "seq", "phase", "big", "full", "tiny")
 RECORDED = ("gzip", "sort")
 RELEASED = ("released", "kept")
 SWEPT = ("uniform", "zipf")
+# Reports by four workers.
+SHARED = ("uniform", "zipf", "phase")
 WARMED = ("uniform", "zipf", "phase", "big", "tiny")
 WRITES = [(f"writes-{k}", 1 << k) for k in (14, 16, 18, 20)]
 PAGES = [(f"pages-{k}", 1 << k) for k in (10, 12, 14, 16)]
@@ -134,8 +136,9 @@ def plan(asked):
     recorded = RECORDED if asked.recorded else ()
     for trace in (*MAIN, *recorded):
         pairs += [(trace, job) for job in (work.IMAGE, work.REPORT, work.LIVE_1, work.LIVE_2)]
+    pairs += [(trace, work.REPORT_4) for trace in SHARED]
     for trace in SWEPT:
-        pairs += [(trace, job) for job in (work.REPORT_4, work.SWEEP_1, *work.SWEEPS.values())]
+        pairs += [(trace, job) for job in (work.SWEEP_1, *work.SWEEPS.values())]
     pairs += [(trace, job) for trace in RELEASED for job in (work.IMAGE, work.LIVE_1, work.LIVE_2)]
     pairs += [(trace, job) for trace in (*WARMED, *recorded) for job in (work.COLD, work.WARM)]
     pairs += [(trace, job) for trace, _ in WRITES + PAGES for job in GROWN]
@@ -174,7 +177,7 @@ def print_tables(bench, least):
     names = (*MAIN, *RECORDED)
     tables.of_command("`precopy image`", "image", names, work.ALL)
     tables.of_command("`precopy report`", "report", names, work.ALL)
-    tables.of_command("`precopy report --workers 4`", work.REPORT_4.name, SWEPT, work.BOTH)
+    tables.of_command("`precopy report --workers 4`", work.REPORT_4.name, SHARED, work.BOTH)
     tables.of_sweeps(work.SWEEPS, work.SWEEP_1, SWEPT)
     one = "One replayer, one copier, one stream; the memory at the end."
     two = "Two of each; pages are skipped; the memory at the stop."

@@ -14,13 +14,15 @@ import re
 import sys
 
 from precopy_bench import jobs as work
-from precopy_bench.run import GROWN, MAIN, PAGES, RECORDED, SWEPT, WARMED, WRITES
+from precopy_bench.run import GROWN, MAIN, PAGES, RECORDED, SHARED, SWEPT, WARMED, WRITES
 from precopy_bench.tables import Tables, table
 
 GIB, PAGE = 1 << 30, 4096
 # The bars. Memory is that of one of each over uniform before copies of writes, in MB.
 MOST_WALL, MOST_FAST, MOST_PEER, MOST_MORE, MOST_GIB = 0.65, 2, 1.3, 1.15, 1.31
 MOST_IMAGE, MOST_PLAN, MOST_WARM, MOST_MEMORY = 1.7, 1.3, 1.25, 371
+# Those of the main job and of plans, of which some are for four processors or workers.
+MOST_IMAGE_WALL, MOST_SHARED, MOST_RECORDED = 1.2, 1.0, 1.2
 TRACES = ("uniform", "zipf", "phase", "big", "full", "seq", "tiny", "gzip", "sort")
 # The titles of the tables by trace.
 PLANS = {"image": "image`", "report": "report`", work.REPORT_4.name: "report --workers 4`"}
@@ -93,7 +95,7 @@ def of_growth(tables):
 
 
 def of_run(told):
-    """Prints the tables of bench/run. Returns the ratios of warm starts, and the memory of one of each over uniform."""
+    """Prints the tables of bench/run. Returns them, with the ratios of warm starts."""
     tables = Tables({tuple(key): figures for *key, figures in told["taken"]}, told["least_memory"])
     for job, title in PLANS.items():
         of_command(tables, job, title)
@@ -102,8 +104,7 @@ def of_run(told):
         of_command(tables, job, title)
     warm = of_warm(tables)
     of_growth(tables)
-    kept = tables.taken.get(("uniform", "live", "precopy"))
-    return warm, kept and kept["memory"] / 1e6
+    return tables, warm
 
 
 # ---- The bars
@@ -150,32 +151,43 @@ def add_live(bars, installed, pages):
     bars.add("processor a page, one / peer", MOST_PEER, peer)
     more, fast_more = quotients(fours, ones, 1), quotients(fast_fours, fast_ones, 1)
     bars.add("processor, four of each / one", MOST_MORE, more, fast_more)
+    (most, fast_most), name = of_count(installed, 16), "wall, sixteen of each / four"
+    bars.add(name, MOST_MORE, quotients(most, fours, 0), quotients(fast_most, fast_fours, 0))
     for count, word in ((1, "one"), (4, "four")):
         sent = {trace: mine for trace, many, mine, _ in by_page if many == count and trace in ("uniform", "big")}
         bars.add(f"processor s a GiB, {word}", MOST_GIB, {trace: it / 1e9 * GIB / PAGE for trace, it in sent.items()})
 
 
-def add_others(bars, installed, warm, memory):
-    for job, most in (("image", MOST_IMAGE), ("report", MOST_PLAN), ("sweep", MOST_PLAN)):
-        rows = {trace: mine[0] / theirs[0] for trace, name, mine, theirs in installed if job in name}
-        bars.add(f"`{job}`, wall / fast", most, rows)
+def add_run(bars, tables, warm):
+    def ratios(job, names, figure="least"):
+        return {it: tables.quotient(it, job, *work.BOTH, figure) for it in names if tables.has(it, job)}
+
+    bars.add("`image`, processor / fast", MOST_IMAGE, ratios("image", TRACES, "processor"))
+    bars.add("`image`, wall / fast", MOST_IMAGE_WALL, ratios("image", TRACES))
+    bars.add("`report`, wall / fast", MOST_PLAN, ratios("report", MAIN))
+    bars.add("`report`, wall / fast", MOST_RECORDED, ratios("report", RECORDED))
+    bars.add("`report`, four workers / fast", MOST_SHARED, ratios(work.REPORT_4.name, SHARED))
+    for (cases, workers), job in work.SWEEPS.items():
+        bars.add(f"`sweep`, {cases} cases, {workers} / fast", MOST_PLAN, ratios(job.name, SWEPT))
     mine, theirs = ({name: it[at] for name, it in warm.items()} for at in (0, 1))
     bars.add("wall, warm / cold start", MOST_WARM, mine, theirs)
-    bars.add("MB, one of each", MOST_MEMORY, {"uniform": memory} if memory else {}, decimals=0)
+    kept = tables.taken.get(("uniform", "live", "precopy"))
+    bars.add("MB, one of each", MOST_MEMORY, {"uniform": kept["memory"] / 1e6} if kept else {}, decimals=0)
 
 
 def main():
-    (warm, memory), pages, installed = ({}, None), [], []
+    tables, warm, pages, installed = None, {}, [], []
     for path in sys.argv[1:]:
         with open(path, encoding="utf-8") as file:
             told = json.load(file)
         if "taken" in told:
-            warm, memory = of_run(told)
+            tables, warm = of_run(told)
         pages = told["pages"] if told.get("lane") == 65_536 else pages
         installed = told.get("installed", installed)
     bars = Bars()
     add_live(bars, installed, pages)
-    add_others(bars, installed, warm, memory)
+    if tables:
+        add_run(bars, tables, warm)
     bars.show()
 
 

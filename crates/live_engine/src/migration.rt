@@ -151,7 +151,7 @@ pub fn migrate<W: WriteLog + Sync, G: Gate, R: Threads + Wait + Sync>(
     let Preparation { plan, pages, first } = prepare(rt, alloc, trace, settings)?;
     let team = Team::of(settings);
     let (states, receivers) = open_lanes(alloc, trace, team)?;
-    let signals = Signals::new();
+    let signals = Signals::new(team.lane);
     let migration = Migration {
         trace,
         pages: &pages,

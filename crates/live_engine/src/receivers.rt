@@ -25,30 +25,40 @@ use std::time::Duration;
 use stream_lanes::{LaneOut, by_stream};
 use stream_receivers::Receiver;
 
-/// How often a receiver with nothing to take looks again before it sleeps.
+/// How many frames a lane holds at least if its receiver sleeps as soon as nothing is left to take. A shorter lane
+/// could be full before the receiver wakes.
+const LONG_LANE: usize = 1_024;
+
+/// How often the receiver of shorter lanes looks again before it sleeps.
 const LOOKS: u32 = 8;
 
 /// How long it waits before each of these looks: a few microseconds in all. Each look takes the lane's memory away from
 /// the sender, so it is cheaper for both to take several frames at a time.
 const TURNS: u32 = 64;
 
-/// How many microseconds it then sleeps before each look: each look takes time from the senders.
+/// How many microseconds a receiver then sleeps before each look. Awake it would take a processor from the others,
+/// since a page takes a copier longer than its receiver.
 const SLEEP: u64 = 20;
 
-/// Flags between a run and its receivers. No claim rests on them.
+/// Flags between a run and its receivers, and how often these look. No claim rests on them.
 #[derive(Drop)]
 pub(crate) struct Signals {
     /// All rounds have ended, or one was refused.
     pub(crate) ended: AtomicBool,
     /// A receiver did not take a frame.
     pub(crate) refused: AtomicBool,
+    /// How often a receiver with nothing to take looks again before it sleeps.
+    looks: u32,
 }
 
 impl Signals {
-    pub(crate) fn new() -> Signals {
+    /// Returns the flags of a run whose lanes hold this many frames, none of them set.
+    pub(crate) fn new(lane: usize) -> Signals {
+        let looks = if lane < LONG_LANE { LOOKS } else { 0 };
         Signals {
             ended: AtomicBool::new(false),
             refused: AtomicBool::new(false),
+            looks,
         }
     }
 }
@@ -81,9 +91,9 @@ fn look<G: Gate>(gate: &G, stream: usize, receiver: &mut Receiver) -> bool
     came
 }
 
-/// Waits before the next look, after this many in which nothing came.
-fn pause<R: Wait>(rt: &R, looks: u32) {
-    if looks < LOOKS {
+/// Waits before the next look, after so many in which nothing came: it sleeps once these are the most.
+fn pause<R: Wait>(rt: &R, looks: u32, most: u32) {
+    if looks < most {
         for _ in 0..TURNS {
             spin_loop();
         }
@@ -115,7 +125,7 @@ fn receive<R: Wait, G: Gate>(
         } else if ended {
             break;
         } else {
-            pause(rt, looks);
+            pause(rt, looks, signals.looks);
             looks = looks.saturating_add(1);
         }
     }

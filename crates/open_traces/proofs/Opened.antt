@@ -9,8 +9,7 @@ use Rattle.migration_model.specs.TraceReading.{writes_in}
 use Rattle.migration_model.proofs.Traces.{spelling_reads_back}
 use Rattle.trace_readers.specs.Texts.{held_trace}
 use Rattle.open_traces.specs.Index.{IsOpen, IsOpenAs, begins_of, index_length, index_of, pages_of, places_below}
-use Rattle.open_traces.specs.Index.{starts_below}
-use Rattle.open_traces.specs.Index.{places_in}
+use Rattle.open_traces.specs.Index.{places_in, starts_below}
 use Rattle.page_versions.specs.Index.{places_of}
 use Rattle.std.proofs.Common.{cond, eqb, [], ◌∷◌}
 use Rattle.migration_model.proofs.Places.{from, from_is}

@@ -1,5 +1,5 @@
-//! Traces that are opened in place: an index over words that the caller lends says where the records are, and how the
-//! writes to a page follow one another. Nothing is copied, and nothing is allocated.
+//! Traces that are opened in place: an index over words that the caller lends says where the records are, and lists the
+//! writes to each page. Nothing is copied, and nothing is allocated.
 #![tactic(auto)]
 
 mod open_trace;

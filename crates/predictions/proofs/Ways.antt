@@ -15,8 +15,9 @@ use Rattle.round_planner.specs.Steps.{numbers_after}
 use Rattle.round_planner.specs.declared.numbers.RoundNumbers.{RoundNumbers}
 use Rattle.round_planner.specs.declared.numbers.RoundSums.{RoundSums}
 use Rattle.round_planner.specs.declared.step.Step.{Step}
-use Rattle.round_planner.proofs.Outcomes.{all_sent, sent_push}
-use Rattle.round_planner.proofs.Plans.{Follows, follows_start, follows_more, follows_end, can_go_on}
+use Rattle.round_planner.specs.Ways.{Follows, all_sent}
+use Rattle.round_planner.proofs.Outcomes.{sent_push}
+use Rattle.round_planner.proofs.Plans.{follows_start, follows_more, follows_end, can_go_on}
 use Rattle.look_planner.proofs.DrawnPages.{marked_places}
 
 -- the rounds so far, and the one that may come

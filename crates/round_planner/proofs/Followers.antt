@@ -1,5 +1,5 @@
 -- What follows a round is one thing.
-use Rattle.std.proofs.Common.{◌≡◌, ℕ, ◌+◌, sym, ap, ◌∙◌}
+use Rattle.std.proofs.Common.{◌≡◌, ◌+◌, sym, ap, ◌∙◌}
 use Rattle.migration_model.specs.Rates.{MigrationSettings, StopReason}
 use Rattle.migration_model.specs.Sweeps.{outcome_with}
 use Rattle.migration_model.specs.Rates.{duration_of}
@@ -8,7 +8,6 @@ use Rattle.round_planner.specs.declared.numbers.Following.{Following}
 use Rattle.round_planner.specs.declared.numbers.Following.TheVariants.{Round, Stop as Ended}
 use Rattle.round_planner.specs.declared.numbers.RoundNumbers.{RoundNumbers}
 use Rattle.round_planner.specs.declared.numbers.RoundSums.{RoundSums}
-use Rattle.round_planner.specs.declared.step.Step.{Step}
 
 pub one_following_lem : (settings : MigrationSettings) (now : RoundNumbers) (ran : RoundSums) (a b : Following)
     → IsFollowing settings now ran a → IsFollowing settings now ran b → a ≡ b

@@ -9,3 +9,4 @@ pub mod Outcomes
 pub mod MarkedWays
 pub mod ListedWays
 pub mod Followers
+pub mod KnownRounds

@@ -16,7 +16,8 @@ use Rattle.round_planner.specs.declared.step.After.TheVariants.{Go}
 use Rattle.round_planner.specs.declared.step.Step.{Step}
 use Rattle.round_planner.specs.declared.numbers.RoundSums.{RoundSums}
 use Rattle.round_planner.specs.declared.numbers.RoundNumbers.{RoundNumbers}
-use Rattle.round_planner.proofs.Outcomes.{AreDone, starts, goes_further, same_after}
+use Rattle.round_planner.specs.Ways.{AreDone}
+use Rattle.round_planner.proofs.Outcomes.{starts, goes_further, same_after}
 use Rattle.round_planner.proofs.PageLists.{list_few, list_rises}
 use Rattle.round_planner.proofs.Plans.{follows_end, one_sent, written_list}
 use Rattle.round_planner.proofs.MarkedWays.{listed_next, marked_first, marked_next}

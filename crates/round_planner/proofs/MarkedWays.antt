@@ -18,7 +18,8 @@ use Rattle.round_planner.specs.declared.step.Step.{Step}
 use Rattle.round_planner.specs.declared.numbers.RoundSums.{RoundSums}
 use Rattle.round_planner.specs.declared.numbers.RoundNumbers.{RoundNumbers}
 use Rattle.round_planner.specs.declared.parts.RoundRow.{RoundRow}
-use Rattle.round_planner.proofs.Outcomes.{AreDone, starts, goes_further, comes_to}
+use Rattle.round_planner.specs.Ways.{AreDone}
+use Rattle.round_planner.proofs.Outcomes.{starts, goes_further, comes_to}
 use Rattle.round_planner.proofs.Scans.{begun}
 
 row_more : (rounds : List PlannedRound) (round : PlannedRound) (done : ℕ) (row : RoundRow) (old : List RoundRow)

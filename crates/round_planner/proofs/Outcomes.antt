@@ -1,7 +1,6 @@
 -- A plan by its numbers: what holds between its rounds, and what its sums are.
-use Rattle.std.proofs.Common.{◌≡◌, ℕ, ◌+◌, ◌-◌, ◌*◌, ◌≤◌, Bool, ◌&&◌, leb, true, false, List, [], ◌∷◌, ◌++◌, length}
+use Rattle.std.proofs.Common.{◌≡◌, ℕ, ◌+◌, ◌-◌, ◌≤◌, Bool, ◌&&◌, leb, true, false, List, [], ◌∷◌, ◌++◌, length}
 use Rattle.std.proofs.Common.{refl, sym, ap, ◌∙◌, arith}
-use Rattle.std.specs.List.{sum_by}
 use Rattle.std.proofs.lemmas.Bool.{leb-true}
 use Rattle.std.proofs.lemmas.List.{length_push}
 use Rattle.std.proofs.lemmas.List.Sums.{sum_by-append, sum_by-cons}
@@ -11,15 +10,13 @@ use Rattle.migration_model.specs.Rounds.{first_round, round_after, total_of}
 use Rattle.migration_model.specs.Sweeps.{IsOutcome, PlanOutcome, outcome_of, outcome_with}
 use Rattle.migration_model.specs.Touches.{GuestTouch}
 use Rattle.round_planner.specs.Indexing.{IsFirst, IsPoint, StandsAt, RanTo}
+use Rattle.round_planner.specs.Ways.{AreDone, all_sent}
 use Rattle.round_planner.specs.Steps.{IsAfter, first_step, numbers_after}
 use Rattle.round_planner.specs.declared.step.After.TheVariants.{Go}
 use Rattle.round_planner.specs.declared.step.Step.{Step}
 use Rattle.round_planner.specs.declared.numbers.RoundSums.{RoundSums}
 use Rattle.round_planner.specs.declared.numbers.RoundNumbers.{RoundNumbers}
-use Rattle.round_planner.proofs.Plans.{Follows, follows_start, follows_more, follows_end, can_start, can_go_on}
-
-abbrev pub all_sent : List PlannedRound → ℕ
-all_sent rounds = sum_by (λ (round : PlannedRound). length round.sent) rounds
+use Rattle.round_planner.proofs.Plans.{follows_start, follows_more, follows_end, can_start, can_go_on}
 
 pub sent_push : (rounds : List PlannedRound) (round : PlannedRound)
     → all_sent (rounds ++ round ∷ []) ≡ all_sent rounds + length round.sent
@@ -53,15 +50,6 @@ first_is pages touches s now are few step total listed bound point = record {
   in_range = are;
 }
 
--- the rounds so far, of which the code keeps only the numbers, and the round that may come
-pub record AreDone (pages : ℕ) (touches : List GuestTouch) (s : MigrationSettings) (now : RoundNumbers)
-    (coming : NextRound) (rounds : List PlannedRound) : Type 0 where
-  pub at : StandsAt pages touches s coming now
-  pub follows : Follows pages touches s coming rounds
-  pub count : length rounds ≡ now.step.done
-  pub total : all_sent rounds ≡ now.total
-  pub few : now.total ≤ now.step.done * 65_536
-
 pub starts : (pages : ℕ) (touches : List GuestTouch) (s : MigrationSettings) (now : RoundNumbers)
     → IsFirst pages touches s now → AreDone pages touches s now (first_round pages touches s) []
 starts pages touches s now first = record {
@@ -71,13 +59,6 @@ starts pages touches s now first = record {
   total = sym first.total;
   few = omega (arith, first.total);
 }
-
--- the rounds so far, of a plan that is made only of numbers
-pub record IsUnderWay (pages : ℕ) (touches : List GuestTouch) (s : MigrationSettings) (now : RoundNumbers) : Type
-    0 where
-  pub coming : NextRound
-  pub rounds : List PlannedRound
-  pub way : AreDone pages touches s now coming rounds
 
 -- the stop tests see the round's numbers
 pub same_after : (pages : ℕ) (touches : List GuestTouch) (s : MigrationSettings) (now : RoundNumbers)

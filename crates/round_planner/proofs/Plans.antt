@@ -10,6 +10,7 @@ use Rattle.migration_model.specs.Rates.{AfterRound, goes_on, stops, after_round,
 use Rattle.migration_model.specs.Touches.{GuestTouch, is_written, pages_written}
 use Rattle.migration_model.specs.Rounds.{PlannedRound, MigrationPlan, plan_with, NextRound, pages_below, pages_lacking}
 use Rattle.migration_model.specs.Rounds.{first_round, round_after, IsSent, IsRound, IsEnd, InEither, AreRounds, IsPlan}
+use Rattle.round_planner.specs.Ways.{Follows}
 use Rattle.round_planner.specs.Scanning.{CanCome, HasRun, IsPageList}
 use Rattle.round_planner.proofs.Skims.{Rises, Rises-pages, Rises-range, sent_is_skim, filter_all, sent_is_all}
 use Rattle.round_planner.proofs.Skims.{never_written}
@@ -279,12 +280,6 @@ can_go_on pages touches s now next round dirtied ticks rate are ready ran after 
       done_low = omega (arith, done, not_done, ready.done_low);
       rounds_few = are.rounds_high;
     }
-
--- the rounds so far with whatever follows
-abbrev pub Follows : ℕ → List GuestTouch → MigrationSettings → NextRound → List PlannedRound → Type 0
-Follows pages touches s now rounds = (rest : List PlannedRound) (plan : MigrationPlan)
-    → AreRounds pages touches s now rest plan
-    → AreRounds pages touches s (first_round pages touches s) (rounds ++ rest) plan
 
 pub follows_start : (pages : ℕ) (touches : List GuestTouch) (s : MigrationSettings) (now : NextRound)
     (rounds : List PlannedRound) → now ≡ first_round pages touches s → rounds ≡ []

@@ -1,7 +1,8 @@
 //! The planned rounds of a pre-copy migration, after Clark and others (2005), sections 4, 5.3 and 5.4.
 //!
 //! [`plan`] makes the whole plan of a trace: its rounds with their pages, why and when they end, what is left, and the
-//! downtime. A [`Planner`] makes the sums of many plans of one trace, for sweeps, and cannot fail.
+//! downtime. A [`Planner`] makes the sums of many plans of one trace, for sweeps, and cannot fail. Rounds
+//! that plans share, it works out once.
 //!
 //! ```
 //! let settings = Settings::new(asked)?;
@@ -23,6 +24,7 @@
 
 mod error;
 mod index;
+mod known;
 mod laws;
 mod marked;
 mod numbers;

@@ -2,16 +2,19 @@
 
 // `IsPlan` holds of one value alone: `one_plan`.
 
-ghost use Rattle.std.specs.Prelude.{◌≡◌, ◌≤◌, ◌&&◌, ℕ, List, Some, length, nat_le, take};
+ghost use Rattle.std.specs.Prelude.{◌≡◌, ◌≤◌, ◌&&◌, ℕ, IfSome, List, Some, length, nat_le, take};
 ghost use Rattle.std.specs.List.{range_with_len};
 ghost use Rattle.migration_model.specs.Rounds.{IsSent, NextRound, pages_lacking};
+ghost use Rattle.migration_model.specs.Sweeps.{IsOutcome};
 ghost use Rattle.migration_model.specs.Touches.{GuestTouch};
 ghost use Rattle.page_bitmap.specs.Listing.{pages_of, word_count};
 ghost use Rattle.round_planner.specs.Indexing.{AreMarksOf, CanEnd, CanMark, HasSentOf, IsFirst, IsMarkedAt, IsTurned};
 ghost use Rattle.round_planner.specs.Indexing.{RanTo, StandsAt};
+ghost use Rattle.round_planner.specs.Known.{AreKnown, IsAhead};
 ghost use Rattle.round_planner.specs.Rows.{IsPlanned};
 ghost use Rattle.round_planner.specs.Scanning.{IsScan};
 
+use crate::known::{Ahead, KnownRound, RoundStart, remember};
 use crate::numbers::{Following, RoundNumbers, RoundSums};
 use crate::parts::{Outcome, RoundRow};
 use crate::planning::may_skip;
@@ -138,6 +141,47 @@ pub(crate) fn marked_rounds<T: Timeline>(
     }
 }
 
+/// Returns the sums of the plan that goes on with a round, and remembers its rounds.
+pub(crate) fn marked_on<T: Timeline>(
+    timeline: &T,
+    settings: &Settings,
+    ahead: Ahead,
+    marks: &mut [u64],
+    room: &mut [u32],
+    known: &mut [Option<KnownRound>],
+) -> Outcome
+    requires ahead { IsAhead (T.pages timeline.now) (T.touches timeline.now) settings.now ahead }
+    requires marks { AreMarksOf (T.pages timeline.now) marks.old room.old }
+    requires known { AreKnown (T.pages timeline.now) (T.touches timeline.now) known.old }
+    requires slots { length known.old ≡ 64 }
+    ensures outcome { IsOutcome (T.pages timeline.now) (T.touches timeline.now) settings.now result }
+    ensures marks { AreMarksOf (T.pages timeline.now) marks.new room.new }
+    ensures known { AreKnown (T.pages timeline.now) (T.touches timeline.now) known.new }
+    ensures slots { length known.new ≡ 64 }
+{
+    let Ahead {
+        numbers: mut now,
+        mut since,
+    } = ahead;
+    if now.step.done >= 1 {
+        list_lacking(timeline, since, now.step.from, marks, room);
+    }
+    marks.fill(0);
+    loop {
+        let start = RoundStart::new(settings, &now, since);
+        let sent = send_pages(timeline, settings, &now, marks, room);
+        let ran = end_round(timeline, settings, &now, sent, marks, room);
+        remember(known, now.step.done, start, &ran);
+        match now.after(settings, &ran) {
+            Following::Round(next) => {
+                since = Some(now.step.from);
+                now = next;
+            }
+            Following::Stop(outcome) => return outcome,
+        }
+    }
+}
+
 /// Lists the pages that are written from a base on and before a tick. Returns how many there are.
 fn list_since<T: Timeline>(
     timeline: &T,
@@ -170,6 +214,32 @@ fn list_all(room: &mut [u32], count: u32)
     }
 }
 
+/// Lists the pages that a destination lacks at a tick: all, or, if it begins with the memory before a base, those
+/// written since. Returns how many there are.
+fn list_lacking<T: Timeline>(
+    timeline: &T,
+    base: Option<u64>,
+    tick: u64,
+    marks: &mut [u64],
+    room: &mut [u32],
+) -> u32
+    requires order { IfSome base (λ b. b ≤ tick) }
+    requires marks { AreMarksOf (T.pages timeline.now) marks.old room.old }
+    ensures list { take result room.new ≡ pages_lacking (T.pages timeline.now) (T.touches timeline.now) base tick }
+    ensures count { result ≡ length (pages_lacking (T.pages timeline.now) (T.touches timeline.now) base tick) }
+    ensures few { T.pages timeline.now ≤ 65_536 }
+    ensures marks { AreMarksOf (T.pages timeline.now) marks.new room.new }
+{
+    let all = timeline.page_count();
+    match base {
+        Some(base) => list_since(timeline, base, tick, marks, room),
+        None => {
+            list_all(room, all);
+            all
+        }
+    }
+}
+
 /// Returns the numbers of the first round, whose pages the front of `room` lists.
 pub(crate) fn first_marked<T: Timeline>(
     timeline: &T,
@@ -184,14 +254,7 @@ pub(crate) fn first_marked<T: Timeline>(
     ensures marks { AreMarksOf (T.pages timeline.now) marks.new room.new }
 {
     let asked = settings.asked();
-    let all = timeline.page_count();
-    let listed = match asked.base {
-        Some(base) => list_since(timeline, base, asked.start, marks, room),
-        None => {
-            list_all(room, all);
-            all
-        }
-    };
+    let listed = list_lacking(timeline, asked.base, asked.start, marks, room);
     RoundNumbers::first(settings, timeline.before(asked.start), listed)
 }
 

@@ -88,18 +88,6 @@ pub struct RoundRow {
     pub dirtied: u64,
 }
 
-impl RoundRow {
-    /// An empty row.
-    pub(crate) const NONE: RoundRow = RoundRow {
-        from: 0,
-        to: 0,
-        rate: 0,
-        pages: 0,
-        sent: 0,
-        dirtied: 0,
-    };
-}
-
 /// The sums of a plan.
 #[derive(Debug, Drop)]
 pub struct Outcome {

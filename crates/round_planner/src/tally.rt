@@ -4,8 +4,10 @@ ghost use Rattle.std.specs.Prelude.{◌≡◌, ◌≤◌, ◌&&◌, false, lengt
 ghost use Rattle.migration_model.specs.Rounds.{NextRound, pages_lacking};
 ghost use Rattle.migration_model.specs.Sweeps.{IsOutcome};
 ghost use Rattle.round_planner.specs.Indexing.{IsFirst, IsPoint, IsRoundIndexOf, IsStanding, RanTo, StandsAt};
+ghost use Rattle.round_planner.specs.Known.{AreKnown, IsAhead};
 
 use crate::index::RoundIndex;
+use crate::known::{Ahead, KnownRound, RoundStart, remember};
 use crate::numbers::{Following, RoundNumbers, RoundSums};
 use crate::parts::Outcome;
 use guest_log::Timeline;
@@ -72,23 +74,36 @@ fn counted_round<T: Timeline>(
     }
 }
 
-/// Returns the sums of the plan that begins with a round, if no page is skipped.
+/// Returns the sums of the plan that goes on with a round, if no page is skipped, and remembers its rounds.
 pub(crate) fn counted_rounds<T: Timeline>(
     timeline: &T,
     index: &RoundIndex,
     settings: &Settings,
-    first: RoundNumbers,
+    ahead: Ahead,
+    known: &mut [Option<KnownRound>],
 ) -> Outcome
     requires index { IsRoundIndexOf (T.pages timeline.now) (T.touches timeline.now) index.now }
     requires plain { settings.now.skip ≡ false }
-    requires first { IsFirst (T.pages timeline.now) (T.touches timeline.now) settings.now first }
-    ensures { IsOutcome (T.pages timeline.now) (T.touches timeline.now) settings.now result }
+    requires ahead { IsAhead (T.pages timeline.now) (T.touches timeline.now) settings.now ahead }
+    requires known { AreKnown (T.pages timeline.now) (T.touches timeline.now) known.old }
+    requires slots { length known.old ≡ 64 }
+    ensures outcome { IsOutcome (T.pages timeline.now) (T.touches timeline.now) settings.now result }
+    ensures known { AreKnown (T.pages timeline.now) (T.touches timeline.now) known.new }
+    ensures slots { length known.new ≡ 64 }
 {
-    let mut now = first;
+    let Ahead {
+        numbers: mut now,
+        mut since,
+    } = ahead;
     loop {
+        let start = RoundStart::new(settings, &now, since);
         let ran = counted_round(timeline, index, settings, &now);
+        remember(known, now.step.done, start, &ran);
         match now.after(settings, &ran) {
-            Following::Round(next) => now = next,
+            Following::Round(next) => {
+                since = Some(now.step.from);
+                now = next;
+            }
             Following::Stop(outcome) => return outcome,
         }
     }

@@ -5,6 +5,7 @@ mod cases;
 mod error;
 mod line;
 mod lines;
+mod order;
 mod report;
 mod sweeping;
 

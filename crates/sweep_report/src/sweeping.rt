@@ -8,10 +8,12 @@ ghost use Rattle.migration_model.specs.Rates.{MigrationSettings};
 ghost use Rattle.migration_model.specs.Sweeps.{AreLines, IsLineOf};
 ghost use Rattle.migration_model.specs.Touches.{GuestTouch};
 ghost use Rattle.round_planner.specs.Indexing.{IsRoundIndexOf};
-ghost use Rattle.sweep_report.specs.Sweeping.{AreNumbered, AreTaken, IsWork};
+ghost use Rattle.round_planner.specs.Known.{IsPlannerFor};
+ghost use Rattle.sweep_report.specs.Sweeping.{AreNumbered, AreTaken, IsNumbered, IsWork};
 
 use crate::error::SweepError;
 use crate::line::Line;
+use crate::order::{CasePlace, planned_order};
 use guest_log::Timeline;
 use rate_limit::Settings;
 use round_planner::{Planner, RoundIndex, plan};
@@ -43,36 +45,85 @@ fn line_by<T: Timeline>(
     index: &RoundIndex,
     case: &Settings,
 ) -> Line
-    requires pages { planner.old ≡ T.pages timeline.now }
+    requires planner { IsPlannerFor (T.pages timeline.now) (T.touches timeline.now) planner.old }
     requires index { IsRoundIndexOf (T.pages timeline.now) (T.touches timeline.now) index.now }
     ensures line { IsLineOf (T.pages timeline.now) (T.touches timeline.now) case.now result }
-    ensures pages { planner.new ≡ planner.old }
+    ensures planner { IsPlannerFor (T.pages timeline.now) (T.touches timeline.now) planner.new }
 {
     Line::new(*case, planner.outcome(timeline, index, case))
 }
 
-/// Takes case after case by a counter that all workers share. Returns the lines of the cases taken.
+/// Makes the line of the case at a place.
+fn line_at<T: Timeline>(
+    planner: &mut Planner,
+    timeline: &T,
+    index: &RoundIndex,
+    cases: &[Settings],
+    place: &CasePlace,
+) -> CaseLine
+    requires planner { IsPlannerFor (T.pages timeline.now) (T.touches timeline.now) planner.old }
+    requires index { IsRoundIndexOf (T.pages timeline.now) (T.touches timeline.now) index.now }
+    requires place { place.now.number < length cases.now }
+    ensures line { IsNumbered (T.pages timeline.now) (T.touches timeline.now) cases.now result }
+    ensures planner { IsPlannerFor (T.pages timeline.now) (T.touches timeline.now) planner.new }
+{
+    let number = place.number;
+    let line = line_by(planner, timeline, index, &cases[number]);
+    CaseLine { number, line }
+}
+
+/// Makes the lines of the cases at these places.
+fn plan_cases<T: Timeline>(
+    planner: &mut Planner,
+    timeline: &T,
+    index: &RoundIndex,
+    cases: &[Settings],
+    places: &[CasePlace],
+    made: &mut Vec<CaseLine>,
+) -> Result<(), SweepError>
+    requires planner { IsPlannerFor (T.pages timeline.now) (T.touches timeline.now) planner.old }
+    requires index { IsRoundIndexOf (T.pages timeline.now) (T.touches timeline.now) index.now }
+    requires places { All (λ place. place.number < length cases.now) places.now }
+    requires made { AreNumbered (T.pages timeline.now) (T.touches timeline.now) cases.now made.old.items }
+    ensures made { OnOk result (AreNumbered (T.pages timeline.now) (T.touches timeline.now) cases.now made.new.items) }
+    ensures planner { IsPlannerFor (T.pages timeline.now) (T.touches timeline.now) planner.new }
+    ensures refusal { IfErr result (λ e. e ≡ SweepError.Memory) }
+{
+    for place in places {
+        made.push(line_at(planner, timeline, index, cases, place))?;
+    }
+    Ok(())
+}
+
+/// How many cases a worker takes at once. Cases whose plans begin alike come one after another, and should not be dealt
+/// to many workers.
+const CASES_AT_ONCE: usize = 8;
+
+/// Takes a few cases at a time by a counter that all workers share. Returns the lines of the cases taken.
 fn take_cases<T: Timeline>(
     alloc: Global,
     timeline: &T,
     index: &RoundIndex,
     cases: &[Settings],
+    order: &[CasePlace],
     next: &AtomicUsize,
 ) -> Result<Vec<CaseLine>, SweepError>
     requires index { IsRoundIndexOf (T.pages timeline.now) (T.touches timeline.now) index.now }
+    requires order { All (λ place. place.number < length cases.now) order.now }
     ensures made { IfOk result (λ made. AreNumbered (T.pages timeline.now) (T.touches timeline.now)
         cases.now made.items) }
     ensures refusal { IfErr result (λ e. e ≡ SweepError.Memory) }
 {
     let mut planner = Planner::new(alloc, timeline).or(Err(SweepError::Memory))?;
     let mut made = Vec::new(alloc);
-    for _ in 0..cases.len() {
-        let number = next.fetch_add(1, Ordering::SeqCst);
-        if number >= cases.len() {
+    for _ in 0..order.len() {
+        let first = next.fetch_add(CASES_AT_ONCE, Ordering::SeqCst);
+        if first >= order.len() {
             break;
         }
-        let line = line_by(&mut planner, timeline, index, &cases[number]);
-        made.push(CaseLine { number, line })?;
+        let (_, rest) = order.split_at(first);
+        let (places, _) = rest.split_at(rest.len().min(CASES_AT_ONCE));
+        plan_cases(&mut planner, timeline, index, cases, places, &mut made)?;
     }
     Ok(made)
 }
@@ -108,11 +159,11 @@ fn line_or_new<T: Timeline>(
     case: &Settings,
     taken: Option<Line>,
 ) -> Line
-    requires pages { planner.old ≡ T.pages timeline.now }
+    requires planner { IsPlannerFor (T.pages timeline.now) (T.touches timeline.now) planner.old }
     requires index { IsRoundIndexOf (T.pages timeline.now) (T.touches timeline.now) index.now }
     requires taken { IfSome taken (IsLineOf (T.pages timeline.now) (T.touches timeline.now) case.now) }
     ensures line { IsLineOf (T.pages timeline.now) (T.touches timeline.now) case.now result }
-    ensures pages { planner.new ≡ planner.old }
+    ensures planner { IsPlannerFor (T.pages timeline.now) (T.touches timeline.now) planner.new }
 {
     match taken {
         Some(line) => line,
@@ -162,6 +213,25 @@ fn place_all<T: Timeline>(
     Ok(())
 }
 
+/// Makes the lines of all cases on the caller's thread, and puts them into the slots of their cases.
+fn make_alone<T: Timeline>(
+    alloc: Global,
+    timeline: &T,
+    index: &RoundIndex,
+    cases: &[Settings],
+    taken: &mut Vec<Option<Line>>,
+) -> Result<(), SweepError>
+    requires index { IsRoundIndexOf (T.pages timeline.now) (T.touches timeline.now) index.now }
+    requires taken { AreTaken (T.pages timeline.now) (T.touches timeline.now) cases.now taken.old.items }
+    ensures taken { OnOk result (AreTaken (T.pages timeline.now) (T.touches timeline.now) cases.now taken.new.items) }
+    ensures refusal { IfErr result (λ e. e ≡ SweepError.Memory) }
+{
+    let order = planned_order(alloc, cases)?;
+    let made = take_cases(alloc, timeline, index, cases, &order, &AtomicUsize::new(0))?;
+    place(taken, made);
+    Ok(())
+}
+
 /// How many touches and pages a worker must look at, in all of its cases, to pay for its thread.
 const WORTH_A_THREAD: usize = 1 << 20;
 
@@ -193,15 +263,17 @@ fn make_beside<R: Threads + Sync, T: Timeline + Sync>(
 {
     let workers = workers_for(timeline, cases.len(), workers);
     if workers < 2 {
-        return Ok(());
+        return make_alone(alloc, timeline, index, cases, taken);
     }
+    let order = planned_order(alloc, cases)?;
     let next = AtomicUsize::new(0);
     let work = |_worker: usize| -> Result<Vec<CaseLine>, SweepError>
-        requires { IsRoundIndexOf (T.pages timeline.now) (T.touches timeline.now) index.now }
+        requires index { IsRoundIndexOf (T.pages timeline.now) (T.touches timeline.now) index.now }
+        requires order { All (λ place. place.number < length cases.now) order.items }
         ensures made { IfOk result (λ made. AreNumbered (T.pages timeline.entry.now) (T.touches timeline.entry.now)
             cases.entry.now made.items) }
         ensures refusal { IfErr result (λ e. e ≡ SweepError.Memory) }
-    { take_cases(alloc, timeline, index, cases, &next) };
+    { take_cases(alloc, timeline, index, cases, &order, &next) };
     let made = thread::map_indices(rt, alloc, workers, &work)?;
     place_all(timeline, cases, taken, made)?;
     Ok(())
@@ -224,9 +296,9 @@ fn one_by_one<T: Timeline>(
     Ok(lines)
 }
 
-/// Returns the line of each case, in order: the sums of its plan, each case planned by itself. Up to `workers` workers,
-/// 1 to 16, take case after case, if there is enough to do; the lines are the same for any number of them. The error is
-/// `Memory`, if memory runs out for a list or for marks of pages.
+/// Returns the line of each case, in order: the sums of its plan. Cases that begin alike share rounds. Up to `workers`
+/// workers, 1 to 16, take some cases after others, if there is enough to do; the lines are the same for any number of
+/// them. The error is `Memory`, if memory runs out for a list or for marks of pages.
 pub fn sweep<R: Threads + Sync, T: Timeline + Sync>(
     rt: &R,
     alloc: Global,
@@ -261,6 +333,7 @@ pub fn sweep_in_turn<T: Timeline>(
         return one_by_one(alloc, timeline, cases);
     }
     let index = RoundIndex::build(alloc, timeline).or(Err(SweepError::Memory))?;
-    let taken = no_lines(alloc, cases.len())?;
+    let mut taken = no_lines(alloc, cases.len())?;
+    make_alone(alloc, timeline, &index, cases, &mut taken)?;
     in_order(alloc, timeline, &index, cases, taken)
 }

@@ -2,7 +2,8 @@
 //!
 //! A round that skips nothing only counts the pages that are written in it. With an index that is the number of writes
 //! whose page was not written before them in the round: one comparison a write. Else bits are set and counted. A round
-//! that skips sets the bits of pages as its scan comes to their ticks, so one test of a bit decides for each page.
+//! that skips sets the bits of pages as its scan comes to their ticks, so one test of a bit decides for each page. What
+//! a round does hangs on how it begins alone, so plans that begin alike share their first rounds.
 
 use crate::memory::zeros;
 use crate::text::Text;
@@ -50,6 +51,7 @@ impl Touches {
     }
 }
 
+#[derive(Clone, Copy)]
 pub struct Round {
     pub from: u64,
     pub to: u64,
@@ -78,6 +80,10 @@ fn count(bits: &[u64]) -> u64 {
     bits.iter().map(|word| word.count_ones() as u64).sum()
 }
 
+/// How a round begins: since when its pages were written (None: it has all), its first tick, its rate, and whether it
+/// skips pages.
+type Begin = (Option<u64>, u64, u64, bool);
+
 /// How a plan goes through the touches.
 pub struct Planner<'a> {
     touches: &'a Touches,
@@ -85,12 +91,14 @@ pub struct Planner<'a> {
     /// The pages that are due, if that matters, and those written in the round.
     due: Vec<u64>,
     written: Vec<u64>,
+    /// The last rounds of each number, by how they began.
+    known: Vec<(Begin, Round)>,
 }
 
 impl Planner<'_> {
     pub fn new<'a>(touches: &'a Touches, index: Option<&'a [i32]>) -> Planner<'a> {
         let words = touches.pages.div_ceil(64);
-        Planner { touches, index, due: vec![0; words], written: vec![0; words] }
+        Planner { touches, index, due: vec![0; words], written: vec![0; words], known: Vec::new() }
     }
 
     /// How many different pages these writes go to.
@@ -142,29 +150,57 @@ impl Planner<'_> {
         (sent, next)
     }
 
+    /// A round in which pages may be skipped, or the first one of such a plan. If it skips, its pages are due.
+    fn skipping(&mut self, from: u64, rate: u64, pages: u64, skips: bool) -> Round {
+        let (sent, next) = if skips {
+            self.scan(from, rate)
+        } else {
+            self.written.fill(0);
+            (pages, self.touches.at(from))
+        };
+        let to = from + (1000 * sent).div_ceil(rate);
+        mark(&mut self.written, &self.touches.page[next..self.touches.at(to)]);
+        let dirtied = count(&self.written);
+        std::mem::swap(&mut self.due, &mut self.written);
+        Round { from, to, rate, pages, sent, dirtied }
+    }
+
+    fn plain(&mut self, from: u64, rate: u64, pages: u64) -> Round {
+        let to = from + (1000 * pages).div_ceil(rate);
+        let dirtied = self.dirtied(self.touches.at(from), self.touches.at(to));
+        Round { from, to, rate, pages, sent: pages, dirtied }
+    }
+
+    /// Makes the pages due that are written from a tick on and before another.
+    fn make_due(&mut self, since: u64, from: u64) {
+        self.due.fill(0);
+        mark(&mut self.due, &self.touches.page[self.touches.at(since)..self.touches.at(from)]);
+    }
+
     pub fn plan(&mut self, settings: &Settings) -> Plan {
         let (mut from, mut rate, mut pages) = (settings.start, settings.min, self.lacking(settings));
-        let mut rounds = Vec::new();
+        let (mut since, mut is_due, mut rounds) = (settings.base, false, Vec::new());
         loop {
-            let (sent, dirtied, to);
-            if settings.skip {
-                let next;
-                (sent, next) = if rounds.is_empty() {
-                    self.written.fill(0);
-                    (pages, self.touches.at(from))
+            let skips = settings.skip && !rounds.is_empty();
+            let begin = (since, from, rate, skips);
+            let known = self.known.get(rounds.len()).filter(|it| it.0 == begin).map(|it| it.1);
+            let round = known.unwrap_or_else(|| {
+                if skips && !is_due {
+                    self.make_due(since.unwrap_or(0), from);
+                }
+                if settings.skip {
+                    self.skipping(from, rate, pages, skips)
                 } else {
-                    self.scan(from, rate)
-                };
-                to = from + (1000 * sent).div_ceil(rate);
-                mark(&mut self.written, &self.touches.page[next..self.touches.at(to)]);
-                dirtied = count(&self.written);
-                std::mem::swap(&mut self.due, &mut self.written);
-            } else {
-                sent = pages;
-                to = from + (1000 * sent).div_ceil(rate);
-                dirtied = self.dirtied(self.touches.at(from), self.touches.at(to));
+                    self.plain(from, rate, pages)
+                }
+            });
+            is_due = known.is_none();
+            if is_due {
+                self.known.truncate(rounds.len());
+                self.known.push((begin, round));
             }
-            rounds.push(Round { from, to, rate, pages, sent, dirtied });
+            let Round { to, dirtied, .. } = round;
+            rounds.push(round);
             // In a round without ticks nothing is dirtied, so few pages remain.
             let next = (1000 * dirtied).div_ceil((to - from).max(1)) + settings.inc;
             let why = if dirtied < settings.threshold {
@@ -174,7 +210,7 @@ impl Planner<'_> {
             } else if rounds.len() as u64 == settings.rounds {
                 "rounds"
             } else {
-                (from, rate, pages) = (to, next.max(settings.min), dirtied);
+                (since, from, rate, pages) = (Some(from), to, next.max(settings.min), dirtied);
                 continue;
             };
             let total = rounds.iter().map(|round| round.sent).sum::<u64>() + dirtied;

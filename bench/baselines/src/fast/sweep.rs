@@ -1,4 +1,5 @@
-//! `sweep`: the plans of many cases. Workers take the next case as they come.
+//! `sweep`: the plans of many cases. Workers take the next cases as they come. Cases that begin alike come one after
+//! another, so that they share rounds.
 
 use crate::plan::{Plan, Planner, Touches};
 use crate::text::Text;
@@ -7,17 +8,29 @@ use std::sync::atomic::{AtomicUsize, Ordering::Relaxed};
 
 /// From this many cases without skipping on, the index saves more than it costs.
 const WORTH_AN_INDEX: usize = 3;
+/// How many cases a worker takes at once.
+const AT_ONCE: usize = 8;
 
 pub fn sweep(touches: &Touches, cases: &[Settings], workers: usize) -> Text {
     let is_worth = cases.iter().filter(|case| !case.skip).count() >= WORTH_AN_INDEX;
     let index = is_worth.then(|| touches.index());
+    let begins = |number: &usize| {
+        let case = &cases[*number];
+        (case.skip, case.min, case.max, case.inc, case.threshold, *number)
+    };
+    let mut order: Vec<usize> = (0..cases.len()).collect();
+    order.sort_by_key(begins);
     let next = AtomicUsize::new(0);
     let work = || {
         let (mut planner, mut plans) = (Planner::new(touches, index), Vec::new());
         loop {
-            let number = next.fetch_add(1, Relaxed);
-            let Some(case) = cases.get(number) else { return plans };
-            plans.push((number, planner.plan(case)));
+            let first = next.fetch_add(AT_ONCE, Relaxed);
+            if first >= order.len() {
+                return plans;
+            }
+            for number in order.iter().skip(first).take(AT_ONCE) {
+                plans.push((*number, planner.plan(&cases[*number])));
+            }
         }
     };
     let mut plans: Vec<(usize, Plan)> = std::thread::scope(|scope| {

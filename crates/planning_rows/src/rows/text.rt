@@ -243,15 +243,20 @@ fn busy_guest(rt: &impl Abort, alloc: Global) -> Trace {
     Trace::new(1, 4, 64, writes).expect(rt, "a trace")
 }
 
-/// Returns cases of different rates, half of them with skips.
+/// Returns cases of which some begin alike: half of them skip, half begin with a base, and rates, thresholds and starts
+/// come again.
 fn many_cases(rt: &impl Abort, alloc: Global) -> Vec<Settings> {
     let mut cases = Vec::new(alloc);
     for number in 0..256u64 {
         cases
             .push(Settings::new(Asked {
-                min: 1 + number % 100,
-                max: 100 + number,
-                skip: number % 2 == 1,
+                min: 1 + number % 13,
+                max: 100 + number % 3,
+                increment: number % 2,
+                threshold: 1 + number % 5,
+                start: 100 + 400 * (number / 8 % 2),
+                skip: number / 2 % 2 == 1,
+                base: Some(50).filter(|_| number >= 128),
                 ..ASKED
             })
             .expect(rt, "settings"))

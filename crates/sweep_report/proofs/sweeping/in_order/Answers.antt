@@ -26,7 +26,7 @@ loop-number-preserved g c =
     let taken = c.loop-number.taken.items in
     let before = c.loop-number.invariant in
     record {
-      planner = c.line_or_new-line.ensures.pages ∙ before.planner;
+      planner = c.line_or_new-line.ensures.planner;
       taken = taken_set pages n touches c.args.cases.now taken _ no_line (λ d. tt)
           (ap (λ (x : Option SweepLine). set taken n x) c.take.ensures.after) before.taken;
       lines = lines_more pages n touches c.args.cases.now c.loop-number.lines.items c.push.new.self.items
