@@ -4,8 +4,7 @@
     bench/pages --json long.json; bench/pages --lane 1024 --json short.json
     bench/summary run.json installed.json long.json short.json
 
-Any of the files may be left out: then the tables and bars that it gives are too. The last table has the bars of live
-runs and of installed programs.
+Any of the files may be left out: then the tables and bars that it gives are too. The last table has all bars.
 """
 
 import json
@@ -127,7 +126,7 @@ class Bars:
     def show(self):
         names = [trace for trace in TRACES if any(trace in cells for _, cells in self.rows)]
         rows = [[name, *(cells.get(it, "") for it in names)] for name, cells in self.rows]
-        shown(["Bar, at most", *names], rows, "Bars of live runs and of installed programs")
+        shown(["Bar, at most", *names], rows, "Bars")
 
 
 def of_count(installed, count):
