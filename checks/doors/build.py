@@ -14,6 +14,7 @@ import time
 from checks.doors import launchers
 from checks.lib.harness import Run as Ran
 from checks.lib.tally import LeftOut
+from precopy_dev.files import read_text, write_file
 from precopy_dev.tree import TOP
 
 SECONDS, SECONDS_TO_END = 400, 60
@@ -103,8 +104,7 @@ class Tree:
     def write(self, path, text):
         path = os.path.join(self.top, path)
         os.makedirs(os.path.dirname(path), exist_ok=True)
-        with open(path, "w", encoding="utf-8") as file:
-            file.write(text)
+        write_file(text, path)
         return path
 
     def set_library(self, promised, added):
@@ -191,8 +191,7 @@ def refuse_words(tally, tree):
 
 def tell_after_silence(tally, tree):
     """A build that says nothing for a while says what it proves: here after half a second."""
-    with open(f"{TOP}/{BUILD}", encoding="utf-8") as file:
-        text = file.read()
+    text = read_text(f"{TOP}/{BUILD}")
     tally.add("\nSILENCE = 60  #" in text, f"{BUILD} does not say after how long it speaks")
     tree.write(BUILD, text.replace("\nSILENCE = 60  #", "\nSILENCE = 0.5  #"))
     tree.set_program(20)
@@ -325,9 +324,7 @@ def differ(tally, tree, folder):
         bin_folder = folder_of_links(f"{other}{number}", "sh", "dirname", "env", "python3", "readlink")
         for name, what in (("rt", "#!/bin/sh\n"), ("rtlib.py", text)):
             if what is not None:
-                with open(os.path.join(bin_folder, name), "w", encoding="utf-8") as file:
-                    file.write(what)
-                os.chmod(file.name, 0o755)
+                os.chmod(write_file(what, bin_folder, name), 0o755)
         ran = tree.run("../../dev/library", "1", cwd=f"{tree.top}/crates/low", path=bin_folder)
         good = ran.status == 2 and told in ran.faults and "rt lib" in ran.faults and "Traceback" not in ran.faults
         tally.add(good, f"a toolchain of which the module {told}: {ran}")

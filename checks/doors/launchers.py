@@ -10,6 +10,7 @@ import time
 
 from checks.lib.harness import drawn
 from checks.lib.tally import LeftOut, has
+from precopy_dev.files import write_file
 from precopy_dev.packaging import launcher
 from precopy_dev.tree import TOP
 
@@ -46,8 +47,7 @@ class Installed:
         self.told = os.path.join(folder, "told")
         for path in (self.launcher, self.program):
             os.makedirs(os.path.dirname(path))
-        with open(self.launcher, "wb") as file:
-            file.write(launcher.launcher("../lib/precopy/precopy"))
+        write_file(launcher.launcher("../lib/precopy/precopy"), self.launcher)
         os.chmod(self.launcher, 0o755)
         words = ["cc", "-std=gnu99", "-O2", "-Wall", "-Wextra", "-o", self.program, f"{TOP}/checks/doors/started.c"]
         subprocess.run(words, check=True)

@@ -16,6 +16,7 @@ from checks.evacuation.cases import SVG, Programs, document_of, expect, micros, 
 from checks.evacuation.moving_cases import write_settings
 from checks.lib.harness import cases_of, draws
 from checks.lib.tally import expect_in_time
+from precopy_dev.files import read_text, write_file
 from precopy_tools.evacuate import lines, movers, run
 from precopy_tools.evacuate.costs import Cost, Guest, Wanted
 from precopy_tools.evacuate.schedules import Placed
@@ -259,8 +260,7 @@ def refused_hours(programs: Programs, folder: str) -> None:
     _, fault = run_tool(programs, path, "--link", LINK, "--at", "03:00", *copy, status=1)
     expect("guests: db: a copy of some age goes without --at and --window" in fault, fault)
     lines, _ = run_tool(programs, path, "--link", LINK, "--at", "03:00", "--at-once", "1", "--costs")
-    with open(f"{folder}/db.jsonl", "w", encoding="utf-8") as file:
-        file.write(lines)
+    write_file(lines, f"{folder}/db.jsonl")
     text, _ = run_tool(programs, f"{folder}/db.jsonl", "--link", LINK, "--at-once", "1")
     expect("1 guest;" in text, text)
 
@@ -319,23 +319,19 @@ def held_in_scripts(_: Programs, folder: str) -> None:
         own = {guest.name_of_guest: Way(guest.path, "tcp:b:4444") for guest in guests}
         environment, path = monitors.virsh_in(place, 0.2)
         steps, opens = steps_in(2)
-        script = os.path.join(place, "move")
-        with open(script, "w", encoding="utf-8") as file:
-            file.write(lines.script(kind, steps, own))
+        script = write_file(lines.script(kind, steps, own), place, "move")
         os.chmod(script, 0o700)
         done = subprocess.run([script], env=environment, capture_output=True, text=True, timeout=60)
         expect(done.returncode == 0, f"{done}")
         events = log if kind == "qmp" else monitors.events_in(path)
         expect_begun({event.guest: event.time for event in events if event.what == "begins"}, opens, 2)
-        with open(script, encoding="utf-8") as file:
-            text = file.read()
+        text = read_text(script)
         expect_stopped(script, text, steps[0].not_before, environment)
 
 
 def expect_stopped(script: str, text: str, time_of_first: int, environment: dict) -> None:
     """A script that waits for its first time begins none if it is stopped."""
-    with open(script, "w", encoding="utf-8") as file:
-        file.write(text.replace(str(time_of_first), "9999999999"))
+    write_file(text.replace(str(time_of_first), "9999999999"), script)
     process = subprocess.Popen(
         [script],
         env=environment,

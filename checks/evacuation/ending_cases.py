@@ -9,6 +9,7 @@ import time
 from checks.evacuation.cases import EVACUATE, LINK, Programs, expect, steady_guest, write_record
 from checks.lib.harness import cases_of
 from checks.lib.tally import expect_in_time
+from precopy_dev.files import write_file
 
 SECONDS = 60
 # A program that plans nothing, and takes its time for that.
@@ -40,9 +41,7 @@ def waited_for(holds) -> bool:
 def ended_while_it_plans(programs: Programs, folder: str) -> None:
     """Whatever ends the tool while it plans, none of its processes goes on."""
     records = [write_record(folder, f"guest{number}", steady_guest(100, 3, 1)) for number in range(9)]
-    program = os.path.join(folder, "view")
-    with open(program, "w", encoding="utf-8") as file:
-        file.write(SLOW.format(folder=folder))
+    program = write_file(SLOW.format(folder=folder), folder, "view")
     os.chmod(program, 0o700)
     command = [EVACUATE, "--program", program, "--scheduler", programs.scheduler, *records, "--link", LINK]
     for number in signal.SIGTERM, signal.SIGKILL:

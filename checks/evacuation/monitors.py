@@ -10,6 +10,8 @@ import threading
 import time
 from typing import NamedTuple
 
+from precopy_dev.files import write_file
+
 VIRSH = """\
 #!/bin/sh
 [ "$1" = --quiet ] && shift
@@ -116,9 +118,7 @@ def virsh_in(folder: str, seconds: float | str, failing: tuple[str, ...] = ()) -
     it did."""
     programs, log = os.path.join(folder, "programs"), os.path.join(folder, "virsh.log")
     os.makedirs(programs, exist_ok=True)
-    path = os.path.join(programs, "virsh")
-    with open(path, "w", encoding="utf-8") as file:
-        file.write(VIRSH.format(log=shlex.quote(log), seconds=seconds, failing=" ".join(failing)))
+    path = write_file(VIRSH.format(log=shlex.quote(log), seconds=seconds, failing=" ".join(failing)), programs, "virsh")
     os.chmod(path, stat.S_IRWXU)
     if os.path.exists(log):
         os.unlink(log)

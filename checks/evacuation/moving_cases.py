@@ -22,6 +22,7 @@ from checks.evacuation.cases import (
     write_record,
 )
 from checks.lib.tally import expect_in_time
+from precopy_dev.files import read_text, write_file
 
 SECONDS, LINK = 120, "64MiB"
 NAMES = ("web", "db", "idle", "cache")
@@ -30,9 +31,7 @@ TWO = ["--link", LINK, "--at-once", "2"]
 
 def write_settings(folder: str, fields: object) -> list[str]:
     """The words for a file of settings."""
-    path = os.path.join(folder, "settings.json")
-    with open(path, "w", encoding="utf-8") as file:
-        file.write(fields if isinstance(fields, str) else json.dumps(fields))
+    path = write_file(fields if isinstance(fields, str) else json.dumps(fields), folder, "settings.json")
     return ["--settings", path]
 
 
@@ -99,9 +98,7 @@ def refused_ways(programs: Programs, records: list[str], folder: str) -> None:
 def script_of(programs: Programs, folder: str, *words: str, status: int = 0) -> str:
     """The script of --dry-run, as a file that can be run."""
     text, _ = run_tool(programs, *words, "--dry-run", status=status)
-    path = os.path.join(folder, "move")
-    with open(path, "w", encoding="utf-8") as file:
-        file.write(text)
+    path = write_file(text, folder, "move")
     os.chmod(path, 0o700)
     return path
 
@@ -138,11 +135,9 @@ def scripts_of_virsh(programs: Programs, folder: str) -> None:
     )
     expect_two_at_once(events)
     expect_order(events, ("web", "cache"))
-    with open(log, encoding="utf-8") as file:
-        expect("migrate-setmaxdowntime --domain -db one --downtime 300" in file.read(), "another limit")
+    expect("migrate-setmaxdowntime --domain -db one --downtime 300" in read_text(log), "another limit")
     text, _ = run_tool(programs, *words)
-    with open(path, encoding="utf-8") as file:
-        expect(text.endswith(file.read()), "the lines below the table are another script")
+    expect(text.endswith(read_text(path)), "the lines below the table are another script")
     environment, log = monitors.virsh_in(folder, 2, ("web", "-db one"))
     done = subprocess.run([path], env=environment, capture_output=True, text=True, timeout=SECONDS)
     begun = [event.guest for event in monitors.events_in(log) if event.what == "begins"]
@@ -360,8 +355,7 @@ def series_of_guests(programs: Programs, folder: str) -> None:
 def some_refused(programs: Programs, folder: str) -> None:
     """Beside a refused record all others are tried at once, and a wrong name in the settings is told."""
     records = four_guests(folder)
-    with open(f"{folder}/old.light.pcwt", "wb") as file:
-        file.write(b"PCWU")
+    write_file(b"PCWU", f"{folder}/old.light.pcwt")
     wrong = write_settings(folder, {"guests": {"mail": {}, "old": {}}})
     words = [*records[:3], f"{folder}/old.light.pcwt", "--link", LINK, *wrong]
     text, fault = run_tool(programs, *words, status=1)

@@ -10,9 +10,11 @@ import time
 import precopy
 from checks.lib import stream_model, stream_rows
 from checks.lib.harness import drawn
-from checks.lib.library_runs import TOP, run
+from checks.lib.library_runs import run
 from checks.lib.stream_rows import frame
 from checks.lib.traces import generated, header, record
+from precopy_dev.files import write_file
+from precopy_dev.tree import TOP
 
 TRIALS = 2000
 HEAD = 9
@@ -182,8 +184,7 @@ def told_by_tool(folder, streams, *words):
     """The status of tools/check over the streams of the guest of examples/a.pcwt, and what it prints."""
     paths = [os.path.join(folder, f"stream{number}") for number in range(len(streams))]
     for path, stream in zip(paths, streams):
-        with open(path, "wb") as file:
-            file.write(stream)
+        write_file(stream, path)
     done = run(f"{TOP}/tools/check", f"{TOP}/examples/a.pcwt", *paths, *words)
     return done.returncode, (done.stdout + done.stderr).decode()
 

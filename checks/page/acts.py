@@ -19,11 +19,6 @@ PLAIN = {
 }
 
 
-def read(path):
-    with open(path, "rb") as file:
-        return file.read()
-
-
 def asked(page, **more):
     """Asks for plain settings with some others."""
     return page.ask("&".join(f"{name}={word}" for name, word in {**PLAIN, **more}.items()))

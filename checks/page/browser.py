@@ -11,6 +11,7 @@ import tempfile
 import time
 
 from checks.lib.tally import Late
+from precopy_dev.files import read_text, write_file
 
 SECONDS = 60
 # Memory that is free goes back to the system some seconds later. Readings differ by less than a grain if none goes.
@@ -99,8 +100,7 @@ class Driven:
         return [line for line in lines if line is not None]
 
     def keep_picture(self, path, found):
-        with open(path, "wb") as file:
-            file.write(base64.b64decode(found["data"]))
+        write_file(base64.b64decode(found["data"]), path)
 
 
 class Browser(Driven):
@@ -262,8 +262,7 @@ class Browser(Driven):
             folder = f"/proc/{numbers.pop()}"
             with contextlib.suppress(OSError):
                 for thread in os.listdir(f"{folder}/task"):
-                    with open(f"{folder}/task/{thread}/children", encoding="ascii") as file:
-                        numbers += file.read().split()
+                    numbers += read_text(f"{folder}/task/{thread}/children").split()
                 with open(f"{folder}/smaps_rollup", encoding="ascii") as lines:
                     size += sum(int(line.split()[1]) << 10 for line in lines if line.startswith("Pss:"))
         return size

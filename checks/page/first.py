@@ -3,8 +3,9 @@
 import re
 
 from checks.lib.tally import expect
-from checks.page.acts import read, typed
+from checks.page.acts import typed
 from checks.page.cases import example
+from precopy_dev.files import read_bytes
 
 MOST_WORDS, FIRST_PICTURE, LEAST_LINE = 120, 500, 24
 
@@ -40,7 +41,7 @@ def check_own_trace(page):
     page.browser.dress(1280, 900)
     page.open()
     page.wait_for_plan()
-    page.drop(*((f"own.{kind}", read(example(f"guests/sqlite.light.{kind}"))) for kind in ("pcwt", "json")))
+    page.drop(*((f"own.{kind}", read_bytes(example(f"guests/sqlite.light.{kind}"))) for kind in ("pcwt", "json")))
     page.rest()
     words = page.browser.value(WORDS)
     page.browser.dress(1400, 900)

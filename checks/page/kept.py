@@ -3,8 +3,9 @@
 from checks.lib.amount_texts import time_text
 from checks.lib.host_words import LONGEST_MILLIS, host_lines, sentence_of
 from checks.lib.tally import expect
-from checks.page.acts import asked, read, typed
+from checks.page.acts import asked, typed
 from checks.page.cases import example
+from precopy_dev.files import read_bytes
 
 
 def check_comparison(page):
@@ -54,7 +55,7 @@ def check_second_trace(page):
     page.wait_for_plan()
     page.after("document.getElementById('keep').click()")
     before = page.shown()["comparison"]
-    page.drop(("mid.pcwt", read(example("guests/mid.light.pcwt"))))
+    page.drop(("mid.pcwt", read_bytes(example("guests/mid.light.pcwt"))))
     page.rest()
     heads = page.browser.value(HEADS)
     expect(heads == ["This plan", "Kept plan 1 Drop sqlite.light.pcwt"], f"heads: {heads}")
@@ -87,16 +88,16 @@ def check_undone_trace(page):
     page.wait_for_plan()
     page.after("document.getElementById('keep').click()")
     page.browser.wait("location.hash.includes('kept=')", 5)
-    page.drop(("mid.pcwt", read(example("guests/mid.light.pcwt"))))
+    page.drop(("mid.pcwt", read_bytes(example("guests/mid.light.pcwt"))))
     page.rest()
     over_its_own, over_another = "Kept plan 1 Exchange Drop", "Kept plan 1 Drop sqlite.light.pcwt"
     for button, wanted in (("undo", over_its_own), ("redo", over_another), ("undo", over_its_own)):
         page.after(f"document.getElementById('{button}').click()")
         page.becomes(HEADS, ["This plan", wanted], f"heads after {button}")
         page.rest()
-    page.drop(("mid.pcwt", read(example("guests/mid.light.pcwt"))))
+    page.drop(("mid.pcwt", read_bytes(example("guests/mid.light.pcwt"))))
     page.rest()
-    page.drop(("sqlite.pcwt", read(example("guests/sqlite.light.pcwt"))))
+    page.drop(("sqlite.pcwt", read_bytes(example("guests/sqlite.light.pcwt"))))
     page.rest()
     page.becomes(HEADS, ["This plan", over_its_own], "heads over the trace that is opened anew")
     page.after("document.querySelector('[data-drops]').click()")

@@ -2,8 +2,8 @@
 another trace is open."""
 
 from checks.lib.tally import expect
-from checks.page.acts import read
 from checks.page.cases import example
+from precopy_dev.files import read_bytes
 
 # How long a message to a worker is on its way here, in milliseconds.
 DELAY = 300
@@ -14,7 +14,7 @@ IS_OPEN = "document.getElementById('trace').getAttribute('aria-busy') === 'false
 
 
 def mid():
-    return "mid.pcwt", read(example("guests/mid.light.pcwt"))
+    return "mid.pcwt", read_bytes(example("guests/mid.light.pcwt"))
 
 
 def pressed(page, button, address):

@@ -12,6 +12,7 @@ from checks.page import first, focus, shapes
 from checks.page.acts import typed
 from checks.page.browser import WIDER_THAN_PHONES
 from checks.page.cases import example
+from precopy_dev.files import read_bytes, read_text, write_file
 from precopy_dev.packaging import notices
 
 WIDTHS = [360, 800, 1400, 1920]
@@ -303,8 +304,7 @@ def check_address(page):
     page.load(path)
     browser.wait("!location.hash.includes('trace=')", 5)
     address = browser.value("location.hash")
-    with open(path, "rb") as file:
-        print_of = hashlib.sha256(file.read()).hexdigest()[:12]
+    print_of = hashlib.sha256(read_bytes(path)).hexdigest()[:12]
     expect("mid" not in address and f"of={print_of}" in address, address)
     page.open(address)
     page.load(path)
@@ -426,11 +426,10 @@ def heard_of(page, url):
 
 def without_policy(path):
     """Writes the same page without its policy, and returns its path."""
-    with open(path, encoding="utf-8") as file:
-        text = file.read()
-    other = path.replace(".html", "-open.html")
-    with open(other, "w", encoding="utf-8") as file:
-        file.write(text.replace('http-equiv="Content-Security-Policy"', 'name="policy"'))
+    text = read_text(path)
+    other = write_file(
+        text.replace('http-equiv="Content-Security-Policy"', 'name="policy"'), path.replace(".html", "-open.html")
+    )
     return other
 
 

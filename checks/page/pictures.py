@@ -6,11 +6,11 @@ import base64
 import os
 
 from checks.lib.tally import expect
-from checks.page.acts import read
 from checks.page.browser import Browser
 from checks.page.cases import example
 from checks.page.firefox import Firefox
 from checks.page.shown import COLLECTOR, Page
+from precopy_dev.files import read_bytes, write_file
 
 # A look: the width and the height of the page in its own pixels, how many of the screen each has, and what the user
 # prefers and points with.
@@ -53,7 +53,7 @@ def open_with(page, fragment=PLAIN):
 def answer(page):
     """What is seen first of a trace of one's own, with its record."""
     open_with(page, "")
-    page.drop(*((f"store.{kind}", read(example(f"guests/sqlite.light.{kind}"))) for kind in ("pcwt", "json")))
+    page.drop(*((f"store.{kind}", read_bytes(example(f"guests/sqlite.light.{kind}"))) for kind in ("pcwt", "json")))
 
 
 def unfolded(page):
@@ -90,7 +90,7 @@ def two_traces(page):
     """A plan beside those that were kept over another trace."""
     open_with(page)
     page.after("document.getElementById('keep').click()")
-    page.drop(("a-trace-with-a-rather-long-name.light.pcwt", read(example("guests/mid.light.pcwt"))))
+    page.drop(("a-trace-with-a-rather-long-name.light.pcwt", read_bytes(example("guests/mid.light.pcwt"))))
     page.after(
         "document.getElementById('keep').click(); document.getElementById('control-rounds').value = '3';"
         "document.getElementById('control-rounds').dispatchEvent(new Event('input'))"
@@ -146,8 +146,7 @@ def print_scenes(page, folder, kind):
     for scene in ON_PAPER:
         SCENES[scene][0](page)
         page.rest()
-        with open(os.path.join(folder, f"{scene}-paper-{kind}.pdf"), "wb") as file:
-            file.write(base64.b64decode(page.browser.printed()))
+        write_file(base64.b64decode(page.browser.printed()), folder, f"{scene}-paper-{kind}.pdf")
 
 
 def in_chromium(path, folder):

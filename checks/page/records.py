@@ -5,11 +5,11 @@ import json
 
 from checks.lib.tally import expect
 from checks.page import shapes
-from checks.page.acts import read
 from checks.page.cases import example
 from checks.page.first import MOST_WORDS, WORDS
 from checks.page.limits import ALSO
 from checks.page.shown import tried
+from precopy_dev.files import read_bytes
 
 VALUES = (
     "[String(ticksOf('start')), "
@@ -39,12 +39,12 @@ def record_of(trace, **fields):
 
 
 def guest_with_record():
-    return [(f"a.{kind}", read(example(f"guests/sqlite.light.{kind}"))) for kind in ("pcwt", "json")]
+    return [(f"a.{kind}", read_bytes(example(f"guests/sqlite.light.{kind}"))) for kind in ("pcwt", "json")]
 
 
 def check_records(page):
     """A record comes with its trace, after it, or before it; one that is not the trace's is refused by its field."""
-    trace, record = (read(example(f"guests/sqlite.light.{kind}")) for kind in ("pcwt", "json"))
+    trace, record = (read_bytes(example(f"guests/sqlite.light.{kind}")) for kind in ("pcwt", "json"))
     wanted = [str(json.loads(record)["first_tick"]), "31.25156", "1"]
     for files in ([("a.pcwt", trace), ("a.json", record)], [("a.json", record), ("a.pcwt", trace)]):
         page.open()
@@ -118,7 +118,7 @@ def check_fitted(page):
     """Limits that were fitted to a trace are told as such, with links of today's networks, until one is chosen."""
     page.open()
     page.wait_for_plan()
-    page.drop(("own.pcwt", read(example("gzip.pcwt"))))
+    page.drop(("own.pcwt", read_bytes(example("gzip.pcwt"))))
     offered = page.browser.value(OFFERED)
     expect(offered == ["1 Gbit/s", "10 Gbit/s", "25 Gbit/s"], f"links that are offered: {offered}")
     page.drop(*guest_with_record())

@@ -8,10 +8,11 @@ import re
 
 from checks.lib.amount_texts import error_text, moment_text, size_text, time_text
 from checks.lib.tally import left_out
-from checks.lib.view_texts import TOP, Failure, ran, sweep_facts, told
+from checks.lib.view_texts import Failure, ran, sweep_facts, told
 from checks.page import cases
 from checks.page.acts import plan_starts
 from checks.view.limit_cases import Known
+from precopy_dev.tree import TOP
 
 VIEW = os.path.join(TOP, "crates", "precopy_view", "out", "precopy_view")
 # The standard error of a start's downtime.

@@ -9,11 +9,12 @@ import re
 
 from checks.lib.tally import expect
 from checks.page import shapes
-from checks.page.acts import plan_starts, read, typed
+from checks.page.acts import plan_starts, typed
 from checks.page.cases import example
 from checks.page.looks import ALL_MARKS, GAPS, HEIGHT, MARKS, STARTS_MARKS, check_look, check_names, read_nodes
 from checks.page.saves import saved_files
 from checks.page.worker import end_worker
+from precopy_dev.files import read_bytes, write_file
 
 WIDTHS = [390, 900, 1400]
 FULL_WIDTHS = [360, *WIDTHS, 480, 600, 800, 1024, 1920]
@@ -86,13 +87,13 @@ def second_trace(page):
     """A plan over another trace than the one that is open, kept to compare."""
     open_with(page, "#trace=sqlite&link=64MiB&first=50&window=500&start=1000")
     keep(page)
-    page.drop(("a-trace-with-a-rather-long-name.light.pcwt", read(example("guests/mid.light.pcwt"))))
+    page.drop(("a-trace-with-a-rather-long-name.light.pcwt", read_bytes(example("guests/mid.light.pcwt"))))
 
 
 def own_record(page):
     """A trace of one's own, with the record beside it: standard errors of this plan and of a kept one."""
     open_with(page, "")
-    page.drop(*((f"store.{kind}", read(example(f"guests/sqlite.light.{kind}"))) for kind in ("pcwt", "json")))
+    page.drop(*((f"store.{kind}", read_bytes(example(f"guests/sqlite.light.{kind}"))) for kind in ("pcwt", "json")))
     keep(page)
     typed(page, "rounds", "2")
     expect(page.enough(), "nothing is said of what is enough")
@@ -232,8 +233,7 @@ ACTS = {
 def put(folder, name, data):
     """Writes a file to a folder, if there is one."""
     if folder:
-        with open(os.path.join(folder, name), "wb") as file:
-            file.write(data)
+        write_file(data, folder, name)
 
 
 def check_state(page, name, folder):

@@ -1,8 +1,9 @@
 """What the planner's page announces: a plan once it is drawn, and never that of another trace or of other settings."""
 
 from checks.lib.tally import expect
-from checks.page.acts import read, typed
+from checks.page.acts import typed
 from checks.page.cases import example
+from precopy_dev.files import read_bytes
 
 # What is announced, and what the verdict says.
 TOLD = "textOf('told')"
@@ -24,7 +25,7 @@ def check_told(page):
     page.open("#trace=sqlite&link=1Gbit&downtime=300ms&start=1000&rounds=30")
     page.wait_for_plan()
     require_told(page, "a first plan")
-    page.drop(("mid.pcwt", read(example("guests/mid.light.pcwt"))))
+    page.drop(("mid.pcwt", read_bytes(example("guests/mid.light.pcwt"))))
     page.browser.value("new Promise((resume) => setTimeout(resume, 800))")
     require_told(page, "another trace")
     page.ask("trace=sqlite&link=1Gbit&downtime=300ms&start=1000&rounds=30")

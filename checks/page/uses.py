@@ -4,7 +4,6 @@ that make no plan, units, going back, files that are refused, and a worker that 
 import base64
 import json
 import math
-import os
 import re
 import tempfile
 from fractions import Fraction
@@ -12,11 +11,12 @@ from fractions import Fraction
 from checks.lib.harness import drawn
 from checks.lib.tally import expect
 from checks.page import forecasts, kept, late, limits, links, looking, map, records, saves, shapes, sure, told, worker
-from checks.page.acts import asked, read, spelled, typed
+from checks.page.acts import asked, spelled, typed
 from checks.page.cases import example
 from checks.page.manners import MANNERS
 from checks.page.shown import tried
 from checks.view.limit_cases import RATES, TIMES
+from precopy_dev.files import read_bytes, write_file
 
 DROPPED = 50
 
@@ -69,7 +69,7 @@ def check_names(page):
     """The names of files stand apart from the words round them, in whatever direction they are written."""
     page.open("#trace=gzip")
     page.wait_for_plan()
-    trace, record = (read(example(f"guests/sqlite.light.{kind}")) for kind in ("pcwt", "json"))
+    trace, record = (read_bytes(example(f"guests/sqlite.light.{kind}")) for kind in ("pcwt", "json"))
     page.drop(("\u05d0-1.pcwt", trace), ("\u05d0-1.json", record), ("\u05d0-2.pcwt", trace))
     page.drop(("\u05d0-3.txt", b"text"))
     named = page.browser.value("[...document.querySelectorAll('#trace bdi')].map((name) => name.textContent)")
@@ -78,7 +78,7 @@ def check_names(page):
 
 def check_files(page):
     """Of two traces the second is named; a bad file leaves the good one, and its plan."""
-    good = read(example("guests/mid.light.pcwt"))
+    good = read_bytes(example("guests/mid.light.pcwt"))
     page.open()
     page.wait_for_plan()
     said = page.drop(("one.pcwt", good), ("two.pcwt", good), ("a.txt", b"text"))
@@ -94,22 +94,20 @@ def check_files(page):
         not typed(page, "rounds", "7")["refused"],
         "no plan after a bad file",
     )
-    said = page.drop(("bad.pcwt", good[:-1]), ("good.pcwt", read(example("gzip.pcwt"))), ("more.pcwt", good))
+    said = page.drop(("bad.pcwt", good[:-1]), ("good.pcwt", read_bytes(example("gzip.pcwt"))), ("more.pcwt", good))
     expect("bad.pcwt is refused: E8 record" in said and "good.pcwt: 25 pages" in said, said)
     expect("Not opened: more.pcwt." in said and "still open" not in said, said)
     page.drop(("one.pcwt", good))
     # One after another, without waiting: the worker and the page have the same trace open then.
     before = page.browser.value("opened")
-    for name, text in (("three.pcwt", read(example("gzip.pcwt"))), ("bad.pcwt", good[:-1])):
+    for name, text in (("three.pcwt", read_bytes(example("gzip.pcwt"))), ("bad.pcwt", good[:-1])):
         page.browser.value(f"drop([[{json.dumps(name)}, {json.dumps(base64.b64encode(text).decode())}]])")
     page.browser.wait(f"opened === {before + 2} && isDrawn()")
     said = page.browser.value("textOf('trace-notes') + ' | ' + textOf('trace-state')")
     expect("three.pcwt is still open." in said and "three.pcwt: 25 pages" in said, said)
     expect(page.shown()["rounds"][0][4] == "25", f"rounds of another trace: {page.shown()['rounds'][0]}")
     with tempfile.TemporaryDirectory() as folder:
-        path = os.path.join(folder, "chosen.pcwt")
-        with open(path, "wb") as file:
-            file.write(good)
+        path = write_file(good, folder, "chosen.pcwt")
         said = page.load(path, example("guests/sqlite.light.json"))
     expect("chosen.pcwt: " in said and "sqlite.light.json is not used: " in said, said)
 

@@ -36,6 +36,7 @@ from checks.recording import (
 )
 from checks.recording.known_writes import LATER_PAGES, PACE, PAGE, PAGES, STEPS, ended, step
 from checks.recording.recorder_runs import RECORD, TOP, Recording, Writing, expect_nothing, expect_whole, recorded
+from precopy_dev.files import write_file
 
 # The ticks by which the recorder's clock may begin earlier than is known here, and by which a look may be late.
 SLACK, LATE = 300, 60
@@ -292,8 +293,7 @@ def file_ends(program, folder):
 
 def bad_sources(_, folder):
     short, memory = os.path.join(folder, "socket"), os.path.join(folder, "memory")
-    with open(short, "wb") as file:
-        file.write(b"123")
+    write_file(b"123", short)
     with open(memory, "wb") as file:
         file.truncate(PAGE)
     for source, status, word in (

@@ -21,6 +21,7 @@ from checks.lib.tally import expect_in_time
 from checks.recording import known_guest
 from checks.recording.recorder_runs import RECORD, SECONDS, TOP, read_until_recording
 from checks.recording.sample_runs import Drawn
+from precopy_dev.files import write_file
 from precopy_tools.formats import samples, traces
 from precopy_tools.qemu import qmp
 from precopy_tools.record import guest_memory, mappings, series
@@ -437,9 +438,7 @@ def virsh_in(folder, known, identity, garbled=False):
     """An environment with a `virsh` that speaks to the monitor of the stand-in."""
     programs = programs_in(folder)
     text = VIRSH.format(python=sys.executable, identity=str(identity), socket=known.socket, garbled=garbled)
-    path = os.path.join(programs, "virsh")
-    with open(path, "w", encoding="utf-8") as file:
-        file.write(text)
+    path = write_file(text, programs, "virsh")
     os.chmod(path, stat.S_IRWXU)
     return {**os.environ, "PATH": programs, "PYTHONDONTWRITEBYTECODE": "1"}
 

@@ -11,6 +11,7 @@ import time
 from checks.lib.harness import expect
 from checks.lib.tally import Late
 from checks.recording.known_writes import PAGE, PAGES
+from precopy_dev.files import read_bytes
 from precopy_dev.tree import TOP
 from precopy_tools.formats import traces
 
@@ -91,12 +92,10 @@ class Recording(Started):
         self.known_begin = time.monotonic()
 
     def trace(self):
-        with open(self.trace_path, "rb") as file:
-            return traces.read(file.read())
+        return traces.read(read_bytes(self.trace_path))
 
     def image(self):
-        with open(self.image_path, "rb") as file:
-            return file.read()
+        return read_bytes(self.image_path)
 
     def places(self):
         """The place in the source of each page of the trace."""

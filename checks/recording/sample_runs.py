@@ -7,6 +7,7 @@ import time
 
 from checks.lib.harness import expect
 from checks.recording.recorder_runs import RECORD, SECONDS, TOP, Started, Watched
+from precopy_dev.files import read_bytes
 from precopy_tools.formats import samples, traces
 
 PAGE = 4096
@@ -83,8 +84,7 @@ class Drawn(Started):
 
     def read(self):
         """The trace, its writes as (tick, page), and its sample."""
-        with open(self.trace_path, "rb") as file:
-            trace = traces.read(file.read())
+        trace = traces.read(read_bytes(self.trace_path))
         written = [record[:2] for record in trace.records()]
         return trace, written, samples.read(self.trace_path, trace, written)
 

@@ -20,6 +20,7 @@ from checks.refusals import refusal_jobs as jobs
 from checks.refusals.refusal_runs import MOST, SECONDS, Part, count_up, run_parts
 from checks.refusals.refused_growths import SAVED, Harmless, is_for_pieces, told_of_live
 from checks.refusals.threads import PIECES, is_needed, saver_of
+from precopy_dev.files import write_file
 
 # Which thread starts as the Nth may differ from run to run, so N counts up again if one was never the Nth.
 TURNS = 8
@@ -271,8 +272,7 @@ def parts(runner):
 
 def prepare(runner):
     for name, trace in [("a", A), ("many", jobs.MANY), ("large", jobs.LARGE)]:
-        with open(runner.trace(name), "wb") as file:
-            file.write(trace)
+        write_file(trace, runner.trace(name))
     for job in jobs.HELPS:
         job.output = runner.run(job).output
 

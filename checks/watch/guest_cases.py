@@ -14,6 +14,7 @@ from checks.lib.harness import cases_of, expect
 from checks.lib.tally import expect_in_time
 from checks.recording.memory_cases import programs_in
 from checks.watch.watch_runs import LIMITS, SECONDS, Watching, known, of_guest
+from precopy_dev.files import read_json, write_file
 from precopy_dev.tree import TOP
 from precopy_tools.formats import samples, traces
 
@@ -208,8 +209,7 @@ def memory_that_is_plugged_in(program, folder):
                 before = run.metrics()[of_guest("precopy_guest_records_total", "a")]
                 run.wait_for_value("precopy_guest_records_total", "a", before + 2)
             run.end_well()
-    with open(samples.path_beside(run.records_of("a")[-2]), encoding="utf-8") as file:
-        expect(json.load(file)["guest_pages"] == 1500, f"{run.told}")
+    expect(read_json(samples.path_beside(run.records_of("a")[-2]))["guest_pages"] == 1500, f"{run.told}")
 
 
 class Domains:
@@ -217,15 +217,13 @@ class Domains:
 
     def __init__(self, folder):
         self.path, self.programs = os.path.join(folder, "domains"), programs_in(folder)
-        with open(os.path.join(self.programs, "virsh"), "w", encoding="utf-8") as file:
-            file.write(VIRSH.format(python=sys.executable, path=self.path))
+        write_file(VIRSH.format(python=sys.executable, path=self.path), self.programs, "virsh")
         os.chmod(os.path.join(self.programs, "virsh"), 0o700)
         self.environment = {**os.environ, "PATH": self.programs, "PYTHONDONTWRITEBYTECODE": "1"}
 
     def tell(self, domains):
         """From now on virsh tells these; of None it has no connection."""
-        with open(f"{self.path}.new", "w", encoding="utf-8") as file:
-            json.dump(domains, file)
+        write_file(json.dumps(domains), f"{self.path}.new")
         os.rename(f"{self.path}.new", self.path)
 
 
@@ -302,8 +300,7 @@ def within_its_processor(program, folder):
         run.end_well()
     intervals = set()
     for path in [path for name in names for path in run.records_of(name)[1:]]:
-        with open(samples.path_beside(path), encoding="utf-8") as file:
-            told = json.load(file)
+        told = read_json(samples.path_beside(path))
         intervals.add(told["interval_seconds"])
         length = (told["last_tick"] - told["first_tick"]) * told["tick_seconds"]
         most = length / told["interval_seconds"] + 3
@@ -325,8 +322,7 @@ def spread_over_the_interval(program, folder):
         run.end_well()
     lengths = []
     for name in names:
-        with open(samples.path_beside(run.records_of(name)[0]), encoding="utf-8") as file:
-            told = json.load(file)
+        told = read_json(samples.path_beside(run.records_of(name)[0]))
         lengths.append((told["last_tick"] - told["first_tick"]) / 1000)
     apart = min(after - before for before, after in zip(sorted(lengths), sorted(lengths)[1:]))
     expect_in_time(all(0.9 <= length < 4.5 for length in lengths), f"first records of {lengths} s")

@@ -17,6 +17,7 @@ from dataclasses import dataclass
 from checks.lib import harness
 from checks.lib.traces import header, record
 from checks.lib.worked import A_AT_2000, A_IMAGE, A_REPORT, RECORDS, A, C, damaged
+from precopy_dev.files import read_text
 from precopy_dev.tree import TOP
 
 SECONDS = 20
@@ -109,8 +110,7 @@ class Words:
 
 def documented_options():
     """The options in the table of docs/COMMANDS.md: name, default, and the only command that has it, if one does."""
-    with open(os.path.join(TOP, "docs", "COMMANDS.md"), encoding="utf-8") as file:
-        rows = re.findall(r"^\| `--([a-z-]+)( N)?` \| (\S+) \|(.*)\|$", file.read(), re.M)
+    rows = re.findall(r"^\| `--([a-z-]+)( N)?` \| (\S+) \|(.*)\|$", read_text(TOP, "docs", "COMMANDS.md"), re.M)
     found = []
     for name, number, default, rest in rows:
         only = re.search(r"`(\w+)` only", rest)

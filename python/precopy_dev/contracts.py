@@ -7,6 +7,7 @@ import re
 from dataclasses import dataclass, field
 
 from precopy_dev import tree
+from precopy_dev.files import read_text
 from precopy_dev.tree import TOP
 
 # Crates that only tests use, and programs of tests: nobody builds on their calls.
@@ -32,10 +33,7 @@ class Entry:
     comment: list = field(default_factory=list)
 
 
-@functools.lru_cache(maxsize=None)
-def read(path):
-    with open(path, encoding="utf-8") as file:
-        return file.read()
+read = functools.cache(read_text)
 
 
 def crates():
