@@ -248,8 +248,7 @@ def check_no_memory(page):
         "E17": "Blob.prototype.stream = () => { throw new Error('gone'); };",
     }
     for name, code in codes.items():
-        page.open()
-        page.wait_for_plan()
+        page.open_planned()
         # The next worker begins with this.
         page.browser.value(
             f"""(() => {{
@@ -307,8 +306,7 @@ def all_uses(tally, page, folder, precopy, only):
         "loads": lambda: loads.check_loads(tally, page, folder),
         "silence": lambda: page_looks.check_silence(tally, page),
     }
-    page.open()
-    page.wait_for_plan()
+    page.open_planned()
     for name, act in parts.items():
         if not only or name in only:
             timed(name, act)
