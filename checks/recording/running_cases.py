@@ -11,6 +11,7 @@ import sys
 import tempfile
 import time
 
+from checks.lib.harness import cases_of
 from checks.lib.tally import LeftOut, expect_in_time, module, need
 from checks.recording import forecast_cases
 from checks.recording.memory_cases import Known
@@ -272,17 +273,4 @@ def told_as_json(_, folder):
     expect(json.loads(told)["record"]["trace_pages"] > 0, told)
 
 
-CASES = [
-    paused_while_recorded,
-    stopped_while_recorded,
-    segments_that_stood_still,
-    light_names_draw,
-    one_recorder_a_name,
-    named_by_their_begin,
-    services_with_dashes,
-    words_too_little,
-    records_elsewhere,
-    silent_monitors,
-    schema_of_records,
-    told_as_json,
-]
+CASES = cases_of(__name__)
