@@ -13,6 +13,7 @@ import time
 
 from checks.doors import launchers
 from checks.lib.harness import Run as Ran
+from checks.lib.harness import waited
 from checks.lib.tally import LeftOut
 from precopy_dev.files import read_text, write_file
 from precopy_dev.tree import TOP
@@ -256,9 +257,8 @@ def build_twice_at_once(tally, tree):
 def edit_meanwhile(tally, tree):
     """A source that is edited during a build is newer than what the build makes."""
     tree.set_program(10)
-    started, end = tree.start(), time.monotonic() + SECONDS
-    while not processes_in(f"{tree.top}/crates/precopy") and started.poll() is None and time.monotonic() < end:
-        time.sleep(0.1)
+    started = tree.start()
+    waited(lambda: processes_in(f"{tree.top}/crates/precopy") or started.poll() is not None, SECONDS, 0.1)
     time.sleep(2)
     tree.set_program(11)
     ran = ended(started)
@@ -290,9 +290,8 @@ def processes_in(folder):
 def stop(tally, tree, number):
     """Stops a build by a signal to all of its terminal's processes, once it proves."""
     tree.set_library(2, 2)
-    started, end = tree.start(), time.monotonic() + SECONDS
-    while not processes_in(tree.cache) and started.poll() is None and time.monotonic() < end:
-        time.sleep(0.1)
+    started = tree.start()
+    waited(lambda: processes_in(tree.cache) or started.poll() is not None, SECONDS, 0.1)
     copies = list(copies_of_sources(tree))
     tally.add(not copies, f"a search of the tree finds copies of sources during a build: {copies[:2]}")
     os.killpg(started.pid, number)
@@ -300,9 +299,8 @@ def stop(tally, tree, number):
     told = f"stopped by {number.name}" in ran.faults and "the next run goes on" in ran.faults
     tally.add(told and not ran.output, f"a build stopped by {number.name}: {ran}")
     # On a busy machine a process that was told to end takes a while.
-    end = time.monotonic() + SECONDS_TO_END
-    while (left := processes_in(tree.cache)) and time.monotonic() < end:
-        time.sleep(0.1)
+    waited(lambda: not processes_in(tree.cache), SECONDS_TO_END, 0.1)
+    left = processes_in(tree.cache)
     tally.add(not left, f"a build stopped by {number.name} leaves {len(left)} processes")
 
 

@@ -8,7 +8,7 @@ import signal
 import subprocess
 import time
 
-from checks.lib.harness import drawn
+from checks.lib.harness import drawn, waited
 from checks.lib.tally import LeftOut, has
 from precopy_dev.files import write_file
 from precopy_dev.packaging import launcher
@@ -103,9 +103,7 @@ def hand_on_statuses(tally, it):
     for number in (signal.SIGINT, signal.SIGTERM, signal.SIGHUP):
         # A shell starts what it runs in the background with some of these ignored.
         started = it.start([b"precopy", b"wait"], preexec_fn=lambda: signal.signal(number, signal.SIG_DFL))
-        end = time.monotonic() + SECONDS
-        while not it.heard("process") and time.monotonic() < end:
-            time.sleep(0.01)
+        waited(lambda: it.heard("process"), SECONDS)
         tally.add(it.heard("process") == [str(started.pid)], "the program runs in another process than the launcher")
         started.send_signal(number)
         started.communicate(timeout=SECONDS)

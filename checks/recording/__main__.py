@@ -35,7 +35,7 @@ from checks.recording import (
     series_cases,
 )
 from checks.recording.known_writes import LATER_PAGES, PACE, PAGE, PAGES, STEPS, ended, step
-from checks.recording.recorder_runs import RECORD, TOP, Recording, Writing, expect_nothing, expect_whole, recorded
+from checks.recording.recorder_runs import RECORD, TOP, Recording, Writing, expect_whole, recorded
 from precopy_dev.files import write_file
 
 # The ticks by which the recorder's clock may begin earlier than is known here, and by which a look may be late.
@@ -257,7 +257,7 @@ def first_too_large(_, folder):
         with Writing(folder, False) as writing:
             recording = Recording(folder, writing.source, words)
             recording.end()
-        expect_nothing(recording, 1, "record: ", "at most")
+        recording.expect_nothing(1, "record: ", "at most")
 
 
 def guest_too_large(_, folder):
@@ -266,7 +266,7 @@ def guest_too_large(_, folder):
         file.truncate(65_537 * PAGE)
     recording = Recording(folder, ["--file", path], [])
     recording.end()
-    expect_nothing(recording, 2, "65,537 pages", "pages are drawn", ".light.pcwt")
+    recording.expect_nothing(2, "65,537 pages", "pages are drawn", ".light.pcwt")
 
 
 def process_ends(program, folder):
@@ -309,7 +309,7 @@ def bad_sources(_, folder):
     ):
         recording = Recording(folder, source, ["--image", os.path.join(folder, "image")])
         recording.end()
-        expect_nothing(recording, status, word)
+        recording.expect_nothing(status, word)
     for words, name, word in (
         (["--image", "-"], "guest.pcwt", "with a name"),
         (["--light"], "guest.pcwt", ".light.pcwt"),
@@ -317,7 +317,7 @@ def bad_sources(_, folder):
     ):
         recording = Recording(folder, ["--file", memory], words, name)
         recording.end()
-        expect_nothing(recording, 2, word)
+        recording.expect_nothing(2, word)
 
 
 # ---- A stand-in for QEMU's machine protocol.

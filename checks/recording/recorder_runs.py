@@ -65,6 +65,8 @@ def read_until_recording(lines):
 class Started:
     """One run of a recorder into a folder, from its first sample on."""
 
+    MAY_BE_LEFT = ("memory", "socket")
+
     def __init__(self, folder, words, path, errors=subprocess.PIPE, **more):
         self.folder = folder
         command = [*words, path]
@@ -80,6 +82,14 @@ class Started:
             self.process.kill()
             raise Late(f"the recorder does not end: {late}") from late
         self.output, self.status = self.began + rest, self.process.returncode
+
+    def expect_nothing(self, status, *words):
+        """A recorder that was refused says these words, and leaves nothing of its own."""
+        expect(self.status == status, f"status {self.status}, {self.output!r}, {self.faults!r}")
+        for word in words:
+            expect(word in self.faults, f"{word!r} is not in {self.faults!r}")
+        left = [name for name in os.listdir(self.folder) if name not in self.MAY_BE_LEFT]
+        expect(not left, f"left: {left}")
 
 
 class Recording(Started):
@@ -126,14 +136,6 @@ def expect_whole(program, recording, status=0):
     behind = [record for record in records if record[0] > 0]
     expect(all(record[0] > 1000 for record in behind), "a write stands before tick 1000 and is not of the first sample")
     return trace, behind
-
-
-def expect_nothing(recording, status, *words):
-    expect(recording.status == status, f"status {recording.status}, {recording.faults!r}")
-    for word in words:
-        expect(word in recording.faults, f"{word!r} is not in {recording.faults!r}")
-    left = [name for name in os.listdir(recording.folder) if name not in ("memory", "socket")]
-    expect(not left, f"left: {left}")
 
 
 def recorded(folder, private, *words, name="guest.pcwt", end=signal.SIGINT):

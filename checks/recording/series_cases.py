@@ -10,7 +10,7 @@ import time
 import uuid
 
 from checks.lib import harness
-from checks.lib.harness import cases_of, expect
+from checks.lib.harness import cases_of, expect, waited
 from checks.lib.tally import LeftOut, expect_in_time
 from checks.recording.memory_cases import Known, virsh_in
 from checks.recording.recorder_runs import RECORD, SECONDS, TOP, Started, read_until_recording
@@ -49,10 +49,7 @@ class Segments(Started):
 
     @staticmethod
     def wait_for(holds):
-        end = time.monotonic() + 2 * SECONDS
-        while not holds():
-            expect(time.monotonic() < end, "the recorder does not go on")
-            time.sleep(0.02)
+        expect(waited(holds, 2 * SECONDS), "the recorder does not go on")
 
     def told(self):
         """The names of the segments that it has told."""

@@ -9,10 +9,10 @@ A run that is refused something is a case.
 
 import os
 import re
-import select
 import subprocess
 from functools import partial
 
+from checks.lib.harness import closed_pipe
 from checks.lib.harness import run as run_plainly
 from checks.lib.harness import run_main
 from checks.lib.worked import A
@@ -232,15 +232,8 @@ def plainly(runner, job):
 
     with open(runner.trace(job.trace), "rb") as trace, open("/dev/full", "wb") as full:
         ended(trace, full, jobs.WRITE_FAILED)
-    with open(runner.trace(job.trace), "rb") as trace:
-        reader, writer = os.pipe()
-        os.close(reader)
-        # A run that is being started beside this one may hold the reader for a moment.
-        poll = select.poll()
-        poll.register(writer, 0)
-        poll.poll(1000 * SECONDS)
+    with open(runner.trace(job.trace), "rb") as trace, closed_pipe() as writer:
         ended(trace, writer, jobs.WRITE_FAILED)
-        os.close(writer)
     folder = os.open(runner.folder, os.O_RDONLY)
     ended(folder, subprocess.PIPE, jobs.READ_FAILED)
     os.close(folder)

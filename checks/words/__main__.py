@@ -9,7 +9,6 @@ damaged one; how far it was read is tested too. A run is a case.
 
 import os
 import re
-import select
 import subprocess
 import tempfile
 from dataclasses import dataclass
@@ -420,13 +419,8 @@ def descriptors(check):
     for words in jobs:
         with open("/dev/full", "wb") as full:
             check.wants(words, 1, b"", b"precopy: write\n", stdout=full)
-        reader, writer = os.pipe()
-        os.close(reader)
-        poll = select.poll()
-        poll.register(writer, 0)
-        poll.poll(1000 * SECONDS)
-        check.wants(words, 1, b"", b"precopy: write\n", stdout=writer)
-        os.close(writer)
+        with harness.closed_pipe() as writer:
+            check.wants(words, 1, b"", b"precopy: write\n", stdout=writer)
         check.wants(words, 1, b"", b"precopy: write\n", closed=1)
     for words in jobs[:4]:
         check.wants(words, 1, b"", b"precopy: trace E17\n", closed=0)

@@ -148,7 +148,7 @@ def calls_in(crate, path):
         yield Entry(crate, below(crate, path), name, clauses, text[found.start() : end], comment)
 
 
-@functools.lru_cache(maxsize=None)
+@functools.cache
 def calls(crate):
     """What a caller outside of the crate sees, in the order of the files."""
     return [call for path in sources(crate, "src", ".rt") for call in calls_in(crate, path)]
@@ -171,6 +171,6 @@ def definitions_in(crate, path):
         yield Entry(crate, below(crate, path), name, facts, body, comment_above(text, one.start(), "--"))
 
 
-@functools.lru_cache(maxsize=None)
+@functools.cache
 def definitions(crate):
     return [one for path in sources(crate, "specs", ".antt") for one in definitions_in(crate, path)]
