@@ -17,7 +17,7 @@ from checks.evacuation.moving_cases import write_settings
 from checks.lib.harness import cases_of, draws
 from checks.lib.tally import expect_in_time
 from precopy_dev.files import read_text, write_file
-from precopy_tools.evacuate import lines, movers, run
+from precopy_tools.evacuate import hours, lines, movers, run
 from precopy_tools.evacuate.costs import Cost, Guest, Wanted
 from precopy_tools.evacuate.schedules import Placed
 from precopy_tools.evacuate.ways import Way
@@ -60,6 +60,19 @@ def told_at(built: Programs, folder: str, *words: str, status: int = 0) -> tuple
 
 
 # ---- The cases.
+
+
+def opened_as_it_ends(_, __) -> None:
+    """A window of which less than a second is left opens the next day."""
+    window, opens = hours.Window(23 * 3_600, 7_200), FIRST + 23 * 3_600.0
+    for since, wanted in (
+        (0.25, (opens + 0.25, hours.Window(82_800, 7_199))),
+        (7_199, (opens + 7_199, hours.Window(3_599, 1))),
+        (7_199.5, (opens + DAY, window)),
+        (7_200, (opens + DAY, window)),
+    ):
+        found = hours.opening(window, opens + since)
+        expect(found == wanted, f"{since} s after it opens: {found} in place of {wanted}")
 
 
 def by_the_hour(programs: Programs, folder: str) -> None:

@@ -8,6 +8,7 @@ needed for it, cases that need them are left out. A case in which something was 
 more, alone.
 """
 
+import contextlib
 import functools
 import json
 import os
@@ -37,6 +38,7 @@ from checks.recording import (
 from checks.recording.known_writes import LATER_PAGES, PACE, PAGE, PAGES, STEPS, ended, step
 from checks.recording.recorder_runs import RECORD, TOP, Recording, Writing, expect_whole, recorded
 from precopy_dev.files import write_file
+from precopy_tools.qemu import qmp
 
 # The ticks by which the recorder's clock may begin earlier than is known here, and by which a look may be late.
 SLACK, LATE = 300, 60
@@ -403,6 +405,33 @@ def paused_before(program, folder):
 def machine_gone(program, folder):
     recording = paused(program, folder, connections=1)
     expect("was not paused for the last sample" in recording.faults, recording.faults)
+
+
+class LateMachine(Machine):
+    """One that answers `stop` when nobody waits for it any more."""
+
+    def run(self):
+        with contextlib.suppress(OSError):
+            super().run()
+
+    def serve(self, stream, command):
+        time.sleep(1 if command == "stop" else 0)
+        self.asked.append(command)
+        with contextlib.suppress(OSError):
+            self.say(stream, {"return": {"running": True}})
+
+
+def stopped_late(_, folder):
+    """A guest that is not stopped in time may be stopped later: it is told to go on."""
+    path = os.path.join(folder, "socket")
+    machine = LateMachine(path, "", True, connections=1)
+    try:
+        with qmp.paused(path, 0.3):
+            raise AssertionError("it is stopped in time")
+    except qmp.Fault as fault:
+        expect("stop: no answer within 0.3 s" in str(fault), str(fault))
+    machine.join(10)
+    expect(machine.asked == ["qmp_capabilities", "query-status", "stop", "cont"], f"asked: {machine.asked}")
 
 
 CASES = [

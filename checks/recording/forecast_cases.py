@@ -193,6 +193,7 @@ def thinned_pages(_, folder):
         ([whole, os.path.join(folder, "a.pcwt")], 2, "--one-in"),
         ([whole, os.path.join(folder, "none", "a.pcwt"), "--one-in", "2"], 1, "No such file"),
         ([text, os.path.join(folder, "a.pcwt"), "--one-in", "2"], 1, f"{text}: E2: it does not begin with PCWT"),
+        (["/dev/zero", os.path.join(folder, "a.pcwt"), "--one-in", "2"], 1, "/dev/zero: E15: it has more than 2^28 "),
     ):
         _, refused = run_thin(*words, status=status)
         expect(said in refused, refused)
