@@ -174,7 +174,7 @@ def held_until_calm(programs: Programs, folder: str) -> None:
         expect((move["cost"]["sent_bytes"], micros(move["cost"]["time_seconds"])) == (plan.sent, plan.time), f"{move}")
         expect(micros(move["end_seconds"]) == micros(at) + plan.time, f"{move}")
         expect(abs(datetime.datetime.fromisoformat(move["begin"]).timestamp() - opens - at) <= 1, f"{move}")
-    expect_as_scheduled(programs, told)
+    expect_as_scheduled(told)
     now, _ = told_at(programs, folder, *names, "--at", clock(begin), "--at-once", "1,2")
     sent = [sum(move["cost"]["sent_bytes"] for move in each["best"]["moves"]) for each in (told, now)]
     expect(sent[0] < 0.8 * sent[1], f"{sent}: nothing is saved")
@@ -202,7 +202,7 @@ def expect_clocks(path: str, told: dict) -> None:
         expect(all(abs(x + width - start) < 1 and abs(width - wait) < 1 for x, width in held), f"{move}: {held}")
 
 
-def expect_as_scheduled(programs: Programs, told: dict) -> None:
+def expect_as_scheduled(told: dict) -> None:
     """The ends of the best schedule are those of the model, if a guest has its slot while it waits."""
     best = told["schedules"][told["best"]["schedule"]]
     moves = [

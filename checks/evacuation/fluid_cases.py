@@ -211,7 +211,7 @@ def fluid_runs(programs: Programs, folder: str) -> None:
     log, guests = four_monitors(folder, 0.6)
     guests["db"].seconds = 2.5
     words = [*records, *by_qmp(folder), "--fluid", "--json", f"{folder}/told.json"]
-    text, fault = run_of(programs, folder, *words)
+    text, fault = run_of(programs, *words)
     expect(not fault and text.count(" has moved\n") == 4, f"{fault}, {text}")
     expect(document_of(folder)["run"]["is_complete"], text)
     for name, guest in guests.items():
@@ -242,7 +242,7 @@ def silent_monitors(programs: Programs, folder: str) -> None:
     records = four_guests(folder)
     log, guests = four_monitors(folder, 0.6)
     guests["db"].seconds, guests["db"].refuses = 3.0, 2
-    text, fault = run_of(programs, folder, *records, *by_qmp(folder), "--fluid")
+    text, fault = run_of(programs, *records, *by_qmp(folder), "--fluid")
     expect(not fault and text.count(" has moved\n") == 4, f"{fault}, {text}")
     expect_in_time(guests["db"].refuses == 0 and RATE in bandwidths(guests["db"]), f"{bandwidths(guests['db'])}")
 

@@ -171,7 +171,7 @@ def scripts_of_qmp(programs: Programs, folder: str) -> None:
     expect(done.returncode == 1 and "it has moved, or moves already" in done.stderr, f"{done}")
 
 
-def run_of(programs: Programs, folder: str, *words: str, kill=None, status: int = 0) -> tuple[str, str]:
+def run_of(programs: Programs, *words: str, kill=None, status: int = 0) -> tuple[str, str]:
     """A run of the schedule; `kill` is a signal that it gets when two guests have begun."""
     command = [EVACUATE, "--program", programs.view, "--scheduler", programs.scheduler, *words, "--run"]
     process = subprocess.Popen(command, stdout=subprocess.PIPE, stderr=subprocess.PIPE, text=True)
@@ -192,7 +192,7 @@ def runs_that_end_well(programs: Programs, folder: str) -> None:
     """All move, two at once; the report has what was beside what was planned, as text, as JSON and as a picture."""
     records, (log, guests) = four_guests(folder), four_monitors(folder)
     words = [*by_qmp(folder), "--json", f"{folder}/told.json", "--picture", f"{folder}/run.svg"]
-    text, fault = run_of(programs, folder, *records, *words)
+    text, fault = run_of(programs, *records, *words)
     expect(not fault, f"{fault}, {log}")
     expect_two_at_once(log)
     expect(text.count(" has moved\n") == 4 and "the whole" in text, text)
@@ -252,7 +252,7 @@ def runs_that_do_not(programs: Programs, folder: str) -> None:
     log, guests = four_monitors(folder, **{first: {"fails": "the destination refuses"}})
     guests[other].seconds = 4.0
     written = ["--json", f"{folder}/told.json", "--picture", f"{folder}/run.svg"]
-    text, fault = run_of(programs, folder, *records, *by_qmp(folder), *written, status=5)
+    text, fault = run_of(programs, *records, *by_qmp(folder), *written, status=5)
     begun = [event.guest for event in log if event.what == "begins"]
     expect(first in begun and set(begun) <= {first, other}, f"{log}")
     expect_in_time(other in begun, f"{log}")
@@ -271,7 +271,7 @@ def stopped_runs(programs: Programs, folder: str) -> None:
         place = os.path.join(folder, number.name)
         os.makedirs(place)
         log, guests = four_monitors(place, seconds=30)
-        text, fault = run_of(programs, folder, *records, *by_qmp(place), kill=number, status=5)
+        text, fault = run_of(programs, *records, *by_qmp(place), kill=number, status=5)
         expect(sorted(event.what for event in log) == ["begins", "begins", "cancelled", "cancelled"], f"{log}")
         expect(f"{number.name}: no other guest begins" in text, text)
         expect(fault.count("it was cancelled; it runs here") == 2 and fault.count("has not begun\n") == 2, fault)
@@ -292,12 +292,12 @@ def what_it_did_not_begin(programs: Programs, folder: str) -> None:
         place = os.path.join(folder, str(number))
         os.makedirs(place)
         log, guests = four_monitors(place, idle=how)
-        _, fault = run_of(programs, folder, *records, *by_qmp(place), status=1)
+        _, fault = run_of(programs, *records, *by_qmp(place), status=1)
         expect("nothing was begun" in fault and f"idle: {place}/idle.qmp: " in fault and told in fault, fault)
         expect(not log and not any(guest.asked for guest in guests.values()), f"{log}")
     log, _ = four_monitors(folder, db={})
     words = [*by_qmp(folder), "--patience", "100ms"]
-    _, fault = run_of(programs, folder, *records, *words, status=5)
+    _, fault = run_of(programs, *records, *words, status=5)
     expect("it took more than 100 ms, and was cancelled" in fault, fault)
     for words, told, status in (
         ([*TWO, "--lines", "qmp", "--monitor", "/run/{name}"], "has no destination", 2),
@@ -305,7 +305,7 @@ def what_it_did_not_begin(programs: Programs, folder: str) -> None:
         ([*by_qmp(folder), "--deadline", "1ms"], "--force performs it", 3),
         ([*by_qmp(folder), "--dry-run"], "take one", 2),
     ):
-        _, fault = run_of(programs, folder, *records, *words, status=status)
+        _, fault = run_of(programs, *records, *words, status=status)
         expect(told in fault, f"{words}: {fault}")
 
 

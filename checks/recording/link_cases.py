@@ -21,7 +21,6 @@ SQLITE = os.path.join(TOP, "examples", "guests", "sqlite.light.pcwt")
 BEGUN = datetime.datetime(2026, 11, 26, 23, 59, 58, tzinfo=datetime.timezone.utc)
 NOON = BEGUN.replace(hour=12, minute=0, second=0)
 LINKS, RECORDS, WORDS = 2000, 150, 60
-STATUSES = {"yes": 0, "no": 3, "unknown": 4, "uncertain": 5}
 
 
 class Record(NamedTuple):

@@ -5,7 +5,6 @@ from checks.lib.traces import header, record
 from checks.lib.worked import A_AT_2000, A_IMAGE, A_REPORT
 from checks.refusals import threads
 
-ZEROS = bytes(16)
 A_SWEEP = b"""\
 case 0 min 2 max 4 inc 1 threshold 1 limit 8 skip 0 rounds 3 stop few at 3667 down 0 total 8
 case 1 min 2 max 2 inc 1 threshold 1 limit 8 skip 0 rounds 2 stop fast at 3000 down 1000 total 8
