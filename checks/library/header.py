@@ -39,15 +39,10 @@ MISUSES = [
 ]
 
 
-def written(folder, name, text):
-    path = write_file(text, folder, name)
-    return path
-
-
 def check_example(tally, folder):
     """The example at the head, over a trace and over none."""
     lines = re.findall(r"^ \*     (.*)$", read(HEADER).partition("What holds")[0], re.M)
-    path, built = written(folder, "head.c", AROUND.format("\n    ".join(lines))), os.path.join(folder, "head")
+    path, built = write_file(AROUND.format("\n    ".join(lines)), folder, "head.c"), os.path.join(folder, "head")
     done = run("cc", "-std=c99", *WARNINGS, f"-I{TOP}/include", "-o", built, path, f"{LIBRARY}/libprecopy.a")
     if is_done(tally, done, "the example at the head of precopy.h is compiled"):
         done = run(built, input=read_bytes(TOP, "examples/gzip.pcwt"))
@@ -95,7 +90,7 @@ def check_bound(tally, folder):
     body = "static uint8_t text[PRECOPY_REPORT_BOUND(1000)];\n    static const size_t lengths[] = {%s};\n    "
     body += 'for (size_t i = 0; i < %d; i++)\n        printf("%%zu\\n", PRECOPY_REPORT_BOUND(lengths[i]));\n    '
     body += "return fread(trace, 1, trace_length, stdin) || sizeof text != PRECOPY_REPORT_BOUND((size_t)1000);"
-    path = written(folder, "bound.c", AROUND.format(body % (", ".join(map(str, lengths)), len(lengths))))
+    path = write_file(AROUND.format(body % (", ".join(map(str, lengths)), len(lengths))), folder, "bound.c")
     built = os.path.join(folder, "bound")
     done = run("cc", "-std=c99", *WARNINGS, f"-I{TOP}/include", "-o", built, path, f"{LIBRARY}/libprecopy.a")
     if is_done(tally, done, "the bound of a report's length is compiled"):
@@ -109,7 +104,7 @@ def check_warnings(tally, folder):
     """A compiler tells of an answer that nobody looks at, and of a null where none may be."""
     for language, suffix in (("c", "c"), ("c++", "cpp")):
         for body, wanted in MISUSES:
-            path = written(folder, f"misuse.{suffix}", CALL.format(body))
+            path = write_file(CALL.format(body), folder, f"misuse.{suffix}")
             words = ["-x", language, "-O1", *WARNINGS, f"-I{TOP}/include", "-c", "-o", os.devnull, path]
             done = run("cc", *words)
             good = wanted in done.stderr and done.returncode if wanted else done.returncode == 0
