@@ -352,11 +352,7 @@ def comparison(asked, report, document, verdicts):
     return {
         "downtime": [
             time_text(found["down"]),
-            more(
-                error_text(down),
-                verdicts.answer("kept"),
-                *ticks(f"{plural(stop['down'], 'tick')} for pages"),
-            ),
+            more(error_text(down), verdicts.answer("kept"), *ticks(f"{plural(stop['down'], 'tick')} for pages")),
         ],
         "time": [
             time_text(found["time"]),

@@ -22,7 +22,7 @@ def check_comparison(page):
     heads = "[...document.querySelectorAll('#comparison thead th')].map((cell) => cell.firstChild.textContent.trim())"
     expect(page.browser.value(heads) == ["This plan", "Kept plan 1", "Kept plan 2"], page.browser.value(heads))
     marks = page.browser.value(
-        "['better', 'worse'].map((name) => " "document.querySelectorAll(`#comparison .${name}`).length)"
+        "['better', 'worse'].map((name) => document.querySelectorAll(`#comparison .${name}`).length)"
     )
     expect(min(marks) > 0, f"better and worse: {marks}")
     page.after("document.querySelector('[data-exchanges=\"1\"]').click()")
@@ -153,7 +153,7 @@ HOSTS = [
     ),
     (
         "link=8MiB&downtime=4ms",
-        {"libvirt": "virsh migrate-setspeed DOMAIN 8\n" "virsh migrate-setmaxdowntime DOMAIN 4"},
+        {"libvirt": "virsh migrate-setspeed DOMAIN 8\nvirsh migrate-setmaxdowntime DOMAIN 4"},
         {},
     ),
     (

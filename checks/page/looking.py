@@ -65,7 +65,7 @@ def check_together(page):
     page.ask("trace=sqlite&link=64MiB&first=50&downtime=300ms&start=1000&window=500")
     page.browser.value("document.getElementById('zoom-out').click(); document.getElementById('ask').click()")
     page.browser.wait(
-        "document.querySelector('#starts-plot svg') !== null && " "document.getElementById('starts-progress').hidden",
+        "document.querySelector('#starts-plot svg') !== null && document.getElementById('starts-progress').hidden",
         20,
     )
     page.rest()

@@ -132,7 +132,7 @@ class Page:
     def wait_for_plan(self):
         """Waits for the plan over the trace that the page opens by itself."""
         self.browser.wait(
-            "document.querySelectorAll('#rounds-table-this tbody tr').length > 0 && opened > 0 " "&& isDrawn()", 20
+            "document.querySelectorAll('#rounds-table-this tbody tr').length > 0 && opened > 0 && isDrawn()", 20
         )
 
     def wait_for_answer(self):

@@ -86,10 +86,7 @@ def check_files(page):
     expect("bad.pcwt is refused: E8 record" in said and "one.pcwt is still open." in said, said)
     expect(page.shown() == before, "a bad file has changed the plan")
     expect(page.browser.value("textOf('trace-state')").startswith("one.pcwt: 26,715 pages"), said)
-    expect(
-        not typed(page, "rounds", "7")["refused"],
-        "no plan after a bad file",
-    )
+    expect(not typed(page, "rounds", "7")["refused"], "no plan after a bad file")
     said = page.drop(("bad.pcwt", good[:-1]), ("good.pcwt", read_bytes(example("gzip.pcwt"))), ("more.pcwt", good))
     expect("bad.pcwt is refused: E8 record" in said and "good.pcwt: 25 pages" in said, said)
     expect("Not opened: more.pcwt." in said and "still open" not in said, said)

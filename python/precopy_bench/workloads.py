@@ -195,10 +195,7 @@ def lines_input(seed):
     return b"".join(b"%08x line %d\n" % (dice.below(1 << 32), i) for i in range(200_000))
 
 
-RECORDED = {
-    "gzip": (["gzip", "-c"], text_input),
-    "sort": (["sort", "--parallel=1", "-S", "64M"], lines_input),
-}
+RECORDED = {"gzip": (["gzip", "-c"], text_input), "sort": (["sort", "--parallel=1", "-S", "64M"], lines_input)}
 
 
 def stores(lines):
