@@ -1,5 +1,6 @@
 """Cases of checks/recording: guests that do not run, names of records, what is told as JSON, and refusals in words."""
 
+import datetime
 import json
 import os
 import re
@@ -205,6 +206,21 @@ def records_elsewhere(_, folder):
     forecast_cases.run_predict(trace, *link, status=1)
     _, faults = forecast_cases.run_predict(trace, trace, *link, "--record", beside, status=2)
     expect("--record and --when are of one trace" in faults, faults)
+
+
+def words_of_one_trace(_, folder):
+    """What is told of one trace is refused of a series with several, and told of a series with a single one."""
+    begin = datetime.datetime(2026, 11, 26, 22, 0, tzinfo=datetime.timezone.utc)
+    paths = forecast_cases.made_series(folder, [begin, begin + datetime.timedelta(hours=1)])
+    name, link = os.path.join(folder, "guest.light.pcwt"), ["--link", "20MiB", "--downtime", "2ms"]
+    for more in (["--when"], ["--reached", "0.5..1"], ["--record", samples.path_beside(paths[0])]):
+        found = forecast_cases.run_predict(name, *link, *more, status=1)
+        said = "predict: --record, --reached and --when are of one trace, and this is a series\n"
+        expect(found == ("", said), f"{more}: {found}")
+    os.unlink(paths[1])
+    found = forecast_cases.run_predict(name, *link, "--when", status=None)
+    expect(found == forecast_cases.run_predict(paths[0], *link, "--when", status=None), f"{found}")
+    expect("best" in found[0], f"{found}")
 
 
 def silent_monitors(_, folder):
