@@ -1,6 +1,7 @@
 """Cases of checks/watch: what is recorded, predicted and told of guests that write, pause, come, go, and have names."""
 
 import contextlib
+import io
 import json
 import os
 import signal
@@ -17,10 +18,12 @@ from checks.watch.watch_runs import LIMITS, SECONDS, Watching, known, of_guest
 from precopy_dev.files import read_json, write_file
 from precopy_dev.tree import TOP
 from precopy_tools.formats import samples, traces
+from precopy_tools.watch.names import Names
 
 PREDICT = os.path.join(TOP, "tools", "predict")
 PAGE = 4096
 ODD = 'an "odd\\ name'
+UNNAMED = "not watched: no part of its path is a name that no other guest has"
 NUMBERS = {"time_seconds": "duration_seconds", "sent_bytes": "sent_bytes", "down_seconds": "downtime_seconds"}
 VIRSH = """\
 #!{python}
@@ -197,6 +200,52 @@ def come_pause_and_go(program, folder):
         run.wait_for(lambda found: found.get(("precopy_watch_guests",)) == 0, "both have gone")
         run.end_well()
     expect("a: gone" in run.told and "b: gone" in run.told, run.told)
+
+
+def guests_of_one_name(program, folder):
+    """Guests whose sockets have one name are watched by names of their own, which they keep while they are there."""
+    for each in ("x", "y", "z"):
+        os.makedirs(os.path.join(folder, "sockets", each))
+    place = os.path.join(folder, "sockets")
+    with known(place, "x/m.qmp"), known(place, "y/m.qmp"), known(place, "z/n.qmp"):
+        os.symlink(os.path.join(place, "z"), os.path.join(place, "zz"))
+        with Watching(program, folder, "--monitors", os.path.join(place, "*", "*.qmp")) as run:
+            for name in ("x-m", "y-m", "n"):
+                run.wait_for_value("precopy_guest_verdict", name, 1, verdict="kept")
+            with known(place, "z/m.qmp"):
+                found = run.wait_for_value("precopy_guest_records_total", "z-m", 1)
+            expect(found[("precopy_watch_guests",)] == 4, f"{found}")
+            run.end_well()
+    expect(all(run.records_of(name) for name in ("x-m", "y-m", "z-m", "n")), f"{os.listdir(run.output)}")
+    expect(f"x-m: the guest of {place}/x/m.qmp" in run.told and "n: the guest" not in run.told, run.told)
+    expect(not run.faults, run.faults)
+
+
+def names_of_sockets(_, __):
+    """Names are the shortest parts of paths that tell guests apart; what has none is refused once, and in words."""
+    for paths, wanted in (
+        (["/r/a.qmp", "/r/b.c.qmp", "/s/d"], ["a", "b.c", "d"]),
+        (["/r/a/m.qmp", "/r/b/m.qmp", "/r/b/n.qmp"], ["a-m", "b-m", "n"]),
+        (["/q/c/m.qmp", "/r/c/m.qmp", "/r/d/m.qmp"], ["q-c-m", "r-c-m", "d-m"]),
+        (["/m.qmp", "/r/m.qmp", "/r/m.sock"], ["m", "r-m.qmp", "m.sock"]),
+        (["/r/m.qmp", "/r/m.sock"], ["m.qmp", "m.sock"]),
+        (["/r/a-b/m.qmp", "/r/a/b/m.qmp", "/r/c/b/m.qmp"], ["a-b-m", "a-b-m.qmp", "c-b-m"]),
+        (["/r/a/m.qmp", "/r/b/m.qmp", "/s/a-m.qmp"], ["r-a-m", "b-m", "a-m"]),
+        (["/r/.a/m.qmp", "/r/\n/m.qmp", "/r/b/m.qmp"], ["r-.a-m", None, "b-m"]),
+        (["/r/" + "a" * 200 + "/m.qmp", "/r/b/m.qmp"], [None, "b-m"]),
+    ):
+        named, faults = Names(), io.StringIO()
+        with contextlib.redirect_stderr(faults), contextlib.redirect_stdout(io.StringIO()):
+            found = [named.of(paths) for _ in range(3)]
+        expect(found == [{name: path for name, path in zip(wanted, paths) if name}] * 3, f"{paths}: {found}")
+        refused = [path for name, path in zip(wanted, paths) if not name]
+        expect(faults.getvalue() == "".join(f"watch: {path}: {UNNAMED}\n" for path in refused), faults.getvalue())
+    named, both = Names(), ["/r/a/m.qmp", "/r/b/m.qmp"]
+    with contextlib.redirect_stdout(io.StringIO()):
+        found = [named.of(paths) for paths in (both[:1], both, both[1:], both)]
+    first, second = both
+    alone = {"b-m": second}
+    expect(found == [{"m": first}, {"m": first, **alone}, alone, {"a-m": first, **alone}], f"{found}")
 
 
 def memory_that_is_plugged_in(program, folder):
