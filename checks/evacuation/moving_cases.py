@@ -7,6 +7,7 @@ import re
 import signal
 import subprocess
 import time
+import types
 import xml.etree.ElementTree
 
 from checks.evacuation import model, monitors
@@ -23,6 +24,7 @@ from checks.evacuation.cases import (
 )
 from checks.lib.tally import expect_in_time
 from precopy_dev.files import read_text, write_file
+from precopy_tools.evacuate import movers, ways
 
 SECONDS, LINK = 120, "64MiB"
 NAMES = ("web", "db", "idle", "cache")
@@ -278,6 +280,40 @@ def stopped_runs(programs: Programs, folder: str) -> None:
         expect(all(guest.state == "running" for guest in guests.values()), "a guest does not run")
 
 
+def lost_answers(programs: Programs, folder: str) -> None:
+    """If the answer to `migrate` is lost, the guest is watched if it moves, runs here if it does not, and else nothing
+    is known of it."""
+    records = four_guests(folder)
+    for number, (how, state, said) in enumerate(
+        (
+            ({"loses": "answer"}, "moved", ""),
+            ({"loses": "answer", "migration": "completed"}, "moved", ""),
+            ({"loses": "answer", "fails": "no room"}, "failed", "idle has not moved: no room; it runs here"),
+            ({"loses": "command"}, "failed", "idle.qmp: the connection is closed; it runs here"),
+            ({"loses": "command", "migration": "completed"}, "failed", "the connection is closed; it runs here"),
+            ({"loses": "all"}, "lost", "nothing is known of it ("),
+        )
+    ):
+        place = os.path.join(folder, str(number))
+        os.makedirs(place)
+        log, guests = four_monitors(place, idle=how)
+        words = [*by_qmp(place), "--json", f"{folder}/told.json"]
+        _, fault = run_of(programs, *records, *words, status=0 if state == "moved" else 5)
+        told = {each["guest"]: each["state"] for each in document_of(folder)["run"]["guests"]}
+        expect(told["idle"] == state and said in fault, f"{how}: {told}, {fault}")
+        expect(state != "lost" or "it runs here" not in fault and ": look at both hosts" in fault, fault)
+        begun = [event.guest for event in log if event.what == "begins"].count("idle")
+        expect(begun == (how["loses"] != "command"), f"{how}: {log}")
+
+
+def moves_of_which_nothing_is_known(_, folder: str) -> None:
+    """Where a guest is whose migration is under way is not told as if it were not."""
+    path = monitors.Monitor(folder, "web", [], migration="active").path
+    mover = movers.QmpMover(types.SimpleNamespace(move=None), ways.Way(path))
+    where = mover.whereabouts()
+    expect(where == "its migration is active, and its state here is running: look at both hosts", where)
+
+
 def what_it_did_not_begin(programs: Programs, folder: str) -> None:
     """A guest that moves already, or is not there, is not touched, and nothing is begun; what takes too long is told to
     stay."""
@@ -414,6 +450,8 @@ CASES = (
     runs_that_end_well,
     runs_that_do_not,
     stopped_runs,
+    lost_answers,
+    moves_of_which_nothing_is_known,
     what_it_did_not_begin,
     runs_of_virsh,
     series_of_guests,
