@@ -11,11 +11,11 @@ import threading
 import time
 import uuid
 
-from checks.lib.harness import cases_of, expect
+from checks.lib.harness import cases_of, expect, waited
 from checks.lib.tally import expect_in_time
 from checks.recording.memory_cases import programs_in
 from checks.watch.watch_runs import LIMITS, SECONDS, Watching, known, of_guest
-from precopy_dev.files import read_json, write_file
+from precopy_dev.files import read_json, read_text, write_file
 from precopy_dev.tree import TOP
 from precopy_tools.formats import samples, traces
 from precopy_tools.watch.names import Names
@@ -23,6 +23,16 @@ from precopy_tools.watch.names import Names
 PREDICT = os.path.join(TOP, "tools", "predict")
 PAGE = 4096
 ODD = 'an "odd\\ name'
+# A program that predicts nothing, takes its time for that, and ignores to be ended.
+SLOW = """\
+#!{python}
+import os, signal, time
+signal.signal(signal.SIGTERM, signal.SIG_IGN)
+with open("{place}/new", "w") as file:
+    file.write(str(os.getpid()))
+os.rename("{place}/new", "{place}/begun")
+time.sleep(60)
+"""
 UNNAMED = "not watched: no part of its path is a name that no other guest has"
 NUMBERS = {"time_seconds": "duration_seconds", "sent_bytes": "sent_bytes", "down_seconds": "downtime_seconds"}
 VIRSH = """\
@@ -302,6 +312,31 @@ def guests_of_libvirt(program, folder):
         run.end_well()
     expect(run.faults.count("the guests are not told: virsh list: failed to connect") == 1, run.faults)
     expect(not run.records_of("scratch") and run.records_of("-x y"), f"{os.listdir(run.output)}")
+
+
+def ended_while_it_predicts(_, folder):
+    """At a signal the prediction under way ends, and what it has begun, even if that ignores its end."""
+    for number in signal.SIGINT, signal.SIGTERM:
+        place = os.path.join(folder, number.name)
+        os.makedirs(place)
+        slow = write_file(SLOW.format(python=sys.executable, place=place), place, "slow")
+        os.chmod(slow, 0o700)
+        with known(place, "a.qmp"), Watching(slow, place) as run:
+            expect_in_time(waited(lambda: os.path.exists(f"{place}/begun"), SECONDS), f"it predicts nothing: {place}")
+            process = int(read_text(f"{place}/begun"))
+            begun = time.monotonic()
+            run.end(number)
+            expect(run.process.returncode == 0 and not run.faults, f"{run.process.returncode}, {run.faults}")
+            expect_in_time(time.monotonic() - begun < 10, f"it took {time.monotonic() - begun} s to end")
+        expect(waited(lambda: not is_there(process), 1), f"{number.name}: what it began goes on")
+
+
+def is_there(process):
+    """Whether a process runs. One that has ended, and that nobody has waited for yet, does not."""
+    try:
+        return "\nState:\tZ" not in read_text(f"/proc/{process}/status")
+    except (FileNotFoundError, ProcessLookupError):
+        return False
 
 
 def killed_and_begun_again(program, folder):
