@@ -22,7 +22,7 @@ SECONDS, SECONDS_TO_END = 400, 60
 NOBODY = 65534
 STOPPING = (signal.SIGINT, signal.SIGTERM, signal.SIGHUP)
 COPIED = ("precopy", "precopy-view", "dev/build", "dev/library", "dev/start", "python/__main__.py")
-MODULES = tuple(f"python/precopy_dev/{name}.py" for name in ("__init__", "build", "library", "tree", "words"))
+MODULES = tuple(f"python/precopy_dev/{name}.py" for name in ("__init__", "build", "files", "library", "tree", "words"))
 BUILD = "python/precopy_dev/build.py"
 LIBRARY = """\
 //! A library for a trial of the build.
