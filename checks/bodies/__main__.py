@@ -16,6 +16,7 @@ import tempfile
 
 from checks.lib.harness import Draw, Failure, expect, run_main, seed
 from precopy_dev.edits.files import TESTS, TOP, BadEdit, crates, read_edits, text_of
+from precopy_dev.files import write_file
 
 SECONDS = 40
 # How many of its last lines are shown if the tests did not run.
@@ -78,8 +79,7 @@ def try_unchanged(room, crate, bodies, seconds):
 
 def write(room, texts):
     for path, text in texts.items():
-        with open(f"{room}/{path}", "w", encoding="utf-8") as file:
-            file.write(text)
+        write_file(text, f"{room}/{path}")
 
 
 def try_body(room, body, seconds):

@@ -29,7 +29,7 @@ PATH = re.compile(r"[\w.*@-]+/[\w./*@-]*|[\w*@-]+\.(?:antt|c|h|html|js|json|md|p
 IDENTIFIER = re.compile(r"[a-z]\w*_\w*[a-z]|[A-Z]\w+(?:::\w+)?")
 
 
-@functools.lru_cache(maxsize=None)
+@functools.cache
 def known(of):
     """Calls or definitions of all crates by their name, and methods also by their last name."""
     found = {}
@@ -48,24 +48,24 @@ def facts_of(name):
     return {fact for entry in entries for fact, _ in entry.facts}
 
 
-@functools.lru_cache(maxsize=None)
+@functools.cache
 def facts():
     entries = [entry for of in ("calls", "definitions") for found in known(of).values() for entry in found]
     return {fact for entry in entries for fact, _ in entry.facts}
 
 
-@functools.lru_cache(maxsize=None)
+@functools.cache
 def wrong_bodies():
     return {name for crate in contracts.crates() for name, *_ in texts_in(crate)}
 
 
-@functools.lru_cache(maxsize=None)
+@functools.cache
 def all_sources():
     paths = [path for crate in contracts.crates() for path in contracts.sources(crate, "src", ".rt")]
     return "\n".join(map(contracts.read, paths))
 
 
-@functools.lru_cache(maxsize=None)
+@functools.cache
 def types_and_crates():
     types = set(re.findall(r"^pub (?:struct|enum|trait) (\w+)", all_sources(), re.M))
     return types | {word for name, crate in tree.crates().items() for word in (name, *crate.uses)}
@@ -85,7 +85,7 @@ def is_known(word):
     return any(map(os.path.exists, paths)) or OTHER.fullmatch(word) or is_of_wrong_body(word)
 
 
-@functools.lru_cache(maxsize=None)
+@functools.cache
 def other_sources():
     """What tools, checks, the planner and bindings say, and the header of the library."""
     kinds = ("include/*.h", "bindings/**/*.rs", "web/*.js", "*/**/*.py")

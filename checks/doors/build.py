@@ -13,14 +13,16 @@ import time
 
 from checks.doors import launchers
 from checks.lib.harness import Run as Ran
+from checks.lib.harness import waited
 from checks.lib.tally import LeftOut
+from precopy_dev.files import read_text, write_file
 from precopy_dev.tree import TOP
 
 SECONDS, SECONDS_TO_END = 400, 60
 NOBODY = 65534
 STOPPING = (signal.SIGINT, signal.SIGTERM, signal.SIGHUP)
 COPIED = ("precopy", "precopy-view", "dev/build", "dev/library", "dev/start", "python/__main__.py")
-MODULES = tuple(f"python/precopy_dev/{name}.py" for name in ("__init__", "build", "library", "tree", "words"))
+MODULES = tuple(f"python/precopy_dev/{name}.py" for name in ("__init__", "build", "files", "library", "tree", "words"))
 BUILD = "python/precopy_dev/build.py"
 LIBRARY = """\
 //! A library for a trial of the build.
@@ -103,8 +105,7 @@ class Tree:
     def write(self, path, text):
         path = os.path.join(self.top, path)
         os.makedirs(os.path.dirname(path), exist_ok=True)
-        with open(path, "w", encoding="utf-8") as file:
-            file.write(text)
+        write_file(text, path)
         return path
 
     def set_library(self, promised, added):
@@ -191,8 +192,7 @@ def refuse_words(tally, tree):
 
 def tell_after_silence(tally, tree):
     """A build that says nothing for a while says what it proves: here after half a second."""
-    with open(f"{TOP}/{BUILD}", encoding="utf-8") as file:
-        text = file.read()
+    text = read_text(f"{TOP}/{BUILD}")
     tally.add("\nSILENCE = 60  #" in text, f"{BUILD} does not say after how long it speaks")
     tree.write(BUILD, text.replace("\nSILENCE = 60  #", "\nSILENCE = 0.5  #"))
     tree.set_program(20)
@@ -257,9 +257,8 @@ def build_twice_at_once(tally, tree):
 def edit_meanwhile(tally, tree):
     """A source that is edited during a build is newer than what the build makes."""
     tree.set_program(10)
-    started, end = tree.start(), time.monotonic() + SECONDS
-    while not processes_in(f"{tree.top}/crates/precopy") and started.poll() is None and time.monotonic() < end:
-        time.sleep(0.1)
+    started = tree.start()
+    waited(lambda: processes_in(f"{tree.top}/crates/precopy") or started.poll() is not None, SECONDS, 0.1)
     time.sleep(2)
     tree.set_program(11)
     ran = ended(started)
@@ -291,9 +290,8 @@ def processes_in(folder):
 def stop(tally, tree, number):
     """Stops a build by a signal to all of its terminal's processes, once it proves."""
     tree.set_library(2, 2)
-    started, end = tree.start(), time.monotonic() + SECONDS
-    while not processes_in(tree.cache) and started.poll() is None and time.monotonic() < end:
-        time.sleep(0.1)
+    started = tree.start()
+    waited(lambda: processes_in(tree.cache) or started.poll() is not None, SECONDS, 0.1)
     copies = list(copies_of_sources(tree))
     tally.add(not copies, f"a search of the tree finds copies of sources during a build: {copies[:2]}")
     os.killpg(started.pid, number)
@@ -301,9 +299,8 @@ def stop(tally, tree, number):
     told = f"stopped by {number.name}" in ran.faults and "the next run goes on" in ran.faults
     tally.add(told and not ran.output, f"a build stopped by {number.name}: {ran}")
     # On a busy machine a process that was told to end takes a while.
-    end = time.monotonic() + SECONDS_TO_END
-    while (left := processes_in(tree.cache)) and time.monotonic() < end:
-        time.sleep(0.1)
+    waited(lambda: not processes_in(tree.cache), SECONDS_TO_END, 0.1)
+    left = processes_in(tree.cache)
     tally.add(not left, f"a build stopped by {number.name} leaves {len(left)} processes")
 
 
@@ -325,9 +322,7 @@ def differ(tally, tree, folder):
         bin_folder = folder_of_links(f"{other}{number}", "sh", "dirname", "env", "python3", "readlink")
         for name, what in (("rt", "#!/bin/sh\n"), ("rtlib.py", text)):
             if what is not None:
-                with open(os.path.join(bin_folder, name), "w", encoding="utf-8") as file:
-                    file.write(what)
-                os.chmod(file.name, 0o755)
+                os.chmod(write_file(what, bin_folder, name), 0o755)
         ran = tree.run("../../dev/library", "1", cwd=f"{tree.top}/crates/low", path=bin_folder)
         good = ran.status == 2 and told in ran.faults and "rt lib" in ran.faults and "Traceback" not in ran.faults
         tally.add(good, f"a toolchain of which the module {told}: {ran}")

@@ -8,6 +8,7 @@ import subprocess
 import time
 
 from checks.lib.tally import has
+from precopy_dev.files import write_file
 from precopy_dev.packaging import completions, contents
 
 SECONDS = 120
@@ -42,8 +43,7 @@ def files_of(folder):
     for entry in contents.pages(places):
         if entry.place.startswith((f"{bash}/", f"{zsh}/")):
             os.makedirs(os.path.dirname(entry.place), exist_ok=True)
-            with open(entry.place, "wb") as file:
-                file.write(entry.data)
+            write_file(entry.data, entry.place)
     programs, tools = contents.told_by_help()
     return bash, zsh, [*programs, *tools]
 

@@ -6,6 +6,7 @@ import shutil
 import subprocess
 
 from checks.lib import pages
+from precopy_dev.files import read_text
 from precopy_dev.packaging import documents
 from precopy_dev.tree import read
 
@@ -21,8 +22,7 @@ def pages_below(folder):
         for name in sorted(names):
             path = os.path.relpath(os.path.join(at, name), folder)
             if name.endswith(".md") and path not in documents.OF_BUILDERS:
-                with open(os.path.join(at, name), encoding="utf-8") as file:
-                    yield path, file.read()
+                yield path, read_text(at, name)
 
 
 def names(tally, folder):
@@ -82,5 +82,4 @@ def check(tally, folder, prefix):
     shared = os.path.join(prefix, "share", "doc", "precopy")
     names(tally, shared)
     commands(tally, shared, runner(os.path.join(folder, "documents"), prefix))
-    with open(os.path.join(shared, "precopy.html"), encoding="utf-8") as file:
-        tally.add("<title>" in file.read(), "the installed precopy.html is no page")
+    tally.add("<title>" in read_text(shared, "precopy.html"), "the installed precopy.html is no page")

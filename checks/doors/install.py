@@ -11,6 +11,7 @@ import tomllib
 
 from checks.doors import documents, launchers
 from checks.lib.tally import has
+from precopy_dev.files import read_bytes, read_text
 from precopy_dev.packaging import contents, options
 from precopy_dev.tree import TOP
 from precopy_tools import commands, version
@@ -84,8 +85,7 @@ def find_large_pages(tally, prefix):
         while (runs != proper or not found) and time.monotonic() < end and started.poll() is None:
             runs = os.readlink(f"/proc/{started.pid}/exe")
             # As the C library reads the variable, it may end each of its parts by a 0 in this memory.
-            with open(f"/proc/{started.pid}/environ", "rb") as file:
-                found = file.read().decode().rstrip("\0").replace("\0", ":")
+            found = read_bytes(f"/proc/{started.pid}/environ").decode().rstrip("\0").replace("\0", ":")
         started.kill()
         started.communicate()
         good = runs == proper and found == f"GLIBC_TUNABLES={':'.join(launchers.LARGE_PAGES)}"
@@ -169,16 +169,14 @@ def words_of_manual(text):
 def check_program(tally, program):
     """The manual names exactly the options and the commands of the help, and docs/COMMANDS.md all options."""
     name = program.words[0]
-    with open(os.path.join(TOP, "man", f"{name}.1"), encoding="utf-8") as file:
-        named, commands = words_of_manual(file.read())
+    named, commands = words_of_manual(read_text(TOP, "man", f"{name}.1"))
     told = {option.name for command in program.each() for option in command.options} - {"--help"}
     tally.add(named - {"--help"} == told, f"the manual of {name} and its help differ in {sorted(named ^ told)}")
     leaves = {" ".join(command.words[1:]) for command in program.each() if not command.commands}
     tally.add(leaves <= commands, f"the manual of {name} lacks the commands {sorted(leaves - commands)}")
     known = {" ".join(command.words[1:]) for command in program.each()} | {"help"}
     tally.add(commands <= known, f"the manual of {name} has the commands {sorted(commands - known)}")
-    with open(os.path.join(TOP, "docs", "COMMANDS.md"), encoding="utf-8") as file:
-        page = file.read()
+    page = read_text(TOP, "docs", "COMMANDS.md")
     for option in sorted(told):
         tally.add(f"`{option}" in page, f"docs/COMMANDS.md does not name {option} of {name}")
 
@@ -190,8 +188,7 @@ def check_tools(tally):
     expected = [f"precopy-{name}" for name in contents.TOOLS]
     tally.add(sorted(scripts) == expected, f"pyproject.toml has {sorted(scripts)}")
     for name in contents.TOOLS:
-        with open(os.path.join(TOP, "tools", name), encoding="utf-8") as file:
-            launched = re.search(r"python\" (\S+) ", file.read())
+        launched = re.search(r"python\" (\S+) ", read_text(TOP, "tools", name))
         good = launched and launched[1] == commands.MODULES.get(name)
         tally.add(good, f"tools/{name} runs {launched}, and pip {commands.MODULES.get(name)}")
         told = output_of(os.path.join(TOP, "tools", name), "--version").decode()
@@ -201,11 +198,9 @@ def check_tools(tally):
 def check_version(tally):
     """The newest entry of the changes has the version and the date of the tools, and the modules have that version."""
     for path in ("bindings/python/pyproject.toml", "bindings/rust/Cargo.toml"):
-        with open(os.path.join(TOP, path), encoding="utf-8") as file:
-            told = re.search(r'^version = "(.*)"$', file.read(), re.M)
+        told = re.search(r'^version = "(.*)"$', read_text(TOP, path), re.M)
         tally.add(told and told[1] == version.VERSION, f"{path} begins with {told}")
-    with open(os.path.join(TOP, "CHANGELOG.md"), encoding="utf-8") as file:
-        newest = re.search(r"^## (\S+), (\S+)$", file.read(), re.M)
+    newest = re.search(r"^## (\S+), (\S+)$", read_text(TOP, "CHANGELOG.md"), re.M)
     tally.add(newest and newest.groups() == (version.VERSION, version.DATE), f"CHANGELOG.md begins with {newest}")
 
 

@@ -8,8 +8,9 @@ import signal
 import subprocess
 import time
 
-from checks.lib.harness import drawn
+from checks.lib.harness import drawn, waited
 from checks.lib.tally import LeftOut, has
+from precopy_dev.files import write_file
 from precopy_dev.packaging import launcher
 from precopy_dev.tree import TOP
 
@@ -46,8 +47,7 @@ class Installed:
         self.told = os.path.join(folder, "told")
         for path in (self.launcher, self.program):
             os.makedirs(os.path.dirname(path))
-        with open(self.launcher, "wb") as file:
-            file.write(launcher.launcher("../lib/precopy/precopy"))
+        write_file(launcher.launcher("../lib/precopy/precopy"), self.launcher)
         os.chmod(self.launcher, 0o755)
         words = ["cc", "-std=gnu99", "-O2", "-Wall", "-Wextra", "-o", self.program, f"{TOP}/checks/doors/started.c"]
         subprocess.run(words, check=True)
@@ -103,9 +103,7 @@ def hand_on_statuses(tally, it):
     for number in (signal.SIGINT, signal.SIGTERM, signal.SIGHUP):
         # A shell starts what it runs in the background with some of these ignored.
         started = it.start([b"precopy", b"wait"], preexec_fn=lambda: signal.signal(number, signal.SIG_DFL))
-        end = time.monotonic() + SECONDS
-        while not it.heard("process") and time.monotonic() < end:
-            time.sleep(0.01)
+        waited(lambda: it.heard("process"), SECONDS)
         tally.add(it.heard("process") == [str(started.pid)], "the program runs in another process than the launcher")
         started.send_signal(number)
         started.communicate(timeout=SECONDS)

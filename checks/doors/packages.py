@@ -12,6 +12,7 @@ import tarfile
 from checks.doors import documents
 from checks.lib.tally import has, left_out
 from precopy_dev import js_package
+from precopy_dev.files import read_bytes, read_text
 from precopy_dev.packaging import contents, release
 from precopy_dev.tree import TOP
 
@@ -129,8 +130,9 @@ def try_symbols(tally, files):
     (package,) = (path for path in files if os.path.basename(path).startswith("libprecopy6_"))
     told = run("dpkg-deb", "--info", package, "symbols").stdout
     listed = re.findall(r"^ (precopy_\w+)@PRECOPY_6 \d", told, re.M)
-    with open(os.path.join(TOP, "include", "precopy.h"), encoding="utf-8") as file:
-        called = re.findall(r"^(?:uint32_t |bool |const char \*)(precopy_\w+)\(", file.read(), re.M)
+    called = re.findall(
+        r"^(?:uint32_t |bool |const char \*)(precopy_\w+)\(", read_text(TOP, "include", "precopy.h"), re.M
+    )
     tally.add(called and set(listed) == set(called), f"the symbols of {package} are {listed}, and not {called}")
 
 
@@ -238,8 +240,7 @@ def try_node(tally, folder, package):
     wanted = js_package.package_of(contents.module())
     tally.add(found == set(wanted), f"the package for Node has {sorted(found ^ set(wanted))} or lacks them")
     for name in found & set(wanted):
-        with open(os.path.join(top, name), "rb") as file:
-            tally.add(file.read() == wanted[name], f"{name} of the package for Node differs")
+        tally.add(read_bytes(top, name) == wanted[name], f"{name} of the package for Node differs")
 
 
 def check(tally, folder):

@@ -21,6 +21,7 @@ import tempfile
 from checks.lib.harness import expect, run_main
 from precopy_dev import tree
 from precopy_dev.edits.files import GATE, PROVER, TESTS, TOP, TWIN, BadEdit, crates, read_edits, text_of
+from precopy_dev.files import read_text, write_file
 
 # The bodies that the gate tries.
 NAMED = {
@@ -82,17 +83,11 @@ def make_room(room):
     for name in os.listdir(f"{room}/crates"):
         root = f"{room}/crates/{name}/src/main.rt"
         if os.path.isfile(root):
-            with open(root, encoding="utf-8") as file:
-                text = re.sub(r"^fn main\(.*?^\}\n", "", file.read(), flags=re.M | re.S)
+            text = re.sub(r"^fn main\(.*?^\}\n", "", read_text(root), flags=re.M | re.S)
             os.remove(root)
-            write(text, f"{room}/crates/{name}/src/lib.rt")
+            write_file(text, f"{room}/crates/{name}/src/lib.rt")
     os.makedirs(f"{room}/crates/{OVER}/src")
-    write(LAST, f"{room}/crates/{OVER}/src/lib.rt")
-
-
-def write(text, path):
-    with open(path, "w", encoding="utf-8") as file:
-        file.write(text)
+    write_file(LAST, f"{room}/crates/{OVER}/src/lib.rt")
 
 
 class Compiler:
@@ -120,18 +115,18 @@ class Compiler:
         changed = {path for path, _ in changes}
         was = {path: text_of(self.room, path) for path in changed}
         names = [f"{name}: {' '.join(below)}" for name, below in self.below.items()]
-        write("\n".join([*names, f"{OVER}: {' '.join(sorted(crates))}", ""]), f"{self.room}/crates.txt")
+        write_file("\n".join([*names, f"{OVER}: {' '.join(sorted(crates))}", ""]), f"{self.room}/crates.txt")
         try:
             for path, text in was.items():
                 lines = text.split("\n")
                 for (changes_in, number), line in changes.items():
                     if changes_in == path:
                         lines[number] = line
-                write("\n".join(lines), f"{self.room}/{path}")
+                write_file("\n".join(lines), f"{self.room}/{path}")
             told = self.told(["rt", "check", "--only", ""], OVER)
         finally:
             for path, text in was.items():
-                write(text, f"{self.room}/{path}")
+                write_file(text, f"{self.room}/{path}")
         found = [it for it in map(TOLD.match, told.splitlines()) if it]
         # Of the crate over all the toolchain gives paths in its folder, of others whole ones.
         below = [(os.path.relpath(it[1], f"{self.room}/crates"), it) for it in found if os.path.isabs(it[1])]
@@ -162,7 +157,7 @@ class Compiler:
         for edit in edits:
             changes = edit.put_in(TOP)
             for path, text in changes.items():
-                write(text, f"{self.room}/crates/{OVER}/src/{os.path.basename(path)}")
+                write_file(text, f"{self.room}/crates/{OVER}/src/{os.path.basename(path)}")
             told = self.told(["rt", "fmt"], OVER)
             if told.strip():
                 found[str(edit)] = told.strip().splitlines()[0]

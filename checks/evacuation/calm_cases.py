@@ -16,7 +16,8 @@ from checks.evacuation.cases import SVG, Programs, document_of, expect, micros, 
 from checks.evacuation.moving_cases import write_settings
 from checks.lib.harness import cases_of, draws
 from checks.lib.tally import expect_in_time
-from precopy_tools.evacuate import lines, movers, run
+from precopy_dev.files import read_text, write_file
+from precopy_tools.evacuate import hours, lines, movers, run
 from precopy_tools.evacuate.costs import Cost, Guest, Wanted
 from precopy_tools.evacuate.schedules import Placed
 from precopy_tools.evacuate.ways import Way
@@ -59,6 +60,19 @@ def told_at(built: Programs, folder: str, *words: str, status: int = 0) -> tuple
 
 
 # ---- The cases.
+
+
+def opened_as_it_ends(_, __) -> None:
+    """A window of which less than a second is left opens the next day."""
+    window, opens = hours.Window(23 * 3_600, 7_200), FIRST + 23 * 3_600.0
+    for since, wanted in (
+        (0.25, (opens + 0.25, hours.Window(82_800, 7_199))),
+        (7_199, (opens + 7_199, hours.Window(3_599, 1))),
+        (7_199.5, (opens + DAY, window)),
+        (7_200, (opens + DAY, window)),
+    ):
+        found = hours.opening(window, opens + since)
+        expect(found == wanted, f"{since} s after it opens: {found} in place of {wanted}")
 
 
 def by_the_hour(programs: Programs, folder: str) -> None:
@@ -160,7 +174,7 @@ def held_until_calm(programs: Programs, folder: str) -> None:
         expect((move["cost"]["sent_bytes"], micros(move["cost"]["time_seconds"])) == (plan.sent, plan.time), f"{move}")
         expect(micros(move["end_seconds"]) == micros(at) + plan.time, f"{move}")
         expect(abs(datetime.datetime.fromisoformat(move["begin"]).timestamp() - opens - at) <= 1, f"{move}")
-    expect_as_scheduled(programs, told)
+    expect_as_scheduled(told)
     now, _ = told_at(programs, folder, *names, "--at", clock(begin), "--at-once", "1,2")
     sent = [sum(move["cost"]["sent_bytes"] for move in each["best"]["moves"]) for each in (told, now)]
     expect(sent[0] < 0.8 * sent[1], f"{sent}: nothing is saved")
@@ -188,7 +202,7 @@ def expect_clocks(path: str, told: dict) -> None:
         expect(all(abs(x + width - start) < 1 and abs(width - wait) < 1 for x, width in held), f"{move}: {held}")
 
 
-def expect_as_scheduled(programs: Programs, told: dict) -> None:
+def expect_as_scheduled(told: dict) -> None:
     """The ends of the best schedule are those of the model, if a guest has its slot while it waits."""
     best = told["schedules"][told["best"]["schedule"]]
     moves = [
@@ -259,8 +273,7 @@ def refused_hours(programs: Programs, folder: str) -> None:
     _, fault = run_tool(programs, path, "--link", LINK, "--at", "03:00", *copy, status=1)
     expect("guests: db: a copy of some age goes without --at and --window" in fault, fault)
     lines, _ = run_tool(programs, path, "--link", LINK, "--at", "03:00", "--at-once", "1", "--costs")
-    with open(f"{folder}/db.jsonl", "w", encoding="utf-8") as file:
-        file.write(lines)
+    write_file(lines, f"{folder}/db.jsonl")
     text, _ = run_tool(programs, f"{folder}/db.jsonl", "--link", LINK, "--at-once", "1")
     expect("1 guest;" in text, text)
 
@@ -319,23 +332,19 @@ def held_in_scripts(_: Programs, folder: str) -> None:
         own = {guest.name_of_guest: Way(guest.path, "tcp:b:4444") for guest in guests}
         environment, path = monitors.virsh_in(place, 0.2)
         steps, opens = steps_in(2)
-        script = os.path.join(place, "move")
-        with open(script, "w", encoding="utf-8") as file:
-            file.write(lines.script(kind, steps, own))
+        script = write_file(lines.script(kind, steps, own), place, "move")
         os.chmod(script, 0o700)
         done = subprocess.run([script], env=environment, capture_output=True, text=True, timeout=60)
         expect(done.returncode == 0, f"{done}")
         events = log if kind == "qmp" else monitors.events_in(path)
         expect_begun({event.guest: event.time for event in events if event.what == "begins"}, opens, 2)
-        with open(script, encoding="utf-8") as file:
-            text = file.read()
+        text = read_text(script)
         expect_stopped(script, text, steps[0].not_before, environment)
 
 
 def expect_stopped(script: str, text: str, time_of_first: int, environment: dict) -> None:
     """A script that waits for its first time begins none if it is stopped."""
-    with open(script, "w", encoding="utf-8") as file:
-        file.write(text.replace(str(time_of_first), "9999999999"))
+    write_file(text.replace(str(time_of_first), "9999999999"), script)
     process = subprocess.Popen(
         [script],
         env=environment,

@@ -14,6 +14,7 @@ from checks.lib.amount_texts import size_text, time_text
 from checks.lib.harness import cases_of, drawn, draws, expect, run
 from checks.lib.tally import expect_in_time
 from checks.lib.view_texts import keeps_schema
+from precopy_dev.files import read_bytes, read_json, read_text, write_file
 from precopy_dev.models.courses import Manner
 from precopy_dev.tree import TOP
 from precopy_tools.evacuate import costs as host_costs
@@ -130,8 +131,7 @@ def write_record(folder: str, name: str, guest: model.Guest, **changed) -> str:
         writer.append([(0, page, 0, b"\x01") for page in range(guest.pages)])
         writer.append([(at, page, 0, b"\x01") for at, page in guest.writes])
         writer.finish(12, guest.pages)
-    with open(path, "rb") as file:
-        text = file.read()
+    text = read_bytes(path)
     fields = {
         "format": samples.FORMAT,
         "trace_sha256": samples.digest(text),
@@ -154,8 +154,7 @@ def write_record(folder: str, name: str, guest: model.Guest, **changed) -> str:
         "taken_of": f"domain {name}",
         **changed,
     }
-    with open(samples.path_beside(path), "w", encoding="utf-8") as file:
-        json.dump(fields, file)
+    write_file(json.dumps(fields), samples.path_beside(path))
     return path
 
 
@@ -222,8 +221,7 @@ def expected_schedules(told: dict, groups: dict[str, int], deadline: int) -> lis
 
 
 def document_of(folder: str) -> dict:
-    with open(os.path.join(folder, "told.json"), encoding="utf-8") as file:
-        told = json.load(file)
+    told = read_json(folder, "told.json")
     keeps_schema("evacuation", told)
     return told
 
@@ -240,8 +238,10 @@ def whole_runs(programs: Programs, folder: str) -> None:
 
 def whole_run(programs: Programs, folder: str, plan: list[str]) -> None:
     records = four_guests(folder)
-    with open(f"{folder}/settings.json", "w", encoding="utf-8") as file:
-        json.dump({"apart": [["web", "cache"]], "guests": {"db": {"downtime": "200ms", "domain": "db one"}}}, file)
+    write_file(
+        json.dumps({"apart": [["web", "cache"]], "guests": {"db": {"downtime": "200ms", "domain": "db one"}}}),
+        f"{folder}/settings.json",
+    )
     text, fault = run_tool(
         programs,
         *records,
@@ -282,8 +282,7 @@ def whole_run(programs: Programs, folder: str, plan: list[str]) -> None:
     lines = [line.removesuffix(" &&") for line in text.splitlines() if line.startswith("    move ")]
     expect(len(lines) == 4 and all(line.endswith("qemu+ssh://b/system") for line in lines), f"{lines}")
     expect_picture(f"{folder}/host.svg", told)
-    with open(f"{folder}/host.svg", encoding="utf-8") as file:
-        picture = file.read()
+    picture = read_text(f"{folder}/host.svg")
     expect(("lines end rounds" in picture) == is_by_rounds, "the picture speaks of rounds, or does not")
     expect(is_by_rounds or 'class="round"' not in picture, "a plan of looks has rounds in the picture")
 
@@ -405,8 +404,7 @@ def settings(programs: Programs, folder: str) -> None:
     path = f"{folder}/settings.json"
 
     def with_settings(fields: object, status: int) -> tuple[str, str]:
-        with open(path, "w", encoding="utf-8") as file:
-            file.write(fields if isinstance(fields, str) else json.dumps(fields))
+        write_file(fields if isinstance(fields, str) else json.dumps(fields), path)
         return run_tool(
             programs, web, db, "--link", LINK, "--settings", path, "--json", f"{folder}/told.json", status=status
         )
@@ -454,8 +452,7 @@ def costs_of_other_hosts(programs: Programs, folder: str) -> None:
     table, _ = run_tool(programs, *records, *words)
     for number, some in enumerate((records[:1], records[1:])):
         lines, _ = run_tool(programs, *some, *words, "--costs")
-        with open(f"{folder}/{number}.jsonl", "w", encoding="utf-8") as file:
-            file.write(lines)
+        write_file(lines, f"{folder}/{number}.jsonl")
     files = [f"{folder}/0.jsonl", f"{folder}/1.jsonl"]
     again, _ = run_tool(programs, *files, *words)
     expect(again == table, f"{again!r} in place of {table!r}")
@@ -495,8 +492,7 @@ def damaged_lines(programs: Programs, folder: str, records: list[str], words: li
         (json.dumps({**fields, "name": 1}), "name"),
         (json.dumps({**fields, "name": "a\nb"}), "name"),
     ):
-        with open(f"{folder}/some.jsonl", "w", encoding="utf-8") as file:
-            file.write("\n".join([others[0], wrong, *others[1:], ""]))
+        write_file("\n".join([others[0], wrong, *others[1:], ""]), f"{folder}/some.jsonl")
         text, fault = run_tool(programs, f"{folder}/some.jsonl", *words, status=1)
         expect("some.jsonl: line 2 " in fault and told in fault and "3 guests" in text, f"{wrong[:80]}: {fault!r}")
 

@@ -4,11 +4,11 @@ import contextlib
 import os
 import signal
 import subprocess
-import time
 
 from checks.evacuation.cases import EVACUATE, LINK, Programs, expect, steady_guest, write_record
-from checks.lib.harness import cases_of
+from checks.lib.harness import cases_of, waited
 from checks.lib.tally import expect_in_time
+from precopy_dev.files import write_file
 
 SECONDS = 60
 # A program that plans nothing, and takes its time for that.
@@ -29,30 +29,20 @@ def processes_of(folder: str) -> list[str]:
     return found
 
 
-def waited_for(holds) -> bool:
-    """Whether it holds within a minute."""
-    end = time.monotonic() + SECONDS
-    while not (found := holds()) and time.monotonic() < end:
-        time.sleep(0.05)
-    return bool(found)
-
-
 def ended_while_it_plans(programs: Programs, folder: str) -> None:
     """Whatever ends the tool while it plans, none of its processes goes on."""
     records = [write_record(folder, f"guest{number}", steady_guest(100, 3, 1)) for number in range(9)]
-    program = os.path.join(folder, "view")
-    with open(program, "w", encoding="utf-8") as file:
-        file.write(SLOW.format(folder=folder))
+    program = write_file(SLOW.format(folder=folder), folder, "view")
     os.chmod(program, 0o700)
     command = [EVACUATE, "--program", program, "--scheduler", programs.scheduler, *records, "--link", LINK]
     for number in signal.SIGTERM, signal.SIGKILL:
         with subprocess.Popen([*command, "--jobs", "3"], stderr=subprocess.DEVNULL) as process:
-            expect_in_time(waited_for(lambda: os.path.exists(f"{folder}/begun")), "it does not begin")
+            expect_in_time(waited(lambda: os.path.exists(f"{folder}/begun"), SECONDS), "it does not begin")
             count = len(processes_of(folder))
             process.send_signal(number)
         expect_in_time(count > 3, f"only {count} processes had begun")
         os.unlink(f"{folder}/begun")
-        expect(waited_for(lambda: not processes_of(folder)), f"{number.name}: {processes_of(folder)} go on")
+        expect(waited(lambda: not processes_of(folder), SECONDS), f"{number.name}: {processes_of(folder)} go on")
 
 
 CASES = cases_of(__name__)

@@ -1,6 +1,5 @@
 """Cases of checks/evacuation: a link that is shared by those that move, as planned and as performed."""
 
-import os
 import random
 import re
 import subprocess
@@ -20,6 +19,7 @@ from checks.evacuation.cases import (
 from checks.evacuation.moving_cases import by_qmp, four_monitors, run_of, write_settings
 from checks.lib.harness import drawn
 from checks.lib.tally import expect_in_time
+from precopy_dev.files import read_text, write_file
 from precopy_tools.evacuate import costs as host_costs
 from precopy_tools.evacuate import fluid, sharing
 
@@ -152,9 +152,7 @@ def whole_fluid_runs(programs: Programs, folder: str) -> None:
 def refused_fluid_words(programs: Programs, folder: str) -> None:
     web, *_ = four_guests(folder)
     words = ["--link", LINK, "--fluid"]
-    costs = os.path.join(folder, "web.jsonl")
-    with open(costs, "w", encoding="utf-8") as file:
-        file.write("")
+    costs = write_file("", folder, "web.jsonl")
     for more, told in (
         (["--window", "22:00-06:00"], "--fluid goes without --window"),
         (["--costs", "--at-once", "1"], "--fluid goes without --costs"),
@@ -213,7 +211,7 @@ def fluid_runs(programs: Programs, folder: str) -> None:
     log, guests = four_monitors(folder, 0.6)
     guests["db"].seconds = 2.5
     words = [*records, *by_qmp(folder), "--fluid", "--json", f"{folder}/told.json"]
-    text, fault = run_of(programs, folder, *words)
+    text, fault = run_of(programs, *words)
     expect(not fault and text.count(" has moved\n") == 4, f"{fault}, {text}")
     expect(document_of(folder)["run"]["is_complete"], text)
     for name, guest in guests.items():
@@ -244,7 +242,7 @@ def silent_monitors(programs: Programs, folder: str) -> None:
     records = four_guests(folder)
     log, guests = four_monitors(folder, 0.6)
     guests["db"].seconds, guests["db"].refuses = 3.0, 2
-    text, fault = run_of(programs, folder, *records, *by_qmp(folder), "--fluid")
+    text, fault = run_of(programs, *records, *by_qmp(folder), "--fluid")
     expect(not fault and text.count(" has moved\n") == 4, f"{fault}, {text}")
     expect_in_time(guests["db"].refuses == 0 and RATE in bandwidths(guests["db"]), f"{bandwidths(guests['db'])}")
 
@@ -257,8 +255,7 @@ def fluid_runs_of_virsh(programs: Programs, folder: str) -> None:
     command = [EVACUATE, "--program", programs.view, "--scheduler", programs.scheduler, *words]
     done = subprocess.run(command, env=environment, capture_output=True, text=True, timeout=120)
     expect(done.returncode == 0 and not done.stderr, f"{done}")
-    with open(log, encoding="utf-8") as file:
-        told = re.findall(r"migrate-setspeed --domain (\S+) --bandwidth (\d+) ", file.read())
+    told = re.findall(r"migrate-setspeed --domain (\S+) --bandwidth (\d+) ", read_text(log))
     expect({int(speed) for _, speed in told} <= {21, 32, 64}, f"{told}")
     expect_in_time(("db", "64") in told, f"{told}")
 

@@ -10,6 +10,8 @@ import threading
 import time
 from typing import NamedTuple
 
+from precopy_dev.files import write_file
+
 VIRSH = """\
 #!/bin/sh
 [ "$1" = --quiet ] && shift
@@ -54,6 +56,7 @@ class Monitor(threading.Thread):
         self.path, self.name_of_guest, self.log, self.seconds = os.path.join(folder, f"{name}.qmp"), name, log, seconds
         self.fails, self.state, self.migration = how.get("fails"), how.get("state", "running"), how.get("migration")
         self.begun, self.ended, self.asked, self.parameters = 0.0, 0.0, [], []
+        self.loses = how.get("loses")  # at the command to migrate: this, its answer, or all from then on
         self.refuses = 0  # so many times it closes in place of taking parameters of a migration under way
         self.server = socket.socket(socket.AF_UNIX)
         self.server.bind(self.path)
@@ -61,7 +64,7 @@ class Monitor(threading.Thread):
         self.start()
 
     def run(self) -> None:
-        while True:
+        while self.server.fileno() >= 0:
             client, _ = self.server.accept()
             with contextlib.suppress(OSError), client, client.makefile("rw") as stream:
                 self.say(stream, {"QMP": {"version": {}}})
@@ -70,8 +73,18 @@ class Monitor(threading.Thread):
                     if self.refuses and self.begun and asked["execute"] == "migrate-set-parameters":
                         self.refuses -= 1
                         break
+                    if self.loses and asked["execute"] == "migrate":
+                        self.lose()
+                        break
                     self.say(stream, {"event": "RTC_CHANGE"})
                     self.say(stream, self.answer(asked["execute"], asked.get("arguments", {})))
+
+    def lose(self) -> None:
+        """The connection ends in place of an answer, and with `all` no other one comes."""
+        if self.loses != "command":
+            self.answer("migrate", {})
+        if self.loses == "all":
+            self.server.close()
 
     @staticmethod
     def say(stream, message: dict) -> None:
@@ -116,9 +129,7 @@ def virsh_in(folder: str, seconds: float | str, failing: tuple[str, ...] = ()) -
     it did."""
     programs, log = os.path.join(folder, "programs"), os.path.join(folder, "virsh.log")
     os.makedirs(programs, exist_ok=True)
-    path = os.path.join(programs, "virsh")
-    with open(path, "w", encoding="utf-8") as file:
-        file.write(VIRSH.format(log=shlex.quote(log), seconds=seconds, failing=" ".join(failing)))
+    path = write_file(VIRSH.format(log=shlex.quote(log), seconds=seconds, failing=" ".join(failing)), programs, "virsh")
     os.chmod(path, stat.S_IRWXU)
     if os.path.exists(log):
         os.unlink(log)

@@ -7,6 +7,7 @@ import re
 import signal
 import subprocess
 import time
+import types
 import xml.etree.ElementTree
 
 from checks.evacuation import model, monitors
@@ -22,6 +23,8 @@ from checks.evacuation.cases import (
     write_record,
 )
 from checks.lib.tally import expect_in_time
+from precopy_dev.files import read_text, write_file
+from precopy_tools.evacuate import movers, ways
 
 SECONDS, LINK = 120, "64MiB"
 NAMES = ("web", "db", "idle", "cache")
@@ -30,9 +33,7 @@ TWO = ["--link", LINK, "--at-once", "2"]
 
 def write_settings(folder: str, fields: object) -> list[str]:
     """The words for a file of settings."""
-    path = os.path.join(folder, "settings.json")
-    with open(path, "w", encoding="utf-8") as file:
-        file.write(fields if isinstance(fields, str) else json.dumps(fields))
+    path = write_file(fields if isinstance(fields, str) else json.dumps(fields), folder, "settings.json")
     return ["--settings", path]
 
 
@@ -99,9 +100,7 @@ def refused_ways(programs: Programs, records: list[str], folder: str) -> None:
 def script_of(programs: Programs, folder: str, *words: str, status: int = 0) -> str:
     """The script of --dry-run, as a file that can be run."""
     text, _ = run_tool(programs, *words, "--dry-run", status=status)
-    path = os.path.join(folder, "move")
-    with open(path, "w", encoding="utf-8") as file:
-        file.write(text)
+    path = write_file(text, folder, "move")
     os.chmod(path, 0o700)
     return path
 
@@ -138,11 +137,9 @@ def scripts_of_virsh(programs: Programs, folder: str) -> None:
     )
     expect_two_at_once(events)
     expect_order(events, ("web", "cache"))
-    with open(log, encoding="utf-8") as file:
-        expect("migrate-setmaxdowntime --domain -db one --downtime 300" in file.read(), "another limit")
+    expect("migrate-setmaxdowntime --domain -db one --downtime 300" in read_text(log), "another limit")
     text, _ = run_tool(programs, *words)
-    with open(path, encoding="utf-8") as file:
-        expect(text.endswith(file.read()), "the lines below the table are another script")
+    expect(text.endswith(read_text(path)), "the lines below the table are another script")
     environment, log = monitors.virsh_in(folder, 2, ("web", "-db one"))
     done = subprocess.run([path], env=environment, capture_output=True, text=True, timeout=SECONDS)
     begun = [event.guest for event in monitors.events_in(log) if event.what == "begins"]
@@ -176,7 +173,7 @@ def scripts_of_qmp(programs: Programs, folder: str) -> None:
     expect(done.returncode == 1 and "it has moved, or moves already" in done.stderr, f"{done}")
 
 
-def run_of(programs: Programs, folder: str, *words: str, kill=None, status: int = 0) -> tuple[str, str]:
+def run_of(programs: Programs, *words: str, kill=None, status: int = 0) -> tuple[str, str]:
     """A run of the schedule; `kill` is a signal that it gets when two guests have begun."""
     command = [EVACUATE, "--program", programs.view, "--scheduler", programs.scheduler, *words, "--run"]
     process = subprocess.Popen(command, stdout=subprocess.PIPE, stderr=subprocess.PIPE, text=True)
@@ -197,7 +194,7 @@ def runs_that_end_well(programs: Programs, folder: str) -> None:
     """All move, two at once; the report has what was beside what was planned, as text, as JSON and as a picture."""
     records, (log, guests) = four_guests(folder), four_monitors(folder)
     words = [*by_qmp(folder), "--json", f"{folder}/told.json", "--picture", f"{folder}/run.svg"]
-    text, fault = run_of(programs, folder, *records, *words)
+    text, fault = run_of(programs, *records, *words)
     expect(not fault, f"{fault}, {log}")
     expect_two_at_once(log)
     expect(text.count(" has moved\n") == 4 and "the whole" in text, text)
@@ -257,7 +254,7 @@ def runs_that_do_not(programs: Programs, folder: str) -> None:
     log, guests = four_monitors(folder, **{first: {"fails": "the destination refuses"}})
     guests[other].seconds = 4.0
     written = ["--json", f"{folder}/told.json", "--picture", f"{folder}/run.svg"]
-    text, fault = run_of(programs, folder, *records, *by_qmp(folder), *written, status=5)
+    text, fault = run_of(programs, *records, *by_qmp(folder), *written, status=5)
     begun = [event.guest for event in log if event.what == "begins"]
     expect(first in begun and set(begun) <= {first, other}, f"{log}")
     expect_in_time(other in begun, f"{log}")
@@ -276,11 +273,45 @@ def stopped_runs(programs: Programs, folder: str) -> None:
         place = os.path.join(folder, number.name)
         os.makedirs(place)
         log, guests = four_monitors(place, seconds=30)
-        text, fault = run_of(programs, folder, *records, *by_qmp(place), kill=number, status=5)
+        text, fault = run_of(programs, *records, *by_qmp(place), kill=number, status=5)
         expect(sorted(event.what for event in log) == ["begins", "begins", "cancelled", "cancelled"], f"{log}")
         expect(f"{number.name}: no other guest begins" in text, text)
         expect(fault.count("it was cancelled; it runs here") == 2 and fault.count("has not begun\n") == 2, fault)
         expect(all(guest.state == "running" for guest in guests.values()), "a guest does not run")
+
+
+def lost_answers(programs: Programs, folder: str) -> None:
+    """If the answer to `migrate` is lost, the guest is watched if it moves, runs here if it does not, and else nothing
+    is known of it."""
+    records = four_guests(folder)
+    for number, (how, state, said) in enumerate(
+        (
+            ({"loses": "answer"}, "moved", ""),
+            ({"loses": "answer", "migration": "completed"}, "moved", ""),
+            ({"loses": "answer", "fails": "no room"}, "failed", "idle has not moved: no room; it runs here"),
+            ({"loses": "command"}, "failed", "idle.qmp: the connection is closed; it runs here"),
+            ({"loses": "command", "migration": "completed"}, "failed", "the connection is closed; it runs here"),
+            ({"loses": "all"}, "lost", "nothing is known of it ("),
+        )
+    ):
+        place = os.path.join(folder, str(number))
+        os.makedirs(place)
+        log, guests = four_monitors(place, idle=how)
+        words = [*by_qmp(place), "--json", f"{folder}/told.json"]
+        _, fault = run_of(programs, *records, *words, status=0 if state == "moved" else 5)
+        told = {each["guest"]: each["state"] for each in document_of(folder)["run"]["guests"]}
+        expect(told["idle"] == state and said in fault, f"{how}: {told}, {fault}")
+        expect(state != "lost" or "it runs here" not in fault and ": look at both hosts" in fault, fault)
+        begun = [event.guest for event in log if event.what == "begins"].count("idle")
+        expect(begun == (how["loses"] != "command"), f"{how}: {log}")
+
+
+def moves_of_which_nothing_is_known(_, folder: str) -> None:
+    """Where a guest is whose migration is under way is not told as if it were not."""
+    path = monitors.Monitor(folder, "web", [], migration="active").path
+    mover = movers.QmpMover(types.SimpleNamespace(move=None), ways.Way(path))
+    where = mover.whereabouts()
+    expect(where == "its migration is active, and its state here is running: look at both hosts", where)
 
 
 def what_it_did_not_begin(programs: Programs, folder: str) -> None:
@@ -297,12 +328,12 @@ def what_it_did_not_begin(programs: Programs, folder: str) -> None:
         place = os.path.join(folder, str(number))
         os.makedirs(place)
         log, guests = four_monitors(place, idle=how)
-        _, fault = run_of(programs, folder, *records, *by_qmp(place), status=1)
+        _, fault = run_of(programs, *records, *by_qmp(place), status=1)
         expect("nothing was begun" in fault and f"idle: {place}/idle.qmp: " in fault and told in fault, fault)
         expect(not log and not any(guest.asked for guest in guests.values()), f"{log}")
     log, _ = four_monitors(folder, db={})
     words = [*by_qmp(folder), "--patience", "100ms"]
-    _, fault = run_of(programs, folder, *records, *words, status=5)
+    _, fault = run_of(programs, *records, *words, status=5)
     expect("it took more than 100 ms, and was cancelled" in fault, fault)
     for words, told, status in (
         ([*TWO, "--lines", "qmp", "--monitor", "/run/{name}"], "has no destination", 2),
@@ -310,7 +341,7 @@ def what_it_did_not_begin(programs: Programs, folder: str) -> None:
         ([*by_qmp(folder), "--deadline", "1ms"], "--force performs it", 3),
         ([*by_qmp(folder), "--dry-run"], "take one", 2),
     ):
-        _, fault = run_of(programs, folder, *records, *words, status=status)
+        _, fault = run_of(programs, *records, *words, status=status)
         expect(told in fault, f"{words}: {fault}")
 
 
@@ -360,8 +391,7 @@ def series_of_guests(programs: Programs, folder: str) -> None:
 def some_refused(programs: Programs, folder: str) -> None:
     """Beside a refused record all others are tried at once, and a wrong name in the settings is told."""
     records = four_guests(folder)
-    with open(f"{folder}/old.light.pcwt", "wb") as file:
-        file.write(b"PCWU")
+    write_file(b"PCWU", f"{folder}/old.light.pcwt")
     wrong = write_settings(folder, {"guests": {"mail": {}, "old": {}}})
     words = [*records[:3], f"{folder}/old.light.pcwt", "--link", LINK, *wrong]
     text, fault = run_tool(programs, *words, status=1)
@@ -420,6 +450,8 @@ CASES = (
     runs_that_end_well,
     runs_that_do_not,
     stopped_runs,
+    lost_answers,
+    moves_of_which_nothing_is_known,
     what_it_did_not_begin,
     runs_of_virsh,
     series_of_guests,

@@ -6,6 +6,7 @@ import shutil
 
 from checks.lib.harness import SEED, Run, cases_of, expect, run
 from checks.lib.tally import LATE
+from precopy_dev.files import write_file
 from precopy_dev.tree import TOP
 
 # Says what a case wants of a step, or that it passed; when the page is tried again, what is wanted of that.
@@ -47,8 +48,7 @@ def gate(folder: str, *words: str, **said: tuple[int, str]) -> Run:
 
 def put(path: str, text: str) -> None:
     os.makedirs(os.path.dirname(path), exist_ok=True)
-    with open(path, "w", encoding="utf-8") as file:
-        file.write(text)
+    write_file(text, path)
     os.chmod(path, 0o755)
 
 

@@ -4,6 +4,7 @@ import os
 import sys
 
 from checks.lib.harness import SEED, Run, run
+from precopy_dev.files import write_file
 from precopy_dev.tree import TOP
 
 HEAD = """\
@@ -21,15 +22,12 @@ def path_in(folder: str, name: str) -> str:
 
 def keep(folder: str, text: str) -> None:
     """Writes the draws that failed once."""
-    with open(path_in(folder, "failed_seeds.tsv"), "w", encoding="utf-8") as file:
-        file.write(text)
+    write_file(text, path_in(folder, "failed_seeds.tsv"))
 
 
 def small_check(folder: str, body: str, *words: str, seed: int | None = 7, **more: str) -> Run:
     """Runs a check with this body, which defines check(tally, given), and with more variables of the environment."""
-    path = path_in(folder, "__main__.py")
-    with open(path, "w", encoding="utf-8") as file:
-        file.write(HEAD + body + TAIL)
+    path = write_file(HEAD + body + TAIL, path_in(folder, "__main__.py"))
     environment = {**os.environ, "PYTHONPATH": f"{TOP}:{TOP}/python", SEED: str(seed), **more}
     if seed is None:
         del environment[SEED]

@@ -9,6 +9,7 @@ from checks.harness.small import small_check
 from checks.lib.harness import Run, cases_of, expect, run
 from checks.lib.tally import LATE, LeftOut, need
 from checks.recording import known_pages
+from precopy_dev.files import write_file
 from precopy_dev.tree import TOP
 
 
@@ -172,8 +173,7 @@ def without_userfaultfd(_, __):
 def of_another_tree(_, folder):
     """A check that is run in another tree takes nothing from there."""
     os.makedirs(os.path.join(folder, "checks"))
-    with open(os.path.join(folder, "checks", "__init__.py"), "w", encoding="utf-8") as file:
-        file.write('raise SystemExit("another tree")\n')
+    write_file('raise SystemExit("another tree")\n', folder, "checks", "__init__.py")
     done = run([os.path.join(TOP, "checks", "run"), "words", "--help"], cwd=folder)
     expect(done.status == 0 and done.output.startswith(b"usage: checks/run words "), f"{done}")
 
@@ -206,8 +206,7 @@ def check(tally, given):
         (0, 1, "0 passed, 1 failed", "  FAILED a_case: apt-get works, and does not install valgrind\n"),
         (100, 0, "0 passed, 0 failed, 1 skipped", "  SKIPPED a_case: there is no valgrind, and valgrind could not be"),
     ):
-        with open(path, "w", encoding="utf-8") as file:
-            file.write(NO_PACKAGES.format(status))
+        write_file(NO_PACKAGES.format(status), path)
         os.chmod(path, 0o755)
         expect_told(small_check(folder, body, PATH=folder), ends, last, told)
 

@@ -15,6 +15,7 @@ from checks.lib.harness import cases_of, expect, run_cases, run_main
 from checks.lib.tally import need
 from checks.lib.traces import Trace, header, record
 from checks.lib.worked import damaged
+from precopy_dev.files import read_bytes, write_file
 from precopy_dev.tree import TOP
 
 IMPORT, EXPORT, RELEASE = (os.path.join(TOP, "tools", name) for name in ("import", "export", "release"))
@@ -68,8 +69,7 @@ def round_trips(_, folder):
             expect(done.status == 0 and not done.output + done.faults, f"{command}: {done}")
         with open(path, "rb") as one, open(again, "rb") as other:
             expect(one.read() == other.read(), f"{path} is another trace after export and import")
-        with open(path, "rb") as file:
-            trace = file.read()
+        trace = read_bytes(path)
         through = run(["sh", "-c", '"$0" - - | "$1" - -', EXPORT, IMPORT], trace)
         expect(through.output == trace, f"{path} is another trace after a pipe: {through.faults!r}")
 
@@ -111,8 +111,10 @@ def releases(_, folder):
     expect(done.status == 0 and done.output == trace, done)
     gzip, released = (os.path.join(TOP, "examples", f"{name}.pcwt") for name in ("gzip", "released"))
     done = run([RELEASE, "--after", "100", gzip, "-"])
-    with open(released, "rb") as file:
-        expect(done.output == file.read(), "examples/released.pcwt is not made of gzip.pcwt as examples/README.md says")
+    expect(
+        done.output == read_bytes(released),
+        "examples/released.pcwt is not made of gzip.pcwt as examples/README.md says",
+    )
 
 
 def derived_shape(_, folder):
@@ -180,16 +182,14 @@ def expect_refused(folder, command, text, begin, word="", status=1):
     for before in (None, b"as it was"):
         path = os.path.join(folder, "out")
         if before is not None:
-            with open(path, "wb") as file:
-                file.write(before)
+            write_file(before, path)
         done = run([*command, path], text)
         faults = done.faults.decode()
         expect(done.status == status and not done.output, f"{text[:80]!r}: {done}")
         expect(faults.startswith(begin) and word in faults, f"{text[:80]!r}: {faults!r}")
         expect(os.listdir(folder) == (["out"] if before else []), f"{text[:80]!r} leaves {os.listdir(folder)}")
         if before:
-            with open(path, "rb") as file:
-                expect(file.read() == before, "the file that was there is another one")
+            expect(read_bytes(path) == before, "the file that was there is another one")
             os.unlink(path)
 
 
@@ -271,8 +271,7 @@ def real_lackey(program, folder):
     expect(done.status == 0, done.faults)
     with open(log, "rb") as lines:
         stores = sum(line[:3] in (b" S ", b" M ") for line in lines)
-    with open(trace, "rb") as file:
-        text = file.read()
+    text = read_bytes(trace)
     writes = len(records_of(text))
     expect(1000 < stores <= writes <= stores + stores // 10, f"{writes} writes of {stores} stores")
     for words in (["image"], ["report"]):

@@ -1,16 +1,18 @@
 """How a check runs: its words and its seed, the commands that it runs, its cases, and its last line."""
 
 import argparse
+import contextlib
 import inspect
 import itertools
 import os
 import random
+import select
 import subprocess
 import sys
 import tempfile
 import time
 import traceback
-from collections.abc import Iterable, Iterator
+from collections.abc import Callable, Iterable, Iterator
 from concurrent.futures import ThreadPoolExecutor
 from dataclasses import dataclass
 
@@ -52,6 +54,27 @@ def run(command: list[str], text: bytes = b"", seconds: float = SECONDS, **how) 
         return Run(done.returncode, done.stdout or b"", done.stderr or b"")
     except subprocess.TimeoutExpired as late:
         return Run(None, late.stdout or b"", late.stderr or b"")
+
+
+def waited(holds: Callable[[], object], seconds: float, rest: float = 0.02):
+    """Waits until something holds, for so long at most. Returns what it was last."""
+    end = time.monotonic() + seconds
+    while not (found := holds()) and time.monotonic() < end:
+        time.sleep(rest)
+    return found
+
+
+@contextlib.contextmanager
+def closed_pipe() -> Iterator[int]:
+    """A pipe to write to, whose reader is gone. A run that is being started beside this one may hold the reader for a
+    moment."""
+    reader, writer = os.pipe()
+    os.close(reader)
+    poll = select.poll()
+    poll.register(writer, 0)
+    poll.poll(1000 * SECONDS)
+    yield writer
+    os.close(writer)
 
 
 # ---- Seeds.
@@ -260,6 +283,7 @@ __all__ = [
     "Run",
     "Tally",
     "cases_of",
+    "closed_pipe",
     "drawn",
     "draws",
     "expect",
@@ -268,4 +292,5 @@ __all__ = [
     "run_cases",
     "run_main",
     "seed",
+    "waited",
 ]

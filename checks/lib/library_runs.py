@@ -16,11 +16,6 @@ def run(*command, **how):
     return subprocess.run(command, **how)
 
 
-def read(path, mode="rb"):
-    with open(os.path.join(TOP, path), mode) as file:
-        return file.read()
-
-
 def is_done(tally, done, what):
     said = (done.stdout + done.stderr).decode(errors="replace")[-1500:]
     return tally.add(done.returncode == 0, f"{what}: status {done.returncode}\n{said}")

@@ -2,8 +2,9 @@
 
 import struct
 
-from checks.lib.library_runs import read
 from checks.lib.stream_model import Guest, WrongFrame, WrongPage, first_wrong
+from precopy_dev.files import read_bytes
+from precopy_dev.tree import TOP
 
 # The guest of examples/a.pcwt is stopped at tick 2000, after three of its five writes. Then page 0 is at version 1 and
 # page 1 at version 3; pages 2 and 3 were not written.
@@ -77,7 +78,7 @@ def rows():
 
 
 def check(tally):
-    guest = Guest(read("examples/a.pcwt"))
+    guest = Guest(read_bytes(TOP, "examples/a.pcwt"))
     for streams, wanted in rows():
         found = first_wrong(guest, STOP, streams)
         tally.add(found == wanted, f"the model says {found} in place of {wanted}: {[it.hex() for it in streams]}")
@@ -85,7 +86,7 @@ def check(tally):
     tally.add(guest.writes_before(1200) == 2 and guest.writes_before(2500) == STOP, "writes before a write")
     tally.add(guest.memory_after(STOP) == ONE + NEW + ZEROS + ZEROS, "memory at the stop")
     # In examples/c.pcwt the last write releases page 1.
-    guest, last = Guest(read("examples/c.pcwt")), [(3, 4, b"\0\0\4\5" + bytes(12)), (1, 5, ZEROS)]
+    guest, last = Guest(read_bytes(TOP, "examples/c.pcwt")), [(3, 4, b"\0\0\4\5" + bytes(12)), (1, 5, ZEROS)]
     found = first_wrong(guest, 5, [stream([*RIGHT, *last])])
     tally.add(found is None, f"the model says {found} of a released page")
     found = first_wrong(guest, 5, [stream([*RIGHT, last[0], (1, 5, NEW)])])

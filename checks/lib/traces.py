@@ -5,6 +5,7 @@ import os
 import struct
 from functools import cached_property
 
+from precopy_dev.files import read_bytes
 from precopy_dev.models import redrawn
 from precopy_dev.models.courses import Record
 from precopy_dev.tree import TOP
@@ -44,8 +45,7 @@ class Trace:
 
     @classmethod
     def at(cls, path: str) -> "Trace":
-        with open(path, "rb") as file:
-            return cls(file.read(), path)
+        return cls(read_bytes(path), path)
 
     def __repr__(self):
         return os.path.basename(self.path)

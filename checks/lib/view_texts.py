@@ -1,11 +1,11 @@
 """What precopy and precopy-view write of a trace, as facts; and the documents of precopy-view against their schemas."""
 
 import json
-import os
 from fractions import Fraction
 
 from checks.lib.harness import run
 from checks.lib.tally import Failure, module
+from precopy_dev.files import read_json
 from precopy_dev.tree import TOP
 
 # A program that waits for a processor beside other work is slow, and not wrong.
@@ -87,8 +87,7 @@ def sweep_text(sweep):
 
 
 def schema_of(name):
-    with open(os.path.join(TOP, "docs", f"{name}.schema.json"), encoding="utf-8") as file:
-        return json.load(file)
+    return read_json(TOP, "docs", f"{name}.schema.json")
 
 
 def is_ordered(schema, value, whole):

@@ -7,10 +7,11 @@ import precopy
 from checks.lib import migration_model
 from checks.lib import traces as all_traces
 from checks.lib.harness import drawn
-from checks.lib.library_runs import program_says, read
+from checks.lib.library_runs import program_says
 from checks.lib.traces import EXAMPLES, Trace
 from checks.lib.view_texts import report_text, sweep_text
 from checks.library import traces
+from precopy_dev.files import read_bytes
 from precopy_dev.models import redrawn
 
 GENERATED = 500
@@ -142,7 +143,7 @@ def check_ends(case, program, name, low, high):
     for value in {low, high, low - 1, high + 1} - {-1}:
         settings = precopy.Settings(**{"min": 1, "max": 1_000_000, name: value})
         wanted = "" if low <= value <= high else f"precopy: settings S{REFUSED[name]}"
-        told = program_says(program, ["report", *options_of(settings)], read(EXAMPLES[0]))
+        told = program_says(program, ["report", *options_of(settings)], read_bytes(EXAMPLES[0]))
         found = refusal_by_library(precopy.check_settings, settings)
         expect_all(case, f"{name} {value}", wanted, program=told if isinstance(told, str) else "", library=found)
 
@@ -152,7 +153,7 @@ def check(tally, program):
     for path in EXAMPLES:
         for settings in (precopy.Settings(), few, precopy.Settings(min=2, max=4, increment=1, threshold=1, rounds=8)):
             with tally.case(f"{os.path.basename(path)} with {settings}") as case:
-                compare(case, program, read(path), settings)
+                compare(case, program, read_bytes(path), settings)
     for chosen in drawn("traces beside the program", range(GENERATED)):
         text = all_traces.generated(chosen)
         if chosen.number % 2:

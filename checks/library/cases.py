@@ -8,7 +8,7 @@ import sys
 import precopy
 from checks.lib import traces as all_traces
 from checks.lib.harness import drawn, expect
-from checks.lib.library_runs import LIBRARY, is_done, program_says, read, run
+from checks.lib.library_runs import LIBRARY, is_done, program_says, run
 from checks.lib.traces import EXAMPLES, Trace
 from checks.library import (
     beside,
@@ -24,7 +24,8 @@ from checks.library import (
     traces,
     unstamped,
 )
-from precopy_dev.tree import TOP
+from precopy_dev.files import read_bytes, write_file
+from precopy_dev.tree import TOP, read
 from precopy_tools import version
 
 WARNINGS = ["-Wall", "-Wextra", "-pedantic", "-Werror"]
@@ -46,7 +47,7 @@ def names_of(header):
 
 
 def check_form(tally):
-    header = read("include/precopy.h", "r")
+    header = read("include/precopy.h")
     declared, numbers = names_of(header)
     shared, archive = os.path.join(LIBRARY, "libprecopy.so.6"), os.path.join(LIBRARY, "libprecopy.a")
     found = run("nm", "-D", "--defined-only", "-f", "posix", shared).stdout.decode().split("\n")
@@ -68,7 +69,7 @@ def check_form(tally):
     # The contracts say the same numbers, but for two that no call answers: a failed read, and threads out of range.
     names = ("Answers", "Places", "Predictions", "Starts", "StreamChecks")
     files = ["c_layout/specs/Refusals.antt", *(f"c_answers/specs/{name}.antt" for name in names)]
-    specs = "".join(read(f"crates/{file}", "r") for file in files)
+    specs = "".join(read(f"crates/{file}") for file in files)
     told = re.findall(r"^number_of\w* .* = (\d+)$", specs, re.M)
     statuses = {number for name, number in numbers.items() if number and name not in REASONS}
     tally.add({int(it) for it in told} - {17, 29} == statuses, f"the numbers of contracts and header differ: {told}")
@@ -91,15 +92,17 @@ REASONS = {
 def check_header(tally, folder):
     """The header by itself, as several standards of C and as C++, and the words for each status."""
     for language, suffix, standards in (("c", "c", ["c99", "c11", "c17"]), ("c++", "cpp", ["c++11", "c++17"])):
-        path = os.path.join(folder, f"header.{suffix}")
-        with open(path, "w", encoding="utf-8") as file:
-            file.write('#include "precopy.h"\n' * 2 + "int main(void) { return precopy_version()[0] == 0; }\n")
+        path = write_file(
+            '#include "precopy.h"\n' * 2 + "int main(void) { return precopy_version()[0] == 0; }\n",
+            folder,
+            f"header.{suffix}",
+        )
         for standard in standards:
             words = ["-x", language, f"-std={standard}", *WARNINGS, f"-I{TOP}/include", "-fsyntax-only", path]
             done = run("cc", *words)
             tally.add(done.returncode == 0 and not done.stderr, f"precopy.h as {standard}: {done.stderr.decode()}")
     tally.add(precopy.version() == version.VERSION, f"precopy_version tells {precopy.version()}")
-    numbers = names_of(read("include/precopy.h", "r"))[1]
+    numbers = names_of(read("include/precopy.h"))[1]
     told = precopy._LIBRARY.precopy_strerror
     words = {number: told(number) for name, number in numbers.items() if name not in REASONS}
     unknown = told(1234)
@@ -177,15 +180,15 @@ def check_damage(tally, chosen):
 
 def fenced():
     """The names of the calls that have guard pages round their buffers."""
-    return re.findall(r"^\w+ __wrap_(precopy_\w+)\(", read("checks/library/fences.c", "r"), re.M)
+    return re.findall(r"^\w+ __wrap_(precopy_\w+)\(", read("checks/library/fences.c"), re.M)
 
 
 def check_fences(tally):
     """Each call of the header that is given a buffer has guard pages, and one of the programs makes it."""
-    declared = names_of(read("include/precopy.h", "r"))[0] - WITHOUT_BUFFERS
+    declared = names_of(read("include/precopy.h"))[0] - WITHOUT_BUFFERS
     differ = declared ^ set(fenced())
     tally.add(not differ, f"the header and checks/library/fences.c differ in {sorted(differ)}")
-    made = re.findall(r"\b(precopy_\w+)\(", "".join(read(f"checks/library/{name}.c", "r") for name in ROWS))
+    made = re.findall(r"\b(precopy_\w+)\(", "".join(read(f"checks/library/{name}.c") for name in ROWS))
     tally.add(declared <= set(made), f"no row makes the calls {sorted(declared - set(made))}")
 
 
@@ -225,8 +228,7 @@ def check_sanitized(tally, folder):
             shutil.copy(EXAMPLES[chosen.number], path)
         else:
             trace = all_traces.generated(chosen)
-            with open(path, "wb") as file:
-                file.write(all_traces.damaged(chosen, trace) if chosen.number % 4 == 0 else trace)
+            write_file(all_traces.damaged(chosen, trace) if chosen.number % 4 == 0 else trace, path)
         tick = str(chosen.choice([0, 5, 100, 2500]))
         for fence in FENCES:
             done = run(os.path.join(folder, "library"), path, tick, env={**os.environ, "FENCE": fence})
@@ -255,7 +257,7 @@ def check_c(tally, folder, program):
     if not all([is_compiled(tally, folder, f"examples/c/{name}.c", "-std=c99") for name in names]):
         return
     for path in EXAMPLES:
-        trace = read(path)
+        trace = read_bytes(path)
         wanted = program_says(program, ["report", "--min=500", "--max=4000", "--threshold=10"], trace)
         done = run(os.path.join(folder, "plan"), "500", "4000", "10", input=trace)
         good = done.stdout and wanted.endswith(done.stdout) and done.stdout.startswith(b"round 0 ")
@@ -265,29 +267,28 @@ def check_c(tally, folder, program):
             done = run(os.path.join(folder, "lacking"), str(tick), input=trace)
             good = (done.returncode, done.stdout.decode()) == (0, lacking(path, tick))
             tally.add(good, f"examples/c/lacking.c of {path} at {tick}: {done}")
-    done = run(os.path.join(folder, "lacking"), "0", input=read(EXAMPLES[0])[:-1])
+    done = run(os.path.join(folder, "lacking"), "0", input=read_bytes(EXAMPLES[0])[:-1])
     wanted = b"lacking: trace E8: it ends within this record\n"
     tally.add((done.returncode, done.stderr) == (1, wanted), f"lacking.c: {done}")
     done = run(os.path.join(folder, "plan"), "500", "4000", "10", input=b"none")
     wanted = b"plan: trace E1: it has fewer than the 16 bytes of a header\n"
     tally.add((done.returncode, done.stderr) == (1, wanted), f"plan.c: {done}")
-    done = run(os.path.join(folder, "plan"), "500", "4000", "10", input=read(EXAMPLES[0])[:-1])
+    done = run(os.path.join(folder, "plan"), "500", "4000", "10", input=read_bytes(EXAMPLES[0])[:-1])
     tally.add(re.search(rb"trace E8: .*, record \d+\n$", done.stderr), f"plan.c: {done}")
 
 
 def check_page(tally, folder):
     """The programs of docs/LIBRARY.md and README.md, whose output is below them, and the migration with a bug."""
-    page = read("docs/LIBRARY.md", "r")
+    page = read("docs/LIBRARY.md")
     source = re.search(r"```c\n(.*?)```", page, re.S)[1]
-    with open(os.path.join(folder, "page.c"), "w", encoding="utf-8") as file:
-        file.write(source)
+    write_file(source, folder, "page.c")
     built, words = os.path.join(folder, "page"), ["-std=c99", *WARNINGS, f"-I{TOP}/include", f"{folder}/page.c"]
     done = run("cc", *words, os.path.join(LIBRARY, "libprecopy.a"), "-o", built)
     if is_done(tally, done, "the program of docs/LIBRARY.md is compiled"):
-        done = run(built, input=read("examples/gzip.pcwt"))
+        done = run(built, input=read_bytes(TOP, "examples/gzip.pcwt"))
         tally.add(done.stdout and done.stdout.decode() in page, f"docs/LIBRARY.md does not tell what it prints: {done}")
     for name in ("docs/LIBRARY.md", "README.md"):
-        page = read(name, "r")
+        page = read(name)
         for block in re.findall(r"```python\n(.*?)```", page, re.S):
             done = run(sys.executable, "-c", block, cwd=TOP)
             shown = all(f"    {line}\n" in page for line in done.stdout.decode().splitlines())

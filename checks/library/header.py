@@ -4,8 +4,10 @@ import dataclasses
 import os
 import re
 
-from checks.lib.library_runs import LIBRARY, TOP, is_done, program_says, read, run
+from checks.lib.library_runs import LIBRARY, is_done, program_says, run
 from checks.lib.traces import EXAMPLES
+from precopy_dev.files import read_bytes, write_file
+from precopy_dev.tree import TOP, read
 from precopy_tools import version
 
 HEADER = "include/precopy.h"
@@ -37,20 +39,13 @@ MISUSES = [
 ]
 
 
-def written(folder, name, text):
-    path = os.path.join(folder, name)
-    with open(path, "w", encoding="utf-8") as file:
-        file.write(text)
-    return path
-
-
 def check_example(tally, folder):
     """The example at the head, over a trace and over none."""
-    lines = re.findall(r"^ \*     (.*)$", read(HEADER, "r").partition("What holds")[0], re.M)
-    path, built = written(folder, "head.c", AROUND.format("\n    ".join(lines))), os.path.join(folder, "head")
+    lines = re.findall(r"^ \*     (.*)$", read(HEADER).partition("What holds")[0], re.M)
+    path, built = write_file(AROUND.format("\n    ".join(lines)), folder, "head.c"), os.path.join(folder, "head")
     done = run("cc", "-std=c99", *WARNINGS, f"-I{TOP}/include", "-o", built, path, f"{LIBRARY}/libprecopy.a")
     if is_done(tally, done, "the example at the head of precopy.h is compiled"):
-        done = run(built, input=read("examples/gzip.pcwt"))
+        done = run(built, input=read_bytes(TOP, "examples/gzip.pcwt"))
         tally.add(done.stdout == b"the guest stands still for 5 ticks\n", f"the example at the head prints {done}")
         done = run(built, input=b"none")
         tally.add(done.stderr.startswith(b"trace E1: ") and not done.stdout, f"the example at the head refuses {done}")
@@ -58,14 +53,14 @@ def check_example(tally, folder):
 
 def check_version(tally):
     first, second, third = map(int, version.VERSION.split("."))
-    told = re.search(r"^#define PRECOPY_VERSION_NUMBER (\d+)$", read(HEADER, "r"), re.M)
+    told = re.search(r"^#define PRECOPY_VERSION_NUMBER (\d+)$", read(HEADER), re.M)
     good = told and int(told[1]) == first * 10_000 + second * 100 + third
     tally.add(good, f"the version of precopy.h is {told and told[1]}, and that of the tools {version.VERSION}")
 
 
 def defaults_of(name):
     """The members of a struct of the header, with the numbers that its constant of defaults gives them."""
-    header = read(HEADER, "r")
+    header = read(HEADER)
     members = re.findall(r"^    \w+ (\w+);", re.search(rf"struct precopy_{name} {{\n(.*?)\n}};", header, re.S)[1], re.M)
     constant = re.search(rf"define PRECOPY_{name.upper()}_DEFAULT\s*\\?\s*{{sizeof\([^)]*\), ([\d, ]+)}}", header)[1]
     return dict(zip(members[1:], map(int, constant.split(", ")), strict=True))
@@ -82,7 +77,7 @@ def check_defaults(tally, program):
             good = found == wanted[member] if is_there else found is None
             tally.add(good, f"in Python the {member} of {name} is {found} without a word, and {wanted} in C")
     for path in EXAMPLES:
-        trace = read(path)
+        trace = read_bytes(path)
         found, wanted = precopy.report(trace, precopy.Settings()), program_says(program, ["report"], trace)
         tally.add(found.encode() == wanted, f"in Python a report without settings is {found}, not {wanted!r:.500}")
 
@@ -95,7 +90,7 @@ def check_bound(tally, folder):
     body = "static uint8_t text[PRECOPY_REPORT_BOUND(1000)];\n    static const size_t lengths[] = {%s};\n    "
     body += 'for (size_t i = 0; i < %d; i++)\n        printf("%%zu\\n", PRECOPY_REPORT_BOUND(lengths[i]));\n    '
     body += "return fread(trace, 1, trace_length, stdin) || sizeof text != PRECOPY_REPORT_BOUND((size_t)1000);"
-    path = written(folder, "bound.c", AROUND.format(body % (", ".join(map(str, lengths)), len(lengths))))
+    path = write_file(AROUND.format(body % (", ".join(map(str, lengths)), len(lengths))), folder, "bound.c")
     built = os.path.join(folder, "bound")
     done = run("cc", "-std=c99", *WARNINGS, f"-I{TOP}/include", "-o", built, path, f"{LIBRARY}/libprecopy.a")
     if is_done(tally, done, "the bound of a report's length is compiled"):
@@ -109,7 +104,7 @@ def check_warnings(tally, folder):
     """A compiler tells of an answer that nobody looks at, and of a null where none may be."""
     for language, suffix in (("c", "c"), ("c++", "cpp")):
         for body, wanted in MISUSES:
-            path = written(folder, f"misuse.{suffix}", CALL.format(body))
+            path = write_file(CALL.format(body), folder, f"misuse.{suffix}")
             words = ["-x", language, "-O1", *WARNINGS, f"-I{TOP}/include", "-c", "-o", os.devnull, path]
             done = run("cc", *words)
             good = wanted in done.stderr and done.returncode if wanted else done.returncode == 0

@@ -4,8 +4,10 @@ import os
 import shutil
 import sys
 
-from checks.lib.library_runs import TOP, is_done, read, run
+from checks.lib.library_runs import is_done, run
 from checks.lib.tally import left_out, why_not
+from precopy_dev.files import read_bytes, read_text, write_file
+from precopy_dev.tree import TOP
 from precopy_tools import version
 
 # What of the sources an installation of the library needs besides what is built: no program, and no crate.
@@ -32,7 +34,7 @@ def link_and_run(tally, folder, prefix):
     built = os.path.join(folder, "installed")
     done = run("cc", "-std=c99", f"{TOP}/examples/c/plan.c", "-o", built, *flags)
     if is_done(tally, done, "examples/c/plan.c is compiled with what is installed"):
-        trace, environment = read("examples/a.pcwt"), {**os.environ, "LD_LIBRARY_PATH": library}
+        trace, environment = read_bytes(TOP, "examples/a.pcwt"), {**os.environ, "LD_LIBRARY_PATH": library}
         done = run(built, "2", "4", "1", input=trace, env=environment)
         tally.add(done.stdout.startswith(b"round 0 from 0 to 2000 rate 2"), f"plan.c with what is installed: {done}")
 
@@ -49,8 +51,7 @@ def build_crate(tally, folder, prefix):
         ("Cargo.toml", f'{manifest}precopy = {{ path = "{prefix}/share/precopy/rust" }}\n'),
         ("src/main.rs", 'fn main() {\n    println!("{}", precopy::version());\n}\n'),
     ):
-        with open(os.path.join(source, path), "w", encoding="utf-8") as file:
-            file.write(text)
+        write_file(text, source, path)
     environment = {name: it for name, it in os.environ.items() if name != "PRECOPY_LIBRARY_DIR"}
     done = run("cargo", "run", "--offline", "--quiet", cwd=source, env=environment)
     tally.add(done.stdout.decode() == f"{version.VERSION}\n", f"a program over the installed crate: {done}")
@@ -70,8 +71,10 @@ def check_library_alone(tally, folder):
     folders = ("usr/share/precopy/rust/", "usr/lib/precopy/installed-library")
     others = [path for path in found if path not in wanted and not path.startswith(folders)]
     tally.add(wanted <= set(found) and not others, f"install-lib installs {others}, and lacks {wanted - set(found)}")
-    with open(f"{prefix}/lib/pkgconfig/precopy.pc", encoding="utf-8") as file:
-        tally.add("\nlibdir=/usr/lib\n" in file.read(), "precopy.pc names the folders below DESTDIR")
+    tally.add(
+        "\nlibdir=/usr/lib\n" in read_text(f"{prefix}/lib/pkgconfig/precopy.pc"),
+        "precopy.pc names the folders below DESTDIR",
+    )
     tally.add(is_done(tally, run(*words), "install-lib again") and files_below(root) == found, "install-lib again")
     build_crate(tally, folder, prefix)
     take_away = words[0], "uninstall-lib", *words[2:]

@@ -5,17 +5,10 @@ import precopy
 from checks.lib import stream_model
 from checks.lib.harness import drawn
 from checks.lib.traces import generated
+from checks.library.open_traces import status_of
 
 TRACES = 150
 NO_PAGE, BACKWARDS = 67, 68
-
-
-def status_of(call, *words):
-    """The status with which a call refuses, or what it returns."""
-    try:
-        return call(*words)
-    except precopy.Refused as refused:
-        return refused.status
 
 
 def check_page(tally, opened, guest, number):

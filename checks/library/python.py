@@ -7,7 +7,6 @@ import mmap
 import os
 import pickle
 import shutil
-import subprocess
 import sys
 import tempfile
 import time
@@ -16,13 +15,13 @@ import tracemalloc
 import precopy
 from checks.lib import traces as all_traces
 from checks.lib.harness import drawn
+from checks.lib.library_runs import run
 from checks.lib.tally import LeftOut, is_installed, tools
 from checks.lib.traces import header, record
 from checks.library import python_edges, traces
 from precopy_dev.tree import TOP
 
 LIBRARY = os.path.join(TOP, "out", "library", "libprecopy.so.6")
-SECONDS = 300
 HOSTILE = [-1, 1 << 31, 1 << 32, (1 << 32) + 1, (1 << 32) + 4, 1 << 63, 1 << 64, (1 << 64) + 1, 10**5000]
 HOSTILE += [-(1 << 31), -(1 << 32), -(1 << 63), -(1 << 64), -(10**30)]
 OPTIONAL = ("base", "first", "increment of a question", "best_start, to", "best_start, every")
@@ -386,10 +385,6 @@ def check_turns(tally, name, act, data):
 
 
 # ---- pip.
-
-
-def run(*command, **how):
-    return subprocess.run(command, stdin=subprocess.DEVNULL, capture_output=True, timeout=SECONDS, check=False, **how)
 
 
 def check_pip(tally, folder):

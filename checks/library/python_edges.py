@@ -15,11 +15,13 @@ import precopy
 from checks.lib import stream_rows
 from checks.lib import traces as all_traces
 from checks.lib.harness import drawn
-from checks.lib.library_runs import LIBRARY, TOP, read
+from checks.lib.library_runs import LIBRARY
 from checks.lib.stream_rows import NEW, RIGHT, STOP, frame
 from checks.lib.tally import LeftOut, is_installed, tools
 from checks.lib.traces import header
 from checks.library import traces
+from precopy_dev.files import read_bytes
+from precopy_dev.tree import TOP, read
 
 SECONDS = 300
 SYSTEM = "/usr/bin/python3"
@@ -151,7 +153,7 @@ def check_forked(tally):
 
 
 def fresh():
-    return precopy.OpenTrace(read("examples/a.pcwt")).check(STOP)
+    return precopy.OpenTrace(read_bytes(TOP, "examples/a.pcwt")).check(STOP)
 
 
 def check_cut(tally):
@@ -228,7 +230,7 @@ def check_copies(tally):
 
 def check_statuses(tally):
     """They are an enumeration, with the numbers of the header, and of a number that is not there they know that."""
-    numbers = dict(re.findall(r"\bPRECOPY_(\w+) = (\d+)", read("include/precopy.h", "r")))
+    numbers = dict(re.findall(r"\bPRECOPY_(\w+) = (\d+)", read("include/precopy.h")))
     reasons = ("FEW", "FAST", "ALL_ROUNDS", "ALL_LOOKS", "CUT", "LEVEL", "FEW_LEFT", "TRACE_ENDS", "NOT_BEGUN")
     for it in ("OK", "YES", "NO", "UNKNOWN", "UNCERTAIN", *reasons):
         del numbers[it]

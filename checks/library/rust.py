@@ -10,13 +10,15 @@ import precopy
 from checks.lib import migration_model, stream_model, stream_rows
 from checks.lib import traces as all_traces
 from checks.lib.harness import drawn
-from checks.lib.library_runs import LIBRARY, TOP, is_done, program_says, read, run
+from checks.lib.library_runs import LIBRARY, is_done, program_says, run
 from checks.lib.migration_model import Cost, Question, answer_of, sweep_of
 from checks.lib.tally import left_out, why_not
 from checks.lib.traces import EXAMPLES, Trace
 from checks.lib.view_texts import report_text
 from checks.library import beside, traces
+from precopy_dev.files import read_bytes, write_file
 from precopy_dev.models import redrawn
+from precopy_dev.tree import TOP, read
 
 HEADER, CRATE = "include/precopy.h", "bindings/rust"
 BAD_ROUNDS = 25
@@ -39,8 +41,7 @@ def received(tally, folder, path, trace, chosen):
             texts.append(precopy.encode_frame(sizes, page, stamp, content))
     chosen.shuffle(texts)
     for number, name in enumerate(paths):
-        with open(name, "wb") as file:
-            file.write(b"".join(texts[number::3]))
+        write_file(b"".join(texts[number::3]), name)
     words = [str(sizes.shift), str(sizes.pages), str(sizes.writes)]
     done = run(os.path.join(folder, "receiver"), *words, *paths)
     tally.add(done.stdout == precopy.memory(trace), f"examples/c/receiver.c of {path}: {done.stderr!r}")
@@ -52,22 +53,22 @@ def received(tally, folder, path, trace, chosen):
 
 def check_statuses(tally):
     """The numbers of the crate's statuses are those of the header."""
-    header = dict(re.findall(r"\bPRECOPY_(\w+) = (\d+)", read(HEADER, "r")))
+    header = dict(re.findall(r"\bPRECOPY_(\w+) = (\d+)", read(HEADER)))
     others = {"OK", "FEW", "FAST", "ALL_ROUNDS", "YES", "NO", "UNKNOWN", "UNCERTAIN"}
     others |= {"ALL_LOOKS", "CUT", "LEVEL", "FEW_LEFT", "TRACE_ENDS", "NOT_BEGUN"}
     header = {name.title().replace("_", ""): number for name, number in header.items() if name not in others}
-    source = read(f"{CRATE}/src/status.rs", "r")
+    source = read(f"{CRATE}/src/status.rs")
     crate = dict(re.findall(r"^    (\w+) = (\d+),$", source, re.M))
     differ = header.items() ^ crate.items()
     tally.add(not differ and len(crate) > 30, f"statuses of header and crate differ: {differ}")
     differ = header.items() ^ {(name, number) for number, name in re.findall(r"(\d+) => Status::(\w+),", source)}
     tally.add(not differ, f"the crate makes other statuses of the numbers: {differ}")
-    told = [re.sub(r"\W+", " ", read(path, "r")) for path in (HEADER, f"{CRATE}/src/flat.rs")]
+    told = [re.sub(r"\W+", " ", read(path)) for path in (HEADER, f"{CRATE}/src/flat.rs")]
     tally.add(all("mean nothing" in it for it in told), "header and crate differ about pages that did not come")
     tally.add("#[non_exhaustive]\n#[repr(u32)]\npub enum Status" in source, "statuses are not said to become more")
-    declared = set(re.findall(r"\b(precopy_\w+)\(", re.sub(r"/\*.*?\*/", "", read(HEADER, "r"), flags=re.S)))
+    declared = set(re.findall(r"\b(precopy_\w+)\(", re.sub(r"/\*.*?\*/", "", read(HEADER), flags=re.S)))
     sources = [it for it in os.listdir(os.path.join(TOP, CRATE, "src")) if it != "calls.rs"]
-    called = set(re.findall(r"\bcalls::(precopy_\w+)", "".join(read(f"{CRATE}/src/{it}", "r") for it in sources)))
+    called = set(re.findall(r"\bcalls::(precopy_\w+)", "".join(read(f"{CRATE}/src/{it}") for it in sources)))
     tally.add(declared == called, f"the crate does not have the calls {sorted(declared ^ called)}")
 
 
@@ -239,7 +240,7 @@ def check_example(tally, folder, source, target, environment, program):
         return
     built = os.path.join(target, "debug", "precopy-example")
     for path in EXAMPLES:
-        trace = read(path)
+        trace = read_bytes(path)
         done = run(built, input=trace)
         tally.add(done.stdout == program_says(program, ["report"], trace), f"examples/rust of {path}: {done.stderr!r}")
         done = run(built, "memory", "2000", input=trace)
@@ -272,8 +273,10 @@ def check_forms(tally, folder, source, target, environment):
     command = ("cargo", "build", "--offline", "--quiet")
     done = run(*command, cwd=source, env={**environment, "PRECOPY_LIBRARY_DIR": shared})
     if is_done(tally, done, "examples/rust is built over the shared library"):
-        done = run(built, "memory", "2000", input=read(EXAMPLES[0]), env={**os.environ, "LD_LIBRARY_PATH": shared})
-        wanted = Trace(read(EXAMPLES[0])).memory(2000)
+        done = run(
+            built, "memory", "2000", input=read_bytes(EXAMPLES[0]), env={**os.environ, "LD_LIBRARY_PATH": shared}
+        )
+        wanted = Trace(read_bytes(EXAMPLES[0])).memory(2000)
         tally.add(needs_library(built) and done.stdout == wanted, f"examples/rust over the shared library: {done}")
     done = run(*command, cwd=source, env={**environment, "PRECOPY_LIBRARY_DIR": empty})
     good = done.returncode and b"PRECOPY_LIBRARY_DIR has neither libprecopy.a nor libprecopy.so" in done.stderr

@@ -13,6 +13,7 @@ from checks.lib.migration_model import STATUSES, Cost
 from checks.lib.traces import Trace, generated
 from checks.lib.view_texts import parsed, ran
 from checks.predictions.questions import random_question
+from precopy_dev.files import write_file
 from precopy_dev.models.courses import Course
 
 TRIES, SELDOM = 1500, 20
@@ -107,8 +108,7 @@ def check(tally, folder, view):
     path, kinds = os.path.join(folder, "starts.pcwt"), collections.Counter()
     for chosen in drawn("starts", range(TRIES)):
         text = generated(chosen)
-        with open(path, "wb") as file:
-            file.write(text)
+        write_file(text, path)
         trace = Trace(text)
         asked = question(chosen, trace)
         with tally.case(str(chosen)) as case:

@@ -10,9 +10,12 @@ import time
 import precopy
 from checks.lib import stream_model, stream_rows
 from checks.lib.harness import drawn
-from checks.lib.library_runs import TOP, run
+from checks.lib.library_runs import run
 from checks.lib.stream_rows import frame
 from checks.lib.traces import generated, header, record
+from precopy_dev.files import write_file
+from precopy_dev.tree import TOP
+from precopy_tools import check as tool
 
 TRIALS = 2000
 HEAD = 9
@@ -182,8 +185,7 @@ def told_by_tool(folder, streams, *words):
     """The status of tools/check over the streams of the guest of examples/a.pcwt, and what it prints."""
     paths = [os.path.join(folder, f"stream{number}") for number in range(len(streams))]
     for path, stream in zip(paths, streams):
-        with open(path, "wb") as file:
-            file.write(stream)
+        write_file(stream, path)
     done = run(f"{TOP}/tools/check", f"{TOP}/examples/a.pcwt", *paths, *words)
     return done.returncode, (done.stdout + done.stderr).decode()
 
@@ -193,6 +195,9 @@ def check_tool(tally, folder):
     late = frame(1, 2, stream_rows.OLD)
     older = "page 1 at 2 for 3, a frame of the page with a greater stamp came before in the stream"
     lacks = "page 1 at 3 for 5, a page is not at its version at the stop; it lacks write 5, at tick 2500"
+    # A stream of more than two pieces that are read at once, within frames of which they end.
+    count = tool.PIECE // 10
+    long = right + stream_rows.stream(stream_rows.RIGHT[-1:] * (count - len(stream_rows.RIGHT)))
     rows = [
         ([right], ["--tick", "2000"], 0, "all is right at the stop, after 3 of 5 writes\n"),
         ([right, late], ["--after", "3"], 0, "all is right at the stop, after 3 of 5 writes\n"),
@@ -200,6 +205,9 @@ def check_tool(tally, folder):
         ([right[:-1]], ["--after", "3"], 3, "stream 0, frame 4, byte 68: frame F1: a frame is cut off\n"),
         ([right], [], 3, f"at the stop: {lacks}\n"),
         ([right], ["--after", "9"], 3, f"at the stop: {lacks}\n"),
+        ([long], ["--after", "3"], 0, "all is right at the stop, after 3 of 5 writes\n"),
+        ([long + late, late[:-1]], ["--after", "3"], 3, f"stream 0, frame {count}, byte {len(long)}: {older}\n"),
+        ([long, late[:-1]], ["--after", "3"], 3, "stream 1, frame 0, byte 0: frame F1: a frame is cut off\n"),
     ]
     for streams, words, status, text in rows:
         found = told_by_tool(folder, streams, *words)
@@ -209,6 +217,10 @@ def check_tool(tally, folder):
         tally.add(found[0] == status, f"tools/check {' '.join(words)} has status {found}")
     done = run(f"{TOP}/tools/check", f"{TOP}/README.md", f"{TOP}/README.md")
     tally.add(done.returncode == 1 and b"trace E2" in done.stderr, f"tools/check of no trace: {done}")
+    done = run(
+        "sh", "-c", 'ulimit -v 4000000 && exec "$@"', "sh", f"{TOP}/tools/check", "/dev/zero", f"{TOP}/README.md"
+    )
+    tally.add(done.returncode == 1 and b"trace E15" in done.stderr, f"tools/check of a trace without end: {done}")
     environment = {**os.environ, "PRECOPY_LIBRARY": "/there/is/none"}
     done = run(f"{TOP}/tools/check", f"{TOP}/examples/a.pcwt", "none", env=environment)
     tally.add(done.returncode == 2 and b"is not there" in done.stderr, f"tools/check without the library: {done}")

@@ -35,7 +35,7 @@ from dataclasses import replace
 from checks.lib.harness import drawn, run_main
 from checks.lib.tally import drawn_from, has, left_out
 from checks.lib.traces import Trace
-from checks.lib.view_texts import TOP, Failure
+from checks.lib.view_texts import Failure
 from checks.lib.worked import damaged
 from checks.page import addresses, cases, enough, forecasts, loads
 from checks.page import looks as page_looks
@@ -47,7 +47,9 @@ from checks.page.shown import COLLECTOR, Page, tried
 from checks.page.starts import VIEW, check_looked_starts, check_starts, has_view
 from checks.view.quantity_cases import amounts, quantities, texts_of
 from precopy_dev import join_page
+from precopy_dev.files import write_file
 from precopy_dev.packaging import notices
+from precopy_dev.tree import TOP
 from precopy_tools.refusals import Refused
 
 MOST_MODULE, MOST_PAGE = 65_536, 400_000
@@ -230,8 +232,7 @@ def check_damages(tally, page, folder):
     page.load(cases.example("guests/mid.light.pcwt"))
     before = page.shown()
     for text, name in damaged():
-        with open(path, "wb") as file:
-            file.write(text)
+        write_file(text, path)
         said = page.load(path)
         sentence = said.partition(f"damaged.pcwt is refused: {name} ")[2]
         tally.add(
@@ -247,8 +248,7 @@ def check_no_memory(page):
         "E17": "Blob.prototype.stream = () => { throw new Error('gone'); };",
     }
     for name, code in codes.items():
-        page.open()
-        page.wait_for_plan()
+        page.open_planned()
         # The next worker begins with this.
         page.browser.value(
             f"""(() => {{
@@ -306,8 +306,7 @@ def all_uses(tally, page, folder, precopy, only):
         "loads": lambda: loads.check_loads(tally, page, folder),
         "silence": lambda: page_looks.check_silence(tally, page),
     }
-    page.open()
-    page.wait_for_plan()
+    page.open_planned()
     for name, act in parts.items():
         if not only or name in only:
             timed(name, act)

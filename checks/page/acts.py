@@ -3,7 +3,9 @@
 import json
 
 from checks.page.browser import SECONDS
+from checks.page.cases import example
 from checks.view.limit_cases import RATES
+from precopy_dev.files import read_bytes
 
 PLAIN = {
     "trace": "sqlite",
@@ -19,9 +21,14 @@ PLAIN = {
 }
 
 
-def read(path):
-    with open(path, "rb") as file:
-        return file.read()
+def example_named(name, example_of):
+    """An example as a file of another name, to be dropped."""
+    return name, read_bytes(example(example_of))
+
+
+def guest_with_record(name):
+    """The example of SQLite and its record, as files of another name."""
+    return [example_named(f"{name}.{kind}", f"guests/sqlite.light.{kind}") for kind in ("pcwt", "json")]
 
 
 def asked(page, **more):
@@ -38,7 +45,7 @@ def typed(page, name, text):
 
 
 def plan_starts(page, seconds=SECONDS):
-    page.browser.value("document.getElementById('ask').click()")
+    page.click("ask")
     done = "!document.getElementById('starts-answer').hidden && document.getElementById('starts-progress').hidden"
     page.browser.wait(done, seconds)
 

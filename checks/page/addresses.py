@@ -57,13 +57,12 @@ def check_address(page, number, address):
         shown = page.ask(f"trace=gzip&{address}")
     expect(shown["refused"] or (shown["rounds"] and not shown["stale"]), f"neither a plan nor a refusal: {shown}")
     expect(not shown["refused"] or shown["fault"], f"{shown['refused']} is refused without a word at its control")
-    page.browser.value("document.getElementById('keep').click()")
+    page.click("keep")
     faults = page.browser.value("atRest().then(() => faults)")
     expect(not faults, f"the page's code fails: {faults}")
 
 
 def check_addresses(tally, page, tried):
-    page.open("#trace=gzip")
-    page.wait_for_plan()
+    page.open_planned("#trace=gzip")
     for number, address in enumerate(hostile_addresses()):
         tried(tally, f"the address #{urllib.parse.unquote(address)[:60]!r}", check_address, page, number, address)

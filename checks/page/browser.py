@@ -11,10 +11,9 @@ import tempfile
 import time
 
 from checks.lib.tally import Late
+from precopy_dev.files import read_text, write_file
 
 SECONDS = 60
-# Memory that is free goes back to the system some seconds later. Readings differ by less than a grain if none goes.
-SECONDS_TO_SETTLE, GRAIN = 12, 1 << 20
 WIDER_THAN_PHONES = 560
 WORDS = [
     "--headless=new",
@@ -99,8 +98,7 @@ class Driven:
         return [line for line in lines if line is not None]
 
     def keep_picture(self, path, found):
-        with open(path, "wb") as file:
-            file.write(base64.b64decode(found["data"]))
+        write_file(base64.b64decode(found["data"]), path)
 
 
 class Browser(Driven):
@@ -229,32 +227,6 @@ class Browser(Driven):
             raise BrowserError("the browser tells no task of a page")
         return max(tasks) / 1_000
 
-    def collect_garbage(self):
-        """Collects what the page has let go, and what each of its workers has: a worker does so by itself only when it
-        has much more."""
-        self.call("HeapProfiler.collectGarbage")
-        page, words = self.session, {"waitForDebuggerOnStart": False, "flatten": True}
-        self.call("Target.setAutoAttach", autoAttach=True, **words)
-        attached = [event["params"] for event in self.events if event["method"] == "Target.attachedToTarget"]
-        for worker in attached:
-            self.session = worker["sessionId"]
-            try:
-                self.call("HeapProfiler.collectGarbage")
-            finally:
-                self.session = page
-        self.call("Target.setAutoAttach", autoAttach=False, **words)
-        self.events = [event for event in self.events if not event["method"].startswith("Target.")]
-
-    def kept_memory(self):
-        """How much memory the browser has, in bytes, once it has collected its garbage and gives none of it back any
-        more."""
-        self.collect_garbage()
-        found, until = [self.memory()], time.monotonic() + SECONDS_TO_SETTLE
-        while time.monotonic() < until and not (len(found) > 2 and min(found[-3:]) >= found[-3] - GRAIN):
-            time.sleep(0.5)
-            found.append(self.memory())
-        return min(found)
-
     def memory(self):
         """How much memory the browser's processes have, in bytes. What they share counts once."""
         size, numbers = 0, [self.process.pid]
@@ -262,8 +234,7 @@ class Browser(Driven):
             folder = f"/proc/{numbers.pop()}"
             with contextlib.suppress(OSError):
                 for thread in os.listdir(f"{folder}/task"):
-                    with open(f"{folder}/task/{thread}/children", encoding="ascii") as file:
-                        numbers += file.read().split()
+                    numbers += read_text(f"{folder}/task/{thread}/children").split()
                 with open(f"{folder}/smaps_rollup", encoding="ascii") as lines:
                     size += sum(int(line.split()[1]) << 10 for line in lines if line.startswith("Pss:"))
         return size

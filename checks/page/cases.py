@@ -10,12 +10,14 @@ from checks.lib.amount_texts import error_text, moment_text, size_text, time_tex
 from checks.lib.harness import drawn
 from checks.lib.host_words import host_lines, is_command, sentence_of
 from checks.lib.migration_model import Question, case_word, live_line, options_of, report_of
-from checks.lib.view_texts import TOP, Failure, parsed, ran, report_facts, sweep_facts, told
+from checks.lib.view_texts import Failure, parsed, ran, report_facts, sweep_facts, told
 from checks.page import shapes, sure
 from checks.page.tables import round_texts, window_texts
 from checks.view.limit_cases import RATES, Known
+from precopy_dev.files import write_file
 from precopy_dev.models import courses, looks, redrawn
 from precopy_dev.models.courses import Manner
+from precopy_dev.tree import TOP
 
 TRACES = ["a.pcwt", "gzip.pcwt", "released.pcwt", "guests/mid.light.pcwt", "guests/sqlite.light.pcwt"]
 SHAPES, SETTINGS, NEAR = 15, 20, 8
@@ -350,11 +352,7 @@ def comparison(asked, report, document, verdicts):
     return {
         "downtime": [
             time_text(found["down"]),
-            more(
-                error_text(down),
-                verdicts.answer("kept"),
-                *ticks(f"{plural(stop['down'], 'tick')} for pages"),
-            ),
+            more(error_text(down), verdicts.answer("kept"), *ticks(f"{plural(stop['down'], 'tick')} for pages")),
         ],
         "time": [
             time_text(found["time"]),
@@ -470,7 +468,6 @@ def tries(folder):
     for draw in drawn("settings over a shape", range(SHAPES)):
         is_corner = draw.number < len(corners)
         path, text = os.path.join(folder, f"shape-{draw.number}.pcwt"), corners[draw.number] if is_corner else None
-        with open(path, "wb") as file:
-            file.write(text or shapes.fit_shape(draw, shapes.has_write))
+        write_file(text or shapes.fit_shape(draw, shapes.has_write), path)
         known = Known(path)
         yield known, [Asked(draw, known) for _ in range(SETTINGS)]

@@ -3,8 +3,7 @@
 import re
 
 from checks.lib.tally import expect
-from checks.page.acts import read, typed
-from checks.page.cases import example
+from checks.page.acts import guest_with_record, typed
 
 MOST_WORDS, FIRST_PICTURE, LEAST_LINE = 120, 500, 24
 
@@ -38,9 +37,8 @@ FIRST = """(() => {
 def check_own_trace(page):
     """A trace of one's own is answered in few words, too."""
     page.browser.dress(1280, 900)
-    page.open()
-    page.wait_for_plan()
-    page.drop(*((f"own.{kind}", read(example(f"guests/sqlite.light.{kind}"))) for kind in ("pcwt", "json")))
+    page.open_planned()
+    page.drop(*guest_with_record("own"))
     page.rest()
     words = page.browser.value(WORDS)
     page.browser.dress(1400, 900)
@@ -60,8 +58,7 @@ def check_missed(page):
     """A plan that misses its limit, or may, or ends after its trace, is answered in few words, with what is enough."""
     for fragment, enough in MISSED:
         page.browser.dress(1280, 900)
-        page.open(f"#{fragment}")
-        page.wait_for_plan()
+        page.open_planned(f"#{fragment}")
         page.rest()
         words, (top, _, _, line) = page.browser.value(WORDS), page.browser.value(FIRST)
         page.browser.dress(1400, 900)
@@ -77,8 +74,7 @@ def check_first_look(page):
     """Above the fold stand the trace, one large line with the verdict, the bar of the limit with the error, and the
     rounds; in few words."""
     page.browser.dress(1280, 900)
-    page.open()
-    page.wait_for_plan()
+    page.open_planned()
     page.rest()
     words, (top, is_whole, size, line) = page.browser.value(WORDS), page.browser.value(FIRST)
     bar = page.browser.value(
@@ -97,8 +93,7 @@ def check_first_look(page):
 def check_past(page):
     """Undo and redo are buttons, over all that the user has changed."""
     page.browser.forget_pages()
-    page.open("#trace=sqlite&link=1Gbit&rounds=30")
-    page.wait_for_plan()
+    page.open_planned("#trace=sqlite&link=1Gbit&rounds=30")
     page.browser.wait("location.hash.includes('window=')", 5)
     states = "['undo', 'redo'].map((id) => document.getElementById(id).getAttribute('aria-disabled'))"
     expect(page.browser.value(states) == ["true", "true"], f"at first {page.browser.value(states)}")
@@ -117,8 +112,8 @@ def check_past(page):
         expect(page.browser.value(states) == disabled, f"after {button}: {page.browser.value(states)}")
         expect(page.browser.value("document.activeElement.id") == button, f"{button} has lost the focus")
     typed(page, "rounds", "9")
-    page.after("document.getElementById('undo').click()")
+    page.clicked("undo")
     expect(page.browser.value(value) == "8", "a change that was not settled yet cannot be undone")
     page.after("location.hash = location.hash.replace('rounds=8&', 'rounds=12&')")
-    page.after("document.getElementById('undo').click()")
+    page.clicked("undo")
     expect(page.browser.value(value) == "8", "an address that the user wrote cannot be undone")

@@ -66,21 +66,13 @@ def check_focus(page):
         pressed(page, f"[data-takes={taken}]")
         require_focus(page, wanted, f"Take it, of the {taken}")
     asked(page, link="64MiB", first="50", downtime="300ms")
-    page.after("document.getElementById('keep').click()")
+    page.clicked("keep")
     pressed(page, "[data-drops='0']")
     require_focus(page, "keep", "the drop of the only kept plan")
     typed(page, "rounds", "99")
     pressed(page, "#fit")
     require_focus(page, "outcome", "Fit all")
-    page.after(
-        """
-      const plot = document.getElementById("windows-plot");
-      plot.focus();
-      for (const key of ["End", "Enter"]) {
-        plot.dispatchEvent(new KeyboardEvent("keydown", { key, bubbles: true }));
-      }
-    """
-    )
+    page.press_in("windows-plot", "End", "Enter")
     pressed(page, "#undo-start")
     require_focus(page, "windows-plot", "Undo")
     for button, plot, act in WAYS_BACK:
@@ -98,7 +90,7 @@ def check_focus(page):
 def check_commands(page):
     """A key with Ctrl is the browser's: it zooms the page, and no picture with it."""
     asked(page)
-    page.browser.value("document.getElementById('zoom-out').click()")
+    page.click("zoom-out")
     page.rest()
     sent = page.browser.value(
         """["rounds-plot-this", "windows-plot", "map-plot", "links-plot"].flatMap((id) =>
@@ -116,10 +108,9 @@ def check_commands(page):
 def check_fingers(page):
     """On a phone nothing that is pressed is too small for a finger."""
     page.browser.dress(390, 900)
-    page.open("#trace=sqlite&link=64MiB&first=50&window=500&start=1000")
-    page.wait_for_plan()
+    page.open_planned("#trace=sqlite&link=64MiB&first=50&window=500&start=1000")
     page.browser.value("unfold()")
-    page.after("document.getElementById('keep').click()")
+    page.clicked("keep")
     page.enough()
     small = page.browser.value(SMALL.replace("BOUND", str(LEAST_PRESSED)))
     page.browser.dress(1400, 900)

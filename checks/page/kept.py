@@ -3,27 +3,26 @@
 from checks.lib.amount_texts import time_text
 from checks.lib.host_words import LONGEST_MILLIS, host_lines, sentence_of
 from checks.lib.tally import expect
-from checks.page.acts import asked, read, typed
-from checks.page.cases import example
+from checks.page.acts import asked, example_named, typed
 
 
 def check_comparison(page):
     """Of two kept plans each is compared; better and worse are marked, and one can be exchanged and dropped."""
     asked(page, link="5Gbit", downtime="20ms")
     page.browser.value("unfold()")
-    page.after("document.getElementById('keep').click()")
+    page.clicked("keep")
     page.rest()
-    asked_rounds(page, "2")
+    typed(page, "rounds", "2")
     page.rest()
     first = page.shown()
-    page.after("document.getElementById('keep').click()")
+    page.clicked("keep")
     page.rest()
-    asked_rounds(page, "1")
+    typed(page, "rounds", "1")
     page.rest()
     heads = "[...document.querySelectorAll('#comparison thead th')].map((cell) => cell.firstChild.textContent.trim())"
     expect(page.browser.value(heads) == ["This plan", "Kept plan 1", "Kept plan 2"], page.browser.value(heads))
     marks = page.browser.value(
-        "['better', 'worse'].map((name) => " "document.querySelectorAll(`#comparison .${name}`).length)"
+        "['better', 'worse'].map((name) => document.querySelectorAll(`#comparison .${name}`).length)"
     )
     expect(min(marks) > 0, f"better and worse: {marks}")
     page.after("document.querySelector('[data-exchanges=\"1\"]').click()")
@@ -50,11 +49,10 @@ TOPS = """["this", "kept-1"].map((name) => document.querySelector(`#rounds-plot-
 def check_second_trace(page):
     """A kept plan stays when another trace is opened, with the name of its own, beside a plan with the same limits. Its
     sample of 4,154 pages stands for 129,819: its pages and its moments are no numbers of another trace's."""
-    page.open("#trace=sqlite&link=64MiB&first=50&downtime=300ms&start=1000")
-    page.wait_for_plan()
-    page.after("document.getElementById('keep').click()")
+    page.open_planned("#trace=sqlite&link=64MiB&first=50&downtime=300ms&start=1000")
+    page.clicked("keep")
     before = page.shown()["comparison"]
-    page.drop(("mid.pcwt", read(example("guests/mid.light.pcwt"))))
+    page.drop(example_named("mid.pcwt", "guests/mid.light.pcwt"))
     page.rest()
     heads = page.browser.value(HEADS)
     expect(heads == ["This plan", "Kept plan 1 Drop sqlite.light.pcwt"], f"heads: {heads}")
@@ -72,7 +70,7 @@ def check_second_trace(page):
     typed(page, "link", "64")
     tops = page.browser.value(TOPS)
     expect(tops == ["129,819", "4,154"], f"as much memory is not as high: {tops} pages are at the top")
-    page.after("document.getElementById('keep').click()")
+    page.clicked("keep")
     expect(len(page.browser.value(HEADS)) == 3, f"{page.browser.value(HEADS)}")
     page.after("document.querySelector('[data-drops=\"0\"]').click()")
     heads = page.browser.value(HEADS)
@@ -83,28 +81,23 @@ def check_second_trace(page):
 def check_undone_trace(page):
     """A plan that was kept before another trace was opened is shown once if that is undone, and once if it is done
     again. Over the trace that is opened anew it is there too."""
-    page.open("#trace=sqlite&link=64MiB&first=50&downtime=300ms&start=1000")
-    page.wait_for_plan()
-    page.after("document.getElementById('keep').click()")
+    page.open_planned("#trace=sqlite&link=64MiB&first=50&downtime=300ms&start=1000")
+    page.clicked("keep")
     page.browser.wait("location.hash.includes('kept=')", 5)
-    page.drop(("mid.pcwt", read(example("guests/mid.light.pcwt"))))
+    page.drop(example_named("mid.pcwt", "guests/mid.light.pcwt"))
     page.rest()
     over_its_own, over_another = "Kept plan 1 Exchange Drop", "Kept plan 1 Drop sqlite.light.pcwt"
     for button, wanted in (("undo", over_its_own), ("redo", over_another), ("undo", over_its_own)):
-        page.after(f"document.getElementById('{button}').click()")
+        page.clicked(button)
         page.becomes(HEADS, ["This plan", wanted], f"heads after {button}")
         page.rest()
-    page.drop(("mid.pcwt", read(example("guests/mid.light.pcwt"))))
+    page.drop(example_named("mid.pcwt", "guests/mid.light.pcwt"))
     page.rest()
-    page.drop(("sqlite.pcwt", read(example("guests/sqlite.light.pcwt"))))
+    page.drop(example_named("sqlite.pcwt", "guests/sqlite.light.pcwt"))
     page.rest()
     page.becomes(HEADS, ["This plan", over_its_own], "heads over the trace that is opened anew")
     page.after("document.querySelector('[data-drops]').click()")
     page.becomes(HEADS, ["This plan"], "heads after a drop")
-
-
-def asked_rounds(page, rounds):
-    return typed(page, "rounds", rounds)
 
 
 # The words of the axes of the pictures of rounds, where each has its stop, in pixels, and when its last round ends, in
@@ -122,9 +115,8 @@ def check_axes(page):
     """Plans beside each other have the same axes, also if their ticks are not equally long and their units differ: what
     takes twice as long is twice as far from the start."""
     asked(page, link="100Mbit", first="100", downtime="300ms")
-    page.after("document.getElementById('keep').click()")
-    asked_unit = "const unit = document.querySelector('[data-control=link] select'); unit.value = 'MiB';"
-    page.after(asked_unit + "unit.dispatchEvent(new Event('change'))")
+    page.clicked("keep")
+    page.with_unit("link", "MiB")
     typed(page, "link", "70")
     typed(page, "tick", "2")
     page.rest()
@@ -161,7 +153,7 @@ HOSTS = [
     ),
     (
         "link=8MiB&downtime=4ms",
-        {"libvirt": "virsh migrate-setspeed DOMAIN 8\n" "virsh migrate-setmaxdowntime DOMAIN 4"},
+        {"libvirt": "virsh migrate-setspeed DOMAIN 8\nvirsh migrate-setmaxdowntime DOMAIN 4"},
         {},
     ),
     (

@@ -2,8 +2,7 @@
 another trace is open."""
 
 from checks.lib.tally import expect
-from checks.page.acts import read
-from checks.page.cases import example
+from checks.page.acts import example_named
 
 # How long a message to a worker is on its way here, in milliseconds.
 DELAY = 300
@@ -11,10 +10,6 @@ OVER_SQLITE = "#trace=sqlite&link=64MiB&first=50&downtime=300ms&start=1000"
 STATE = """[location.hash, textOf("trace-state"), textOf("rounds-table-this"), textOf("headline"), textOf("comparison"),
   ...["undo", "redo"].map((id) => document.getElementById(id).getAttribute("aria-disabled"))]"""
 IS_OPEN = "document.getElementById('trace').getAttribute('aria-busy') === 'false'"
-
-
-def mid():
-    return "mid.pcwt", read(example("guests/mid.light.pcwt"))
 
 
 def pressed(page, button, address):
@@ -26,10 +21,9 @@ def pressed(page, button, address):
 def open_two(page):
     """Opens a trace after another, so that the first can be gone back to."""
     page.browser.forget_pages()
-    page.open(OVER_SQLITE)
-    page.wait_for_plan()
+    page.open_planned(OVER_SQLITE)
     page.browser.wait("location.hash.includes('window=')", 5)
-    page.drop(mid())
+    page.drop(example_named("mid.pcwt", "guests/mid.light.pcwt"))
     page.rest()
 
 
@@ -52,7 +46,7 @@ def check_two_presses(page):
     page.after("document.getElementById('undo').click(); document.getElementById('undo').click()")
     page.becomes("textOf('trace-state').split(':')[0]", "sqlite.light.pcwt", "after Undo that was pressed twice")
     page.rest()
-    page.after("document.getElementById('redo').click()")
+    page.clicked("redo")
     page.becomes("textOf('trace-state').split(':')[0]", "mid.pcwt", "after Redo")
 
 
@@ -70,7 +64,7 @@ def check_other_map(page):
     }})()"""
     )
     page.browser.wait("textOf('trace-state').includes('gzip')", 5)
-    page.browser.value("document.getElementById('zoom-plan').click()")
+    page.click("zoom-plan")
     page.browser.wait(f"textOf('trace-state').startsWith('gzip') && {IS_OPEN} && isDrawn()", 20)
     page.browser.value("window.delay = 0")
     page.rest()

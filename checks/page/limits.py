@@ -99,7 +99,7 @@ def check_doubtful(page):
     limit that some start is likely to keep, the best does."""
     for limit, is_doubtful in (("300ms", False), ("2s", False)):
         page.ask(f"trace=sqlite&link=64MiB&first=50&downtime={limit}&start=1000")
-        page.browser.value("document.getElementById('ask').click()")
+        page.click("ask")
         page.browser.wait(
             "!document.getElementById('starts-answer').hidden && "
             "document.getElementById('starts-progress').hidden && isTold('starts-choice')",
@@ -127,10 +127,10 @@ def micros_in(text):
 def check_saving(page):
     """What the best start saves is the difference of both plans, and a click takes it."""
     before = asked(page, start="20000", first="100")
-    page.browser.value("document.getElementById('ask').click()")
+    page.click("ask")
     page.browser.wait("document.getElementById('saving') !== null", 20)
     said = page.browser.value("textOf('saving')").replace("\u00a0", " ")
-    after = page.after("document.getElementById('take-best').click()")
+    after = page.clicked("take-best")
     for name in ("time", "downtime"):
         told = re.search(rf"(?<!\w){name} (same|\S+ \S?s)[,.]", said)
         expect(told, f"{said}: no {name}")

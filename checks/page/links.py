@@ -71,14 +71,7 @@ def check_links(page):
             expect(found["comparison"][name][0] == time_text(int(row[key])), f"{row}: {found['comparison'][name]}")
     page.ask(f"{fragment}64MiB")
     page.rest()
-    found = page.after(
-        """
-      const plot = document.getElementById("links-plot");
-      plot.focus();
-      for (const key of ["End", "Enter"]) {
-        plot.dispatchEvent(new KeyboardEvent("keydown", { key, bubbles: true }));
-      }"""
-    )
+    found = page.press_in("links-plot", "End", "Enter")
     expect("--link 512MiB" in found["predict"], f"the last link is not taken: {found['predict']}")
 
 

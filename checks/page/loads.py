@@ -4,14 +4,13 @@ how much memory it has."""
 import os
 import random
 import statistics
-import struct
 import time
 
 from checks.lib.tally import Failure, Late
+from checks.lib.traces import MOST_BYTES, header, record
 from checks.page.acts import plan_starts, typed
 from checks.page.shown import tried
 
-MOST_BYTES = 1 << 28
 # A change takes 20 ms on a quiet machine, and twice that on a busy one; with plans over the trace's bytes it was 137.
 MOST_MILLIS, MOST_TASK_MILLIS, MOST_CANCEL_SECONDS = 60, 50, 1
 # With 2,000 looks, which are more than any plan that converges has, the page's thread has 2,000 lists to draw.
@@ -74,20 +73,16 @@ LATE = """
 # ---- Traces that are made.
 
 
-def header(pages, writes):
-    return b"PCWT" + bytes([1, 12, 0, 0]) + struct.pack("<II", pages, writes)
-
-
 def write_long(path):
     """A trace of exactly `2^28` bytes: writes of whole pages."""
     pages, length = 65_536, 4096
     count = (MOST_BYTES - 16) // (16 + length)
     rest = MOST_BYTES - 16 - count * (16 + length) - 16
     with open(path, "wb") as file:
-        file.write(header(pages, count + 1))
+        file.write(header(pages, count + 1, 12))
         for number in range(count):
-            file.write(struct.pack("<QIHH", 2 * number, number * 7919 % pages, 0, length) + bytes(length))
-        file.write(struct.pack("<QIHH", 2 * count, 0, 0, rest) + bytes(rest))
+            file.write(record(2 * number, number * 7919 % pages, 0, bytes(length)))
+        file.write(record(2 * count, 0, 0, bytes(rest)))
 
 
 def write_full(path, in_a_tick, length):
@@ -95,10 +90,10 @@ def write_full(path, in_a_tick, length):
     draw, count = random.Random(20), 1 << 20
     data = bytes(length)
     with open(path, "wb") as file:
-        file.write(header(65_536, count))
+        file.write(header(65_536, count, 12))
         for number in range(count):
             page = draw.randrange(2_000) if number % 5 else draw.randrange(65_536)
-            file.write(struct.pack("<QIHH", number // in_a_tick, page, 0, length) + data)
+            file.write(record(number // in_a_tick, page, 0, data))
 
 
 # ---- What a thread does, and what a browser holds.
@@ -187,8 +182,7 @@ def speed_over(page, folder, length):
     path = os.path.join(folder, "full.pcwt")
     write_full(path, 32, length)
     print(f"2^20 writes in {os.path.getsize(path) / 1e6:.0f} MB:")
-    page.open()
-    page.wait_for_plan()
+    page.open_planned()
     said, more_memory = opened(page, path)
     if "1,048,576 writes" not in said:
         raise Failure(said)
@@ -231,8 +225,7 @@ def check_late(page, folder):
     """Plans of a sample as large as may be do not wait for what takes long: that comes later, for the last of them."""
     path = os.path.join(folder, "full.pcwt")
     write_full(path, 32, 1)
-    page.open()
-    page.wait_for_plan()
+    page.open_planned()
     _, more_memory = opened(page, path)
     page.ask(f"{SETTINGS}&sample=65536/1000000")
     require_free(page, "60 changes over a sample", lambda: changes(page, 60))
@@ -331,8 +324,7 @@ def check_many_windows(page, folder):
     """A window for each of 2^20 writes: the picture has a bar for each pixel, and the file a line for each window."""
     path = os.path.join(folder, "apart.pcwt")
     write_full(path, 1, 1)
-    page.open()
-    page.wait_for_plan()
+    page.open_planned()
     page.load(path)
     require_free(page, "2^20 windows", lambda: (typed(page, "window", "2 ticks"), typed(page, "window", "1 tick")))
     bars, room = page.browser.value(
@@ -357,9 +349,7 @@ def check_many_windows(page, folder):
         lambda: (typed(page, "window", "2 ticks"), typed(page, "window", "1 tick")),
     )
     page.browser.value("document.getElementById('windows-details').open = false")
-    require_free(
-        page, "2^20 windows, taken nearer", lambda: page.browser.value("document.getElementById('zoom-plan').click()")
-    )
+    require_free(page, "2^20 windows, taken nearer", lambda: page.click("zoom-plan"))
     require_free(
         page,
         "2^20 windows as CSV",

@@ -40,7 +40,7 @@ def check_looking(page):
     )
     said = page.browser.value("textOf('plan-this')")
     expect("Round 0, 0.000 s to " in said, f"a finger on a round reads nothing: {said}")
-    page.browser.value("document.getElementById('zoom-out').click()")
+    page.click("zoom-out")
 
 
 # Sends what a mouse does at a share of a plot's width, and tells where the moment is marked in the others, in seconds.
@@ -65,7 +65,7 @@ def check_together(page):
     page.ask("trace=sqlite&link=64MiB&first=50&downtime=300ms&start=1000&window=500")
     page.browser.value("document.getElementById('zoom-out').click(); document.getElementById('ask').click()")
     page.browser.wait(
-        "document.querySelector('#starts-plot svg') !== null && " "document.getElementById('starts-progress').hidden",
+        "document.querySelector('#starts-plot svg') !== null && document.getElementById('starts-progress').hidden",
         20,
     )
     page.rest()

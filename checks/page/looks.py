@@ -12,6 +12,7 @@ from checks.page import first, focus, shapes
 from checks.page.acts import typed
 from checks.page.browser import WIDER_THAN_PHONES
 from checks.page.cases import example
+from precopy_dev.files import read_bytes, read_text, write_file
 from precopy_dev.packaging import notices
 
 WIDTHS = [360, 800, 1400, 1920]
@@ -159,11 +160,6 @@ TOUCHING = """
 })"""
 
 
-def open_example(page, more=""):
-    page.open(f"#trace=sqlite{more}")
-    page.wait_for_plan()
-
-
 # Whether the page takes its user for one with a finger, and what it then says of a pointer or of keys.
 TOUCHED = """[matchMedia("(pointer: coarse)").matches, [...document.querySelectorAll(".readout")]
   .filter((readout) => readout.dataset.touch && readout.textContent === readout.dataset.hint).length > 0]"""
@@ -199,7 +195,7 @@ def check_look(page, name, is_long=False):
 def check_shapes(page, folder):
     """The same for pictures of traces of other shapes, with and without a plan, with starts, and taken nearer."""
     browser = page.browser
-    open_example(page)
+    page.open_planned("#trace=sqlite")
     corners = shapes.corners()
     for draw in drawn("looks of a shape", range(SHAPES)):
         number = draw.number
@@ -253,7 +249,7 @@ def check_names(page):
 def check_keyboard(page):
     """Sliders, fields and pictures work by the keyboard."""
     browser = page.browser
-    open_example(page, "&clark=1")
+    page.open_planned("#trace=sqlite&clark=1")
     browser.value("unfold()")
     for name, number in (("rounds", "value"), ("start", "dataset.ticks")):
         selector = f"#control-{name}"
@@ -268,7 +264,7 @@ def check_keyboard(page):
         for _ in range(10):
             browser.press("ArrowRight", 39)
         page.becomes("Number(document.activeElement.value)", before + 10, f"ten steps of {selector} from {before}")
-    open_example(page)
+    page.open_planned("#trace=sqlite")
     browser.value("document.getElementById('windows-plot').focus()")
     browser.press("End", 35)
     page.becomes("textOf('windows-readout').slice(0, 19)", "Window 74, 37.000 s", "the last window")
@@ -289,22 +285,20 @@ def check_keyboard(page):
 def check_address(page):
     """The address holds the settings, the kept plans and a fingerprint of the trace, and nothing of the trace."""
     browser = page.browser
-    open_example(page, "&link=64MiB&first=50&rounds=7&start=1234&skip=1&base=1000")
+    page.open_planned("#trace=sqlite&link=64MiB&first=50&rounds=7&start=1234&skip=1&base=1000")
     page.after("document.getElementById('keep').click(); document.getElementById('control-skip').click()")
     browser.wait("location.hash.includes('kept=') && location.hash.includes('skip=0')", 5)
     page.rest()
     said = "document.getElementById('results').innerText + textOf('comparison')"
     address, wanted = browser.value("location.hash"), browser.value(said)
-    page.open(address)
-    page.wait_for_plan()
+    page.open_planned(address)
     browser.wait("document.querySelectorAll('#rounds-table-kept-1 tbody tr').length > 0", 20)
     page.becomes(said, wanted, f"another page by its address {address}")
     path = example("guests/mid.light.pcwt")
     page.load(path)
     browser.wait("!location.hash.includes('trace=')", 5)
     address = browser.value("location.hash")
-    with open(path, "rb") as file:
-        print_of = hashlib.sha256(file.read()).hexdigest()[:12]
+    print_of = hashlib.sha256(read_bytes(path)).hexdigest()[:12]
     expect("mid" not in address and f"of={print_of}" in address, address)
     page.open(address)
     page.load(path)
@@ -337,7 +331,7 @@ def check_licences(page):
     """The notices of the libraries whose code the page holds are at its foot: closed until they are asked for, and not
     on paper."""
     browser = page.browser
-    open_example(page)
+    page.open_planned("#trace=sqlite")
     seen = "document.getElementById('notices').checkVisibility({ visibilityProperty: true })"
     expect(not browser.value(seen), "the notices are shown before they are asked for")
     foot = "document.querySelector('footer').lastElementChild.id"
@@ -426,11 +420,10 @@ def heard_of(page, url):
 
 def without_policy(path):
     """Writes the same page without its policy, and returns its path."""
-    with open(path, encoding="utf-8") as file:
-        text = file.read()
-    other = path.replace(".html", "-open.html")
-    with open(other, "w", encoding="utf-8") as file:
-        file.write(text.replace('http-equiv="Content-Security-Policy"', 'name="policy"'))
+    text = read_text(path)
+    other = write_file(
+        text.replace('http-equiv="Content-Security-Policy"', 'name="policy"'), path.replace(".html", "-open.html")
+    )
     return other
 
 

@@ -26,8 +26,7 @@ LEGEND = "[...document.querySelectorAll('#map-legend li')].map((item) => item.te
 def check_switch(page):
     """The page goes by looks, unless the switch or the address says otherwise. What only rounds have is seen, asked for
     and told only with them."""
-    page.open(f"#{ASKED}")
-    page.wait_for_plan()
+    page.open_planned(f"#{ASKED}")
     page.browser.value("unfold()")
     for is_on in (False, True, False):
         seen, is_checked, title, predict, when, has_live, unsent = page.browser.value(SHOWN)
@@ -50,7 +49,7 @@ def check_kept_manners(page):
     """A plan by rounds that is kept beside one by looks: they differ by that, and both are told in full."""
     page.ask(f"{ASKED}&clark=1")
     by_rounds = page.shown()["comparison"]
-    page.after("document.getElementById('keep').click()")
+    page.clicked("keep")
     by_looks = page.after(FLIP)["comparison"]
     said = page.browser.value("textOf('comparison')")
     expect("Kept plan 1 differs: Clark's rounds." in said, said)

@@ -215,7 +215,7 @@ def check_map(page):
     is taken nearer is counted anew; keys go through pages and time."""
     writes = Trace.at(example("guests/sqlite.light.pcwt")).writes
     page.ask(fragment_of(PLAIN))
-    page.browser.value("document.getElementById('zoom-out').click()")
+    page.click("zoom-out")
     page.rest()
     check_counts(page, writes)
     colours, columns, rows = page.browser.value(f"{PAINTED}({json.dumps(WRITES)})")
@@ -226,7 +226,7 @@ def check_map(page):
     words, mark = page.browser.value(f"[textOf('map-most'), {MARKED}]")
     expect(f"The {len(writes):,} writes that are shown are densest in " in words, words)
     expect(mark and abs(mark - 0.5) < 0.01, f"a moment of the working set is marked at {mark} of the map")
-    page.browser.value("document.getElementById('zoom-plan').click()")
+    page.click("zoom-plan")
     page.browser.wait("!textOf('map-most').includes('16,294')", 5)
     page.rest()
     check_counts(page, writes)
@@ -244,7 +244,7 @@ def check_map_rounds(page):
     """What the rounds of the plan do with which pages is on the map, in its file and in its table."""
     guest = Trace.at(example("guests/sqlite.light.pcwt")).guest
     page.ask(fragment_of(PLAIN))
-    page.browser.value("document.getElementById('zoom-out').click()")
+    page.click("zoom-out")
     for asked in PLANS:
         seen = seen_plan(page, guest, asked)
         check_file(seen)
@@ -295,7 +295,7 @@ def check_map_pages(page):
     expect(", page 2,339: " in said, f"the second row: {said!r}")
     page.browser.value(f"{PRESS}(['ArrowDown', 'ArrowDown', '*'])")
     require_pages(page, 2_274, 2_403)
-    page.browser.value("document.getElementById('all-pages').click()")
+    page.click("all-pages")
     require_pages(page, 0, PAGES - 1)
     expect(page.browser.value("document.getElementById('all-pages').disabled"), "all pages are shown, and offered")
-    page.browser.value("document.getElementById('zoom-out').click()")
+    page.click("zoom-out")

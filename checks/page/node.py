@@ -8,6 +8,7 @@ import subprocess
 from typing import Optional
 
 from checks.lib.tally import Failure, why_not
+from precopy_dev.files import write_file
 from precopy_dev.tree import TOP
 
 # What asks the package, by its name.
@@ -29,8 +30,7 @@ def put_web(folder: str, *scripts: str) -> str:
     """The page's files as modules of Node, with scripts of this folder beside them. Returns their folder."""
     web = os.path.join(folder, "web")
     shutil.copytree(os.path.join(TOP, "web"), web)
-    with open(os.path.join(web, "package.json"), "w", encoding="utf-8") as file:
-        file.write('{"type": "module"}')
+    write_file('{"type": "module"}', web, "package.json")
     for script in scripts:
         shutil.copy(os.path.join(TOP, "checks", "page", script), web)
     return web

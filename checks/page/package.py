@@ -14,6 +14,7 @@ from checks.page import package_answers, package_types
 from checks.page.node import SCRIPT, asked_of_package, run_tests
 from checks.page.package_answers import OF_QUESTIONS, OF_SETTINGS
 from precopy_dev import interface
+from precopy_dev.files import read_bytes, write_file
 from precopy_dev.packaging import notices
 from precopy_dev.tree import TOP, read
 from precopy_tools.version import VERSION
@@ -66,8 +67,7 @@ def bytes_below(folder):
     found = {}
     for at, _, names in os.walk(folder):
         for path in (os.path.join(at, name) for name in names):
-            with open(path, "rb") as file:
-                found[os.path.relpath(path, folder)] = file.read()
+            found[os.path.relpath(path, folder)] = read_bytes(path)
     return found
 
 
@@ -102,8 +102,7 @@ def installed(case, folder, made):
     """Installs the package in another folder, by npm if that is there. Returns the folder, with the checks' scripts."""
     place = os.path.join(folder, "user")
     os.makedirs(os.path.join(place, "node_modules"))
-    with open(os.path.join(place, "package.json"), "w", encoding="ascii") as file:
-        file.write('{ "private": true, "type": "module" }\n')
+    write_file('{ "private": true, "type": "module" }\n', place, "package.json")
     if shutil.which("npm"):
         words = ["npm", "install", "--offline", "--no-audit", "--no-fund", "--no-update-notifier", made]
         done = run(words, cwd=place, seconds=SECONDS, env={**os.environ, "npm_config_cache": f"{folder}/npm"})
@@ -166,8 +165,7 @@ def check_readme(case, command, place):
     """The example of the README prints what stands below it."""
     text = read("bindings/js/README.md")
     example, printed = re.search(r"^```js\n(.*?)^```\n\nIt prints:\n\n((?:    [^\n]*\n)+)", text, re.M | re.S).groups()
-    with open(os.path.join(place, "example.mjs"), "w", encoding="utf-8") as file:
-        file.write(example)
+    write_file(example, place, "example.mjs")
     done = run([*command, "--no-warnings", "example.mjs"], cwd=place, seconds=SECONDS)
     wanted = "".join(line[4:] for line in printed.splitlines(True))
     case.add(done.status == 0 and done.output.decode() == wanted, f"{done.output.decode()}{done} in place of\n{wanted}")
@@ -185,8 +183,7 @@ def check_damages(case, command, place, folder):
     rows, words, codes = list(damaged()), words_by_name(), codes_by_status()
     paths = [os.path.join(folder, f"damaged-{number}.pcwt") for number in range(len(rows))]
     for path, (text, _) in zip(paths, rows):
-        with open(path, "wb") as file:
-            file.write(text)
+        write_file(text, path)
     told = asked_of_package(command, place, [{"trace": path, "calls": []} for path in paths])["answers"]
     for (_, line), found in zip(rows, told, strict=True):
         name, _, record = line.partition(" record ")
@@ -198,9 +195,7 @@ def check_damages(case, command, place, folder):
 
 def check_refusals(case, command, place, folder):
     """Settings and questions that are refused are by each call, by their status and their sentence."""
-    path = os.path.join(folder, "a.pcwt")
-    with open(path, "wb") as file:
-        file.write(A)
+    path = write_file(A, folder, "a.pcwt")
     tries = [(call, it, *row) for it, *row in WRONG_SETTINGS for call in OF_SETTINGS]
     tries += [(call, {**QUESTION, **it}, *row) for it, *row in WRONG_QUESTIONS for call in OF_QUESTIONS]
     calls = [(call, given) for call, given, _, _ in tries]

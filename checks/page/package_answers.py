@@ -2,7 +2,6 @@
 of the types that the package tells, or are refused by the status that the model has."""
 
 import itertools
-import os
 from typing import NamedTuple
 
 from checks.lib.harness import drawn
@@ -14,6 +13,7 @@ from checks.page.node import asked_of_package
 from checks.page.package_types import Types
 from checks.predictions.doors import Package, whole
 from checks.predictions.questions import in_range
+from precopy_dev.files import write_file
 
 OF_SETTINGS, OF_QUESTIONS = ("plan", "rounds", "windows"), Package.CALLS
 # How many settings are drawn over each trace, how many shapes of traces, and how many questions over small ones.
@@ -40,9 +40,7 @@ class Small(NamedTuple):
 
 
 def put(folder, name, text):
-    path = os.path.join(folder, name)
-    with open(path, "wb") as file:
-        file.write(text)
+    path = write_file(text, folder, name)
     return Trace.at(path)
 
 

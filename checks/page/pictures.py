@@ -6,11 +6,11 @@ import base64
 import os
 
 from checks.lib.tally import expect
-from checks.page.acts import read
+from checks.page.acts import example_named, guest_with_record
 from checks.page.browser import Browser
-from checks.page.cases import example
 from checks.page.firefox import Firefox
 from checks.page.shown import COLLECTOR, Page
+from precopy_dev.files import write_file
 
 # A look: the width and the height of the page in its own pixels, how many of the screen each has, and what the user
 # prefers and points with.
@@ -45,15 +45,14 @@ def point(page, name, across, down):
 
 
 def open_with(page, fragment=PLAIN):
-    page.open(fragment)
-    page.wait_for_plan()
+    page.open_planned(fragment)
     page.rest()
 
 
 def answer(page):
     """What is seen first of a trace of one's own, with its record."""
     open_with(page, "")
-    page.drop(*((f"store.{kind}", read(example(f"guests/sqlite.light.{kind}"))) for kind in ("pcwt", "json")))
+    page.drop(*guest_with_record("store"))
 
 
 def unfolded(page):
@@ -73,9 +72,9 @@ def map_of_pages(page):
 def together(page):
     """A stretch of the rounds, the working set and the starts, with a moment in one that is marked in the others."""
     open_with(page)
-    page.browser.value("document.getElementById('ask').click()")
+    page.click("ask")
     page.browser.wait("!document.getElementById('starts-answer').hidden && isTold('starts-choice')")
-    page.browser.value("document.getElementById('zoom-plan').click()")
+    page.click("zoom-plan")
     page.rest()
     point(page, "windows-plot", 0.6, 0.3)
 
@@ -89,8 +88,8 @@ def links(page):
 def two_traces(page):
     """A plan beside those that were kept over another trace."""
     open_with(page)
-    page.after("document.getElementById('keep').click()")
-    page.drop(("a-trace-with-a-rather-long-name.light.pcwt", read(example("guests/mid.light.pcwt"))))
+    page.clicked("keep")
+    page.drop(example_named("a-trace-with-a-rather-long-name.light.pcwt", "guests/mid.light.pcwt"))
     page.after(
         "document.getElementById('keep').click(); document.getElementById('control-rounds').value = '3';"
         "document.getElementById('control-rounds').dispatchEvent(new Event('input'))"
@@ -146,8 +145,7 @@ def print_scenes(page, folder, kind):
     for scene in ON_PAPER:
         SCENES[scene][0](page)
         page.rest()
-        with open(os.path.join(folder, f"{scene}-paper-{kind}.pdf"), "wb") as file:
-            file.write(base64.b64decode(page.browser.printed()))
+        write_file(base64.b64decode(page.browser.printed()), folder, f"{scene}-paper-{kind}.pdf")
 
 
 def in_chromium(path, folder):

@@ -5,8 +5,7 @@ import json
 
 from checks.lib.tally import expect
 from checks.page import shapes
-from checks.page.acts import read
-from checks.page.cases import example
+from checks.page.acts import example_named, guest_with_record
 from checks.page.first import MOST_WORDS, WORDS
 from checks.page.limits import ALSO
 from checks.page.shown import tried
@@ -38,21 +37,15 @@ def record_of(trace, **fields):
     return json.dumps({**plain, **fields}).encode()
 
 
-def guest_with_record():
-    return [(f"a.{kind}", read(example(f"guests/sqlite.light.{kind}"))) for kind in ("pcwt", "json")]
-
-
 def check_records(page):
     """A record comes with its trace, after it, or before it; one that is not the trace's is refused by its field."""
-    trace, record = (read(example(f"guests/sqlite.light.{kind}")) for kind in ("pcwt", "json"))
+    trace, record = (text for _, text in guest_with_record("a"))
     wanted = [str(json.loads(record)["first_tick"]), "31.25156", "1"]
     for files in ([("a.pcwt", trace), ("a.json", record)], [("a.json", record), ("a.pcwt", trace)]):
-        page.open()
-        page.wait_for_plan()
+        page.open_planned()
         page.drop(*files)
         expect(page.browser.value(VALUES) == wanted, f"{page.browser.value(VALUES)} in place of {wanted}")
-    page.open()
-    page.wait_for_plan()
+    page.open_planned()
     page.drop(("a.pcwt", trace))
     expect(page.browser.value(VALUES) == ["0", "1", "1"], f"{page.browser.value(VALUES)} without a record")
     said = page.drop(("a.json", record))
@@ -79,7 +72,7 @@ def check_addressed(page):
     """An address without a trace leaves to the record what ticks, pages and the start stand for; its limits stay."""
     for at_once in (True, False):
         page.open("#link=1Gbit&downtime=100ms")
-        files = guest_with_record()
+        files = guest_with_record("a")
         said = page.drop(*files) if at_once else [page.drop(files[0]), page.drop(files[1])][-1]
         expect(page.browser.value(VALUES) == ["1000", "31.25156", "1"], f"{page.browser.value(VALUES)}: {said}")
         expect(limits(page) == [["1", "Gbit"], ["100", "ms"]], f"the limits of the address are {limits(page)}")
@@ -97,7 +90,7 @@ def check_addressed(page):
 def check_own_address(page):
     """An address that was made of the very trace has all settings; what the record says otherwise is told, and its
     control offers it."""
-    trace, record = (text for _, text in guest_with_record())
+    trace, record = (text for _, text in guest_with_record("a"))
     address = f"#link=1Gbit&downtime=100ms&tick=2ms&sample=all&of={hashlib.sha256(trace).hexdigest()[:12]}"
     page.open(address)
     said = page.drop(("a.pcwt", trace), ("a.json", record))
@@ -116,12 +109,11 @@ OFFERED = "[...document.querySelectorAll('[data-suggested=link]')].map((each) =>
 
 def check_fitted(page):
     """Limits that were fitted to a trace are told as such, with links of today's networks, until one is chosen."""
-    page.open()
-    page.wait_for_plan()
-    page.drop(("own.pcwt", read(example("gzip.pcwt"))))
+    page.open_planned()
+    page.drop(example_named("own.pcwt", "gzip.pcwt"))
     offered = page.browser.value(OFFERED)
     expect(offered == ["1 Gbit/s", "10 Gbit/s", "25 Gbit/s"], f"links that are offered: {offered}")
-    page.drop(*guest_with_record())
+    page.drop(*guest_with_record("a"))
     for name, words in (("link", "Fitted to this trace."), ("downtime", "Fitted, too.")):
         expect(suggestion(page, name).startswith(words), f"{name}: {suggestion(page, name)!r}")
     offered = page.browser.value(OFFERED)
@@ -130,7 +122,7 @@ def check_fitted(page):
     expect(limits(page)[0] == ["10", "Gbit"] and not found["refused"], f"{limits(page)}, {found['fault']}")
     expect(not suggestion(page, "link"), f"a link that was chosen: {suggestion(page, 'link')!r}")
     page.open("#link=1Gbit&downtime=100ms")
-    page.drop(*guest_with_record())
+    page.drop(*guest_with_record("a"))
     expect(not suggestion(page, "link"), f"a link of the address: {suggestion(page, 'link')!r}")
 
 
@@ -145,8 +137,7 @@ def check_doubts(page):
         "guest_nonzero": 1 << 22,
         "sampled_nonzero": 1,
     }
-    page.open()
-    page.wait_for_plan()
+    page.open_planned()
     said = page.drop(("a.pcwt", trace), ("a.json", record_of(trace, **counts)))
     expect("a.json: 1 page of 16,384 in the sample" in said and "which is unlikely." in said, said)
     expect("1,000 pages sampled of 256,000 " in said, said)
@@ -154,7 +145,7 @@ def check_doubts(page):
     expect("a.json is not used: sampled_nonzero is 16384" in said, said)
     said = page.drop(("a.json", record_of(trace, taken_of="x" * (1 << 16))))
     expect("a.json is not used: It is too long" in said, said)
-    page.drop(*guest_with_record())
+    page.drop(*guest_with_record("a"))
     expect("unlikely" not in page.browser.value("textOf('trace-notes')"), "the example's record is doubted")
     trace = shapes.trace(12, 10, [(tick, tick % 10, 1) for tick in (0, 86_399_000)])
     said = page.drop(("day.pcwt", trace))
@@ -170,7 +161,7 @@ def check_still(page):
     """Of a guest that stood still while it was recorded the line of the trace says for how long, the verdict is
     uncertain, and nothing is offered as enough, in few words; one that ran for 99 per cent of the time has a
     verdict."""
-    trace, record = (text for _, text in guest_with_record())
+    trace, record = (text for _, text in guest_with_record("a"))
     page.open("#link=1Gbit&downtime=300ms&clark=1")
     page.drop(("a.pcwt", trace), ("a.json", record))
     for share, told in ((0.5, "50.0 %"), (0.99, ""), (0, "100.0 %"), (1, "")):

@@ -90,7 +90,7 @@ def check_table(name, text, shown):
 def check_files_saved(page):
     """Each picture is saved as PNG and SVG, with its name and its legend, and each table as CSV."""
     asked(page)
-    page.browser.value("document.getElementById('ask').click()")
+    page.click("ask")
     page.browser.wait("document.querySelector('#starts-plot svg') !== null")
     page.rest()
     wanted = 5 * 3 + 1

@@ -1,18 +1,15 @@
 """Traces of all shapes for checks/page: few and many pages and writes, small pages, long and short times, releases."""
 
 import itertools
-import struct
 
-MOST_TICK = (1 << 40) - 1
-MOST_PAGES = 65_536
+from checks.lib.traces import LAST_TICK, MOST_PAGES, header, record
 
 
 def trace(shift, pages, writes):
     """A trace of writes, which are a tick, a page and a length; a length of 0 releases the page, in version 2."""
     version = 1 if all(length for _, _, length in writes) else 2
-    parts = [b"PCWT" + bytes([version, shift, 0, 0]) + struct.pack("<II", pages, len(writes))]
-    parts += [struct.pack("<QIHH", tick, page, 0, length) + bytes(length) for tick, page, length in writes]
-    return b"".join(parts)
+    records = [record(tick, page, 0, bytes(length)) for tick, page, length in writes]
+    return header(pages, len(writes), shift, version=version) + b"".join(records)
 
 
 def written_at_random(draw, shift, pages, count, last):
@@ -40,10 +37,10 @@ def corners():
         trace(4, 1, []),
         trace(12, MOST_PAGES, []),
         trace(12, 1, [(0, 0, 1)]),
-        trace(4, 1, [(MOST_TICK, 0, 16)]),
-        trace(12, MOST_PAGES, [(MOST_TICK, MOST_PAGES - 1, 4096)]),
+        trace(4, 1, [(LAST_TICK, 0, 16)]),
+        trace(12, MOST_PAGES, [(LAST_TICK, MOST_PAGES - 1, 4096)]),
         trace(4, MOST_PAGES, whole),
-        trace(12, 3, [(0, 0, 1), (MOST_TICK, 2, 1)]),
+        trace(12, 3, [(0, 0, 1), (LAST_TICK, 2, 1)]),
         trace(12, 100, [(0, page, 4096) for page in range(100)]),
         trace(12, 100, [(tick, tick % 100, 1) for tick in range(10_000)]),
         trace(8, 2, [(1, 1, 256)] * 2_000),
@@ -55,7 +52,7 @@ def corners():
 def random_shape(draw):
     shift = draw.choice([4, 6, 8, 10, 12, 12, 12])
     pages = min(MOST_PAGES, max(1, round(2 ** draw.uniform(0, 16.2))))
-    last = min(MOST_TICK, round(10 ** draw.uniform(0, 12)))
+    last = min(LAST_TICK, round(10 ** draw.uniform(0, 12)))
     return written_at_random(draw, shift, pages, draw.choice([0, 1, 2, 50, 1_000, 6_000]), last)
 
 

@@ -132,12 +132,17 @@ class Page:
     def wait_for_plan(self):
         """Waits for the plan over the trace that the page opens by itself."""
         self.browser.wait(
-            "document.querySelectorAll('#rounds-table-this tbody tr').length > 0 && opened > 0 " "&& isDrawn()", 20
+            "document.querySelectorAll('#rounds-table-this tbody tr').length > 0 && opened > 0 && isDrawn()", 20
         )
 
     def wait_for_answer(self):
         """Waits for the plan over the trace that is open, or for its refusal."""
         self.browser.wait("opened > 0 && isDrawn() && textOf('verdict') !== ''", 20)
+
+    def open_planned(self, fragment=""):
+        """Opens the page anew, and waits for the plan over the trace that it opens by itself."""
+        self.open(fragment)
+        self.wait_for_plan()
 
     def load(self, *paths):
         """Chooses files, and returns what is said of them, once the page has drawn them if they were taken."""
@@ -161,6 +166,29 @@ class Page:
     def after(self, act):
         """Does something in the page, and returns what it shows once it has drawn that."""
         return self.browser.value(f"after(() => {{ {act} }})")
+
+    def click(self, name):
+        """Presses a button by its id, and waits for nothing."""
+        self.browser.value(f"document.getElementById('{name}').click()")
+
+    def clicked(self, name):
+        """Presses a button by its id, and returns what the page shows once it has drawn that."""
+        return self.after(f"document.getElementById('{name}').click()")
+
+    def press_in(self, plot, *keys):
+        """Presses keys in a picture by its id, and returns what the page shows once it has drawn that."""
+        return self.after(
+            f"const plot = document.getElementById('{plot}'); plot.focus();"
+            f"for (const key of {json.dumps(keys)}) {{"
+            "plot.dispatchEvent(new KeyboardEvent('keydown', { key, bubbles: true })); }"
+        )
+
+    def with_unit(self, name, unit):
+        """Chooses another unit of a control, and returns what the page shows once it has drawn that."""
+        return self.after(
+            f"const unit = document.querySelector('[data-control={name}] select');"
+            f"unit.value = '{unit}'; unit.dispatchEvent(new Event('change'))"
+        )
 
     def shown(self):
         return self.browser.value("shown()")

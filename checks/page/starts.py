@@ -8,12 +8,14 @@ import re
 
 from checks.lib.amount_texts import error_text, moment_text, size_text, time_text
 from checks.lib.tally import left_out
-from checks.lib.view_texts import TOP, Failure, ran, sweep_facts, told
+from checks.lib.view_texts import Failure, ran, sweep_facts, told
 from checks.page import cases
 from checks.page.acts import plan_starts
 from checks.view.limit_cases import Known
+from precopy_dev.tree import TOP
 
 VIEW = os.path.join(TOP, "crates", "precopy_view", "out", "precopy_view")
+WHEN = "textOf('command-when')"
 # The standard error of a start's downtime.
 ERROR = re.compile(" \u00b1 ([^,]+)")
 # What is said of the best start and of the worst.
@@ -59,11 +61,9 @@ def check_looked_starts(page, name, draw):
     page.ask(asked.fragment())
     plan_starts(page)
     page.browser.wait("isTold('starts-choice')")
-    found, words = page.browser.value(f"[{CHOSEN}, textOf('command-when')]")
-    _, text, faults = ran(VIEW, ["json", *words.removesuffix(" < TRACE").split()[1:]], known.path)
-    document = json.loads(text)
-    if faults or len(document["starts"]) != len(start_ticks(asked, known.last)):
-        raise Failure(f"{words}: {faults!r}, {len(document.get('starts', []))} starts")
+    found, document = page.browser.value(CHOSEN), told_when(page, known.path)
+    if len(document["starts"]) != len(start_ticks(asked, known.last)):
+        raise Failure(f"{page.browser.value(WHEN)}: {len(document['starts'])} starts")
     chosen = [document[which] for which in ("best", "worst") if which in document]
     wanted = [f"{title} start: {looked_start(asked, at)}" for title, at in zip(("Best", "Worst"), chosen)]
     if len({at["start"] for at in chosen}) == 1:
@@ -102,7 +102,7 @@ def check_starts(page, precopy, name, draw):
     best, worst = (lambda cost: cost[0]), (lambda cost: cost[1])
     if costs and 2 <= asked.sampled < asked.guest and known.pages > cases.SMALL:
         # No model counts the errors of a large sample: the program tells which start is the best with them.
-        first = best_told(page.browser.value("textOf('command-when')"), known.path)
+        first = told_when(page, known.path)["best"]["start"]
         best = lambda cost: cost[3] != first  # noqa: E731
     for title, choice, price in (("Best", min, best), ("Worst", max, worst)) if costs else ():
         _, _, (time, sent, down, is_kept), start = choice(costs, key=price)
@@ -121,15 +121,16 @@ def check_starts(page, precopy, name, draw):
     if words != f"Plan {cases.plural(len(ticks), 'start')}":
         raise Failure(f"{words!r} for {len(ticks)} starts")
     if has_view():
-        check_when(page.browser.value("textOf('command-when')"), known.path, len(ticks), chosen)
+        check_when(page, known.path, len(ticks), chosen)
 
 
-def best_told(words, path):
-    """The best start by the words that the page gives for `precopy-view when`."""
+def told_when(page, path):
+    """The document of `json when` by the words that the page gives for `precopy-view when`."""
+    words = page.browser.value(WHEN)
     _, text, faults = ran(VIEW, ["json", *words.removesuffix(" < TRACE").split()[1:]], path)
     if faults:
         raise Failure(f"{words}: {faults}")
-    return json.loads(text)["best"]["start"]
+    return json.loads(text)
 
 
 def check_errors(asked, known, found, chosen):
@@ -144,12 +145,10 @@ def check_errors(asked, known, found, chosen):
             raise Failure(f"{line}: the errors are {drawn}")
 
 
-def check_when(words, path, count, chosen):
-    """Runs the words that the page gives for `precopy-view when`: they ask for the same starts."""
-    _, text, faults = ran(VIEW, ["json", *words.removesuffix(" < TRACE").split()[1:]], path)
-    if faults:
-        raise Failure(f"{words}: {faults}")
-    found = json.loads(text)
+def check_when(page, path, count, chosen):
+    """The words that the page gives for `precopy-view when` ask for the same starts."""
+    found = told_when(page, path)
     starts = [found[name]["start"] for name in ("best", "worst") if name in found]
     if (len(found["starts"]), starts) != (count, chosen):
+        words = page.browser.value(WHEN)
         raise Failure(f"{words}: {len(found['starts'])} starts, {starts} in place of {count}, {chosen}")

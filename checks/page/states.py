@@ -9,11 +9,11 @@ import re
 
 from checks.lib.tally import expect
 from checks.page import shapes
-from checks.page.acts import plan_starts, read, typed
-from checks.page.cases import example
+from checks.page.acts import example_named, guest_with_record, plan_starts, typed
 from checks.page.looks import ALL_MARKS, GAPS, HEIGHT, MARKS, STARTS_MARKS, check_look, check_names, read_nodes
 from checks.page.saves import saved_files
 from checks.page.worker import end_worker
+from precopy_dev.files import write_file
 
 WIDTHS = [390, 900, 1400]
 FULL_WIDTHS = [360, *WIDTHS, 480, 600, 800, 1024, 1920]
@@ -27,11 +27,6 @@ ROOM_OF_NAME = 80
 SAVED = 8 * 3 + 1
 
 
-def open_with(page, fragment):
-    page.open(fragment)
-    page.wait_for_plan()
-
-
 # ---- The states.
 
 
@@ -42,20 +37,20 @@ def no_trace(page):
 
 def first_look(page):
     """The page with nothing said to it. What is enough for the limit can be taken."""
-    open_with(page, "")
+    page.open_planned("")
     found = page.enough(), page.browser.value("document.querySelectorAll('[data-takes]').length")
     expect(found[1] == 2, f"{found[0]} with {found[1]} to take")
 
 
 def with_starts(page):
-    open_with(page, "#trace=sqlite")
+    page.open_planned("#trace=sqlite")
     plan_starts(page)
     expect(len(page.enough()) > 1, f"enough: {page.enough()}")
 
 
 def kept_plans(page):
     """All that the page has: kept plans beside another, the curves, the tables."""
-    open_with(page, "#trace=sqlite&link=64MiB&first=50&window=500&start=1000&rounds=12")
+    page.open_planned("#trace=sqlite&link=64MiB&first=50&window=500&start=1000&rounds=12")
     page.after("document.getElementById('keep').click(); document.getElementById('control-skip').click()")
     page.after(
         "document.getElementById('keep').click(); document.getElementById('control-rounds').value = '2';"
@@ -65,48 +60,44 @@ def kept_plans(page):
     plan_starts(page)
 
 
-def keep(page):
-    page.after("document.getElementById('keep').click()")
-
-
 def many_kept(page):
     """As many kept plans as there may be: one that is like this, a faster one, and one that ends after the trace."""
-    open_with(page, "#trace=sqlite&link=64MiB&first=50&window=500&start=1000")
-    keep(page)
+    page.open_planned("#trace=sqlite&link=64MiB&first=50&window=500&start=1000")
+    page.clicked("keep")
     typed(page, "link", "640")
-    keep(page)
+    page.clicked("keep")
     typed(page, "start", "37")
     typed(page, "link", "24")
-    keep(page)
+    page.clicked("keep")
     typed(page, "start", "20")
     typed(page, "link", "128")
 
 
 def second_trace(page):
     """A plan over another trace than the one that is open, kept to compare."""
-    open_with(page, "#trace=sqlite&link=64MiB&first=50&window=500&start=1000")
-    keep(page)
-    page.drop(("a-trace-with-a-rather-long-name.light.pcwt", read(example("guests/mid.light.pcwt"))))
+    page.open_planned("#trace=sqlite&link=64MiB&first=50&window=500&start=1000")
+    page.clicked("keep")
+    page.drop(example_named("a-trace-with-a-rather-long-name.light.pcwt", "guests/mid.light.pcwt"))
 
 
 def own_record(page):
     """A trace of one's own, with the record beside it: standard errors of this plan and of a kept one."""
-    open_with(page, "")
-    page.drop(*((f"store.{kind}", read(example(f"guests/sqlite.light.{kind}"))) for kind in ("pcwt", "json")))
-    keep(page)
+    page.open_planned("")
+    page.drop(*guest_with_record("store"))
+    page.clicked("keep")
     typed(page, "rounds", "2")
     expect(page.enough(), "nothing is said of what is enough")
 
 
 def refused_control(page):
-    open_with(page, "#trace=sqlite")
+    page.open_planned("#trace=sqlite")
     plan_starts(page)
     expect(typed(page, "downtime", "90000000")["stale"], "a plan of 90,000 seconds of downtime")
 
 
 def refused_files(page):
     """A file that is no trace, a second trace, and an address of another trace than the open one."""
-    open_with(page, "#trace=gzip")
+    page.open_planned("#trace=gzip")
     page.browser.value("history.replaceState(null, '', '#link=8MiB&downtime=4ms&of=0123456789ab')")
     page.browser.value("dispatchEvent(new PopStateEvent('popstate'))")
     page.drop(("notes.txt", b"no trace"), ("second.pcwt", b"another"))
@@ -120,7 +111,7 @@ def refused_first(page):
 
 def missed_limit(page):
     """A guest that writes faster than the link sends, a number that is none, and a record of another trace."""
-    open_with(page, "#trace=sqlite")
+    page.open_planned("#trace=sqlite")
     page.drop(
         ("heavy.pcwt", shapes.trace(12, 9_000, [(at // 20, at * 7 % 9_000, 1) for at in range(20_000)])),
         ("other.json", b"{}"),
@@ -132,35 +123,29 @@ def missed_limit(page):
 
 def what_is_enough(page):
     """A limit that is missed: what would keep it, a slower guest too."""
-    open_with(page, "#trace=gzip&link=2MB&downtime=4ms&first=40&increase=25&start=400")
+    page.open_planned("#trace=gzip&link=2MB&downtime=4ms&first=40&increase=25&start=400")
     expect(len(page.enough()) == 4, f"enough: {page.enough()}")
 
 
 def uncertain(page):
     """A limit that is kept in each redraw and from each start, but not with two standard errors."""
-    open_with(page, "#trace=sqlite&link=64MiB&first=50&downtime=150ms&start=1000")
-    keep(page)
+    page.open_planned("#trace=sqlite&link=64MiB&first=50&downtime=150ms&start=1000")
+    page.clicked("keep")
     expect(typed(page, "downtime", "10")["mark"] == ["mark", "Uncertain"], "a verdict near its limit is sure")
 
 
 def warm_start(page):
     """A warm start, nearer, with ticks, after a click that has moved the start."""
-    open_with(page, "#trace=sqlite&start=20000&base=15000&ticks=1&skip=1")
-    page.after(
-        "document.getElementById('zoom-plan').click(); document.getElementById('windows-plot').focus();"
-        "for (const key of ['Home', 'ArrowRight', 'Enter']) { document.activeElement.dispatchEvent("
-        "new KeyboardEvent('keydown', { key, bubbles: true })); }"
-    )
+    page.open_planned("#trace=sqlite&start=20000&base=15000&ticks=1&skip=1")
+    page.click("zoom-plan")
+    page.press_in("windows-plot", "Home", "ArrowRight", "Enter")
 
 
 def nothing_fits(page):
     """A short trace: each plan ends after it."""
-    open_with(page, "#trace=sqlite")
+    page.open_planned("#trace=sqlite")
     page.drop(("short.pcwt", shapes.trace(12, 5_000, [(tick, tick % 50, 1) for tick in range(60)])))
-    page.after(
-        "const unit = document.querySelector('[data-control=link] select'); unit.value = 'Mbit';"
-        "unit.dispatchEvent(new Event('change'))"
-    )
+    page.with_unit("link", "Mbit")
     typed(page, "link", "4")
     plan_starts(page)
 
@@ -173,7 +158,7 @@ def old_starts(page):
 
 def ended_worker(page):
     """A planner that ends again and again. The last plan stays."""
-    open_with(page, "#trace=sqlite")
+    page.open_planned("#trace=sqlite")
     page.browser.value("window.isDeadly = true; 0")
     end_worker(page)
     found = typed(page, "rounds", "7")
@@ -182,7 +167,7 @@ def ended_worker(page):
 
 def looked_at(page):
     """A round that the keyboard has come to, and beside it a window that is pointed at."""
-    open_with(page, "#trace=sqlite&link=64MiB&first=50&window=500&start=1000")
+    page.open_planned("#trace=sqlite&link=64MiB&first=50&window=500&start=1000")
     plan_starts(page)
 
 
@@ -232,8 +217,7 @@ ACTS = {
 def put(folder, name, data):
     """Writes a file to a folder, if there is one."""
     if folder:
-        with open(os.path.join(folder, name), "wb") as file:
-            file.write(data)
+        write_file(data, folder, name)
 
 
 def check_state(page, name, folder):
@@ -307,9 +291,7 @@ def check_paper(page, folder):
         browser.value("dispatchEvent(new Event('afterprint'))")
         browser.call("Emulation.setEmulatedMedia", media="")
         expect(not gaps, f"{name} on paper: {gaps}")
-        printed = base64.b64decode(
-            browser.call("Page.printToPDF", printBackground=True, paperWidth=8.27, paperHeight=11.69)["data"]
-        )
+        printed = base64.b64decode(browser.printed())
         put(folder, f"paper-{name}.pdf", printed)
         count = len(re.findall(rb"/Type\s*/Page\b", printed))
         expect(ROUNDS_ON_PAPER in printed, f"{name}: the map lacks its rounds on paper")

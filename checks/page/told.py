@@ -1,8 +1,7 @@
 """What the planner's page announces: a plan once it is drawn, and never that of another trace or of other settings."""
 
 from checks.lib.tally import expect
-from checks.page.acts import read, typed
-from checks.page.cases import example
+from checks.page.acts import example_named, typed
 
 # What is announced, and what the verdict says.
 TOLD = "textOf('told')"
@@ -21,10 +20,9 @@ def require_told(page, what):
 def check_told(page):
     """What is announced is the plan of the trace that is open, of the settings of now, and the answer of starts."""
     page.browser.forget_pages()
-    page.open("#trace=sqlite&link=1Gbit&downtime=300ms&start=1000&rounds=30")
-    page.wait_for_plan()
+    page.open_planned("#trace=sqlite&link=1Gbit&downtime=300ms&start=1000&rounds=30")
     require_told(page, "a first plan")
-    page.drop(("mid.pcwt", read(example("guests/mid.light.pcwt"))))
+    page.drop(example_named("mid.pcwt", "guests/mid.light.pcwt"))
     page.browser.value("new Promise((resume) => setTimeout(resume, 800))")
     require_told(page, "another trace")
     page.ask("trace=sqlite&link=1Gbit&downtime=300ms&start=1000&rounds=30")
@@ -38,5 +36,5 @@ def check_told(page):
         page.after(f"history.{act}()")
         require_told(page, act)
         expect((page.browser.value(TOLD) == slow) == (act == "forward"), f"{act}: {page.browser.value(TOLD)!r}")
-    page.browser.value("document.getElementById('ask').click()")
+    page.click("ask")
     page.browser.wait("textOf('told').startsWith('Best start: ')", 20)

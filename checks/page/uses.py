@@ -4,7 +4,6 @@ that make no plan, units, going back, files that are refused, and a worker that 
 import base64
 import json
 import math
-import os
 import re
 import tempfile
 from fractions import Fraction
@@ -12,11 +11,12 @@ from fractions import Fraction
 from checks.lib.harness import drawn
 from checks.lib.tally import expect
 from checks.page import forecasts, kept, late, limits, links, looking, map, records, saves, shapes, sure, told, worker
-from checks.page.acts import asked, read, spelled, typed
+from checks.page.acts import asked, guest_with_record, spelled, typed
 from checks.page.cases import example
 from checks.page.manners import MANNERS
 from checks.page.shown import tried
 from checks.view.limit_cases import RATES, TIMES
+from precopy_dev.files import read_bytes, write_file
 
 DROPPED = 50
 
@@ -36,8 +36,7 @@ def settled(page):
 
 
 def check_shape(page, number, text):
-    page.open()
-    page.wait_for_plan()
+    page.open_planned()
     said = page.drop((f"shape-{number}.pcwt", text))
     found = page.shown()
     expect(f"shape-{number}.pcwt: " in said, said)
@@ -48,8 +47,7 @@ def check_shape(page, number, text):
 
 def check_refused_below(page):
     """A file that is refused while the section of the trace is out of sight is refused in sight."""
-    page.open("#trace=gzip")
-    page.wait_for_plan()
+    page.open_planned("#trace=gzip")
     page.browser.value("scrollTo(0, document.body.scrollHeight)")
     page.browser.wait("document.getElementById('trace').getBoundingClientRect().bottom < 0", 5)
     page.browser.value("new Promise((resume) => setTimeout(resume, 200))")
@@ -61,15 +59,14 @@ def check_refused_below(page):
     }).map((part) => part.textContent)"""
     )
     expect(len(seen) == 1 and seen[0].startswith("bad.txt is refused: E1 "), f"in sight: {seen}")
-    page.browser.value("document.getElementById('close-notice').click()")
+    page.click("close-notice")
     page.becomes("document.getElementById('notice').hidden", True, "a notice that was closed")
 
 
 def check_names(page):
     """The names of files stand apart from the words round them, in whatever direction they are written."""
-    page.open("#trace=gzip")
-    page.wait_for_plan()
-    trace, record = (read(example(f"guests/sqlite.light.{kind}")) for kind in ("pcwt", "json"))
+    page.open_planned("#trace=gzip")
+    trace, record = (text for _, text in guest_with_record("a"))
     page.drop(("\u05d0-1.pcwt", trace), ("\u05d0-1.json", record), ("\u05d0-2.pcwt", trace))
     page.drop(("\u05d0-3.txt", b"text"))
     named = page.browser.value("[...document.querySelectorAll('#trace bdi')].map((name) => name.textContent)")
@@ -78,9 +75,8 @@ def check_names(page):
 
 def check_files(page):
     """Of two traces the second is named; a bad file leaves the good one, and its plan."""
-    good = read(example("guests/mid.light.pcwt"))
-    page.open()
-    page.wait_for_plan()
+    good = read_bytes(example("guests/mid.light.pcwt"))
+    page.open_planned()
     said = page.drop(("one.pcwt", good), ("two.pcwt", good), ("a.txt", b"text"))
     expect("Not opened: two.pcwt, a.txt." in said and "one.pcwt: " in said, said)
     first = page.browser.value("document.getElementById('control-first').value")
@@ -90,26 +86,21 @@ def check_files(page):
     expect("bad.pcwt is refused: E8 record" in said and "one.pcwt is still open." in said, said)
     expect(page.shown() == before, "a bad file has changed the plan")
     expect(page.browser.value("textOf('trace-state')").startswith("one.pcwt: 26,715 pages"), said)
-    expect(
-        not typed(page, "rounds", "7")["refused"],
-        "no plan after a bad file",
-    )
-    said = page.drop(("bad.pcwt", good[:-1]), ("good.pcwt", read(example("gzip.pcwt"))), ("more.pcwt", good))
+    expect(not typed(page, "rounds", "7")["refused"], "no plan after a bad file")
+    said = page.drop(("bad.pcwt", good[:-1]), ("good.pcwt", read_bytes(example("gzip.pcwt"))), ("more.pcwt", good))
     expect("bad.pcwt is refused: E8 record" in said and "good.pcwt: 25 pages" in said, said)
     expect("Not opened: more.pcwt." in said and "still open" not in said, said)
     page.drop(("one.pcwt", good))
     # One after another, without waiting: the worker and the page have the same trace open then.
     before = page.browser.value("opened")
-    for name, text in (("three.pcwt", read(example("gzip.pcwt"))), ("bad.pcwt", good[:-1])):
+    for name, text in (("three.pcwt", read_bytes(example("gzip.pcwt"))), ("bad.pcwt", good[:-1])):
         page.browser.value(f"drop([[{json.dumps(name)}, {json.dumps(base64.b64encode(text).decode())}]])")
     page.browser.wait(f"opened === {before + 2} && isDrawn()")
     said = page.browser.value("textOf('trace-notes') + ' | ' + textOf('trace-state')")
     expect("three.pcwt is still open." in said and "three.pcwt: 25 pages" in said, said)
     expect(page.shown()["rounds"][0][4] == "25", f"rounds of another trace: {page.shown()['rounds'][0]}")
     with tempfile.TemporaryDirectory() as folder:
-        path = os.path.join(folder, "chosen.pcwt")
-        with open(path, "wb") as file:
-            file.write(good)
+        path = write_file(good, folder, "chosen.pcwt")
         said = page.load(path, example("guests/sqlite.light.json"))
     expect("chosen.pcwt: " in said and "sqlite.light.json is not used: " in said, said)
 
@@ -168,10 +159,7 @@ def check_refused(page, name, text, unit, grain):
     before = page.shown()
     page.browser.value("unfold()")
     if unit not in (None, "ticks"):
-        page.after(
-            f"const unit = document.querySelector('[data-control={name}] select'); unit.value = '{unit}';"
-            "unit.dispatchEvent(new Event('change'))"
-        )
+        page.with_unit(name, unit)
     page.browser.value(f"document.getElementById('control-{name}').focus()")
     found = typed(page, name, text)
     expect(found["refused"] == name and found["stale"], f"{name} {text} {unit}: {found['refused']}, {found['fault']}")
@@ -273,12 +261,7 @@ def check_same_amounts(page, draw):
         before = without_units(page.shown())
         for _ in range(5):
             unit = draw.choice(sorted(units))
-            found = without_units(
-                page.after(
-                    f"const unit = document.querySelector('[data-control={name}] select');"
-                    f"unit.value = '{unit}'; unit.dispatchEvent(new Event('change'))"
-                )
-            )
+            found = without_units(page.with_unit(name, unit))
             differing = [key for key in found if found[key] != before[key]]
             expect(not differing, f"{name} {some} in {unit}: other {differing}")
         settled(page)
@@ -301,8 +284,7 @@ def check_units(page):
 def check_back(page):
     """Back and forward go through settings; a click on the working set has a way back."""
     page.browser.forget_pages()
-    page.open("#trace=sqlite&link=1Gbit&rounds=30")
-    page.wait_for_plan()
+    page.open_planned("#trace=sqlite&link=1Gbit&rounds=30")
     page.browser.wait("location.hash.includes('window=')", 5)
     for rounds in ("7", "8"):
         typed(page, "rounds", rounds)
@@ -322,7 +304,7 @@ def check_back(page):
     )
     moved = page.browser.value("ticksOf('start')")
     expect(moved != start and "The start is moved" in page.browser.value("textOf('moved')"), f"{start}, {moved}")
-    page.after("document.getElementById('undo-start').click()")
+    page.clicked("undo-start")
     expect(page.browser.value("ticksOf('start')") == start, "Undo keeps the start")
     page.browser.value(
         """(() => {
@@ -333,7 +315,7 @@ def check_back(page):
     })()"""
     )
     expect(page.browser.value("ticksOf('start')") == start, "a finger takes a start")
-    page.after("document.getElementById('windows-take').click()")
+    page.clicked("windows-take")
     expect(page.browser.value("ticksOf('start')") != start, "a finger cannot take one")
 
 
@@ -341,15 +323,15 @@ def check_warm(page):
     """A copy is from before the start, and the best start is not the tick of the copy."""
     for start in ("0", "1000", "20000"):
         page.ask(f"trace=sqlite&link=1Gbit&start={start}&base=none")
-        found = page.after("document.getElementById('control-warm').click()")
+        found = page.clicked("control-warm")
         base, at = page.browser.value("['base', 'start'].map(ticksOf)")
         expect(base < at and found["rounds"][0][4] != "0", f"start {start}: copy {base}, start {at}")
-    page.browser.value("document.getElementById('ask').click()")
+    page.click("ask")
     page.browser.wait(
         "document.querySelector('#starts-choice p') !== null && !document.getElementById("
         "'starts-answer').hidden && document.getElementById('starts-progress').hidden"
     )
-    page.after("document.getElementById('take-best').click()")
+    page.clicked("take-best")
     best = page.browser.value("ticksOf('start')")
     expect(best > base, f"the best start is {best}, the copy {base}")
     found = page.ask(f"trace=sqlite&link=1Gbit&start={base}&base={base}")
@@ -366,8 +348,7 @@ def check_uses(tally, page):
         text = corners[draw.number] if draw.number < len(corners) else shapes.random_shape(draw)
         tried(tally, str(draw), check_shape, page, draw.number, text)
     records.check_all(tally, page)
-    page.open("#trace=sqlite")
-    page.wait_for_plan()
+    page.open_planned("#trace=sqlite")
     for case in REFUSED:
         tried(tally, f"refused: {case}", check_refused, page, *case)
     for words, check in USES.items():

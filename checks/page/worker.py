@@ -14,8 +14,7 @@ def end_worker(page):
 
 def check_worker(page):
     """A worker that ends is started again, whether the page hears of it or not; starts can be cancelled."""
-    page.open("#trace=sqlite&link=1Gbit&rounds=30")
-    page.wait_for_plan()
+    page.open_planned("#trace=sqlite&link=1Gbit&rounds=30")
     before = page.shown()
     end_worker(page)
     expect(typed(page, "rounds", "7")["refused"] is None, "no plan by another worker")
@@ -26,12 +25,12 @@ def check_worker(page):
     found = typed(page, "rounds", "7")
     expect("the planner ended" in found["verdict"] and found["stale"], f"after three ends: {found['verdict']}")
     page.browser.value("window.isDeadly = false; 0")
-    found = page.after("document.getElementById('try-again').click()")
+    found = page.clicked("try-again")
     expect(found["refused"] is None and not found["stale"], f"tried again: {found['verdict']}")
     expect(typed(page, "rounds", "30") == before, "no plan after three ends")
-    page.browser.value("document.getElementById('ask').click()")
+    page.click("ask")
     expect(page.browser.value("textOf('ask')") == "Cancel", page.browser.value("textOf('ask')"))
-    page.browser.value("document.getElementById('ask').click()")
+    page.click("ask")
     page.browser.wait("textOf('ask').startsWith('Plan ')", 5)
     expect(page.browser.value("document.getElementById('starts-answer').hidden"), "an answer that was cancelled")
     expect(typed(page, "rounds", "30") == before, "no plan after a cancel")
@@ -50,8 +49,7 @@ ENDS = {"ends itself": "workers.at(-1).postMessage({ name: 'end' })", "is ended"
 
 def check_ended(page):
     """A worker that ends without a word is replaced at once, also while nothing is asked of it."""
-    page.open("#trace=sqlite&link=1Gbit&rounds=30")
-    page.wait_for_plan()
+    page.open_planned("#trace=sqlite&link=1Gbit&rounds=30")
     page.browser.value(MORTAL)
     end_worker(page)
     page.browser.wait("workers.length === 2", SECONDS_OF_END)

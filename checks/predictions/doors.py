@@ -17,6 +17,7 @@ from checks.lib.tally import Failure, LeftOut, module, why_not
 from checks.lib.view_texts import parsed, ran
 from checks.page.node import asked_of_package
 from checks.predictions.questions import Asked
+from precopy_dev.files import read_bytes
 from precopy_dev.interface import lower_camel
 from precopy_dev.tree import TOP
 from precopy_tools.predict import command
@@ -273,8 +274,7 @@ class Python(Library):
     def told(self, asked: Asked) -> object:
         import precopy  # noqa: PLC0415
 
-        with open(asked.trace.path, "rb") as file:
-            trace = precopy.OpenTrace(file.read())
+        trace = precopy.OpenTrace(read_bytes(asked.trace.path))
         question = precopy.Question(**vars(asked.question))
         try:
             it = trace.predict(question)

@@ -5,7 +5,6 @@ of `page_shapes` with a NAME.json of random numbers.
 """
 
 import itertools
-import json
 import math
 import os
 import random
@@ -21,6 +20,7 @@ from checks.lib.migration_model import Question
 from checks.lib.traces import Trace
 from checks.page import shapes as page_shapes
 from checks.predictions.model import in_longer_ticks
+from precopy_dev.files import read_bytes, read_json, write_file
 from precopy_dev.tree import TOP
 from precopy_tools.formats import samples
 
@@ -49,13 +49,6 @@ class Asked(NamedTuple):
 # ---- Traces and records.
 
 
-def put(folder: str, name: str, text: bytes) -> str:
-    path = os.path.join(folder, name)
-    with open(path, "wb") as file:
-        file.write(text)
-    return path
-
-
 def is_fit(text: bytes) -> bool:
     pages, writes = struct.unpack_from("<II", text, 8)
     return writes >= LEAST_WRITES and pages <= MOST_PAGES
@@ -64,11 +57,11 @@ def is_fit(text: bytes) -> bool:
 def small(draw: random.Random, folder: str) -> str:
     """A small trace, in one of the versions of the format."""
     found = filter(is_fit, (traces.generated(draw) for _ in range(100)))
-    return put(folder, f"{name_of(draw)}.pcwt", next(found))
+    return write_file(next(found), folder, f"{name_of(draw)}.pcwt")
 
 
 def shape(draw: random.Random, folder: str) -> str:
-    return put(folder, f"{name_of(draw)}.pcwt", page_shapes.fit_shape(draw, is_fit))
+    return write_file(page_shapes.fit_shape(draw, is_fit), folder, f"{name_of(draw)}.pcwt")
 
 
 def name_of(draw: random.Random) -> str:
@@ -86,8 +79,7 @@ def thinned(folder: str) -> str:
 def recorded(draw: random.Random, path: str) -> str:
     """Writes a NAME.json of random numbers beside a trace, which is a record then."""
     trace = Trace.at(path)
-    with open(path, "rb") as file:
-        text = file.read()
+    text = read_bytes(path)
     pages = trace.pages
     sampled = draw.randrange(pages, 2 * pages + 1)
     guest = sampled * draw.choice([1, draw.randrange(1, 300)])
@@ -113,8 +105,7 @@ def recorded(draw: random.Random, path: str) -> str:
         taken_at=samples.now(),
         taken_of="no guest",
     )
-    with open(samples.path_beside(path), "wb") as file:
-        file.write(told.text())
+    write_file(told.text(), samples.path_beside(path))
     return path
 
 
@@ -208,7 +199,7 @@ def of_record(draw: random.Random, folder: str, trace: Trace, told: dict) -> Ask
     longer, writes = in_longer_ticks(asked, told, trace)
     text = page_shapes.trace(trace.size.bit_length() - 1, trace.pages, [(*write, 1) for write in writes])
     name = f"{os.path.basename(trace.path)}-{longer.tick}.pcwt"
-    return Asked(longer, Trace.at(put(folder, name, text)), words)
+    return Asked(longer, Trace.at(write_file(text, folder, name)), words)
 
 
 def asked_of_trace(draw: Draw, path: str, count: int) -> list[Asked]:
@@ -217,8 +208,7 @@ def asked_of_trace(draw: Draw, path: str, count: int) -> list[Asked]:
 
 
 def asked_of_record(draw: Draw, folder: str, path: str, count: int) -> list[Asked]:
-    with open(samples.path_beside(path), encoding="utf-8") as file:
-        trace, told = Trace.at(path), json.load(file)
+    trace, told = Trace.at(path), read_json(samples.path_beside(path))
     return [of_record(draw, folder, trace, told)._replace(draw=draw) for _ in range(count)]
 
 

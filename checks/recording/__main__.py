@@ -8,6 +8,7 @@ needed for it, cases that need them are left out. A case in which something was 
 more, alone.
 """
 
+import contextlib
 import functools
 import json
 import os
@@ -35,7 +36,9 @@ from checks.recording import (
     series_cases,
 )
 from checks.recording.known_writes import LATER_PAGES, PACE, PAGE, PAGES, STEPS, ended, step
-from checks.recording.recorder_runs import RECORD, TOP, Recording, Writing, expect_nothing, expect_whole, recorded
+from checks.recording.recorder_runs import RECORD, TOP, Recording, Writing, expect_whole, recorded
+from precopy_dev.files import write_file
+from precopy_tools.qemu import qmp
 
 # The ticks by which the recorder's clock may begin earlier than is known here, and by which a look may be late.
 SLACK, LATE = 300, 60
@@ -256,7 +259,7 @@ def first_too_large(_, folder):
         with Writing(folder, False) as writing:
             recording = Recording(folder, writing.source, words)
             recording.end()
-        expect_nothing(recording, 1, "record: ", "at most")
+        recording.expect_nothing(1, "record: ", "at most")
 
 
 def guest_too_large(_, folder):
@@ -265,7 +268,7 @@ def guest_too_large(_, folder):
         file.truncate(65_537 * PAGE)
     recording = Recording(folder, ["--file", path], [])
     recording.end()
-    expect_nothing(recording, 2, "65,537 pages", "pages are drawn", ".light.pcwt")
+    recording.expect_nothing(2, "65,537 pages", "pages are drawn", ".light.pcwt")
 
 
 def process_ends(program, folder):
@@ -292,8 +295,7 @@ def file_ends(program, folder):
 
 def bad_sources(_, folder):
     short, memory = os.path.join(folder, "socket"), os.path.join(folder, "memory")
-    with open(short, "wb") as file:
-        file.write(b"123")
+    write_file(b"123", short)
     with open(memory, "wb") as file:
         file.truncate(PAGE)
     for source, status, word in (
@@ -309,7 +311,7 @@ def bad_sources(_, folder):
     ):
         recording = Recording(folder, source, ["--image", os.path.join(folder, "image")])
         recording.end()
-        expect_nothing(recording, status, word)
+        recording.expect_nothing(status, word)
     for words, name, word in (
         (["--image", "-"], "guest.pcwt", "with a name"),
         (["--light"], "guest.pcwt", ".light.pcwt"),
@@ -317,7 +319,7 @@ def bad_sources(_, folder):
     ):
         recording = Recording(folder, ["--file", memory], words, name)
         recording.end()
-        expect_nothing(recording, 2, word)
+        recording.expect_nothing(2, word)
 
 
 # ---- A stand-in for QEMU's machine protocol.
@@ -403,6 +405,33 @@ def paused_before(program, folder):
 def machine_gone(program, folder):
     recording = paused(program, folder, connections=1)
     expect("was not paused for the last sample" in recording.faults, recording.faults)
+
+
+class LateMachine(Machine):
+    """One that answers `stop` when nobody waits for it any more."""
+
+    def run(self):
+        with contextlib.suppress(OSError):
+            super().run()
+
+    def serve(self, stream, command):
+        time.sleep(1 if command == "stop" else 0)
+        self.asked.append(command)
+        with contextlib.suppress(OSError):
+            self.say(stream, {"return": {"running": True}})
+
+
+def stopped_late(_, folder):
+    """A guest that is not stopped in time may be stopped later: it is told to go on."""
+    path = os.path.join(folder, "socket")
+    machine = LateMachine(path, "", True, connections=1)
+    try:
+        with qmp.paused(path, 0.3):
+            raise AssertionError("it is stopped in time")
+    except qmp.Fault as fault:
+        expect("stop: no answer within 0.3 s" in str(fault), str(fault))
+    machine.join(10)
+    expect(machine.asked == ["qmp_capabilities", "query-status", "stop", "cont"], f"asked: {machine.asked}")
 
 
 CASES = [

@@ -7,6 +7,7 @@ import sys
 from checks.lib import harness
 from checks.lib.harness import cases_of, expect
 from checks.recording.recorder_runs import SECONDS, TOP
+from precopy_dev.files import write_file
 from precopy_tools.qemu import guest, migration
 
 COMPARE = os.path.join(TOP, "tools", "compare-qemu")
@@ -33,9 +34,7 @@ def nodes_of_any_size(_, __):
 
 def added_to_a_guest(_, folder):
     """A file keeps its name, a program has its libraries with it, and what is no file is refused."""
-    script = os.path.join(folder, "a script")
-    with open(script, "w", encoding="ascii") as file:
-        file.write("echo hello\n")
+    script = write_file("echo hello\n", folder, "a script")
     expect(guest.added_files(script) == [("bin/a script", script)], f"{guest.added_files(script)}")
     found = guest.added_files(sys.executable)
     expect(found[0] == (f"bin/{os.path.basename(sys.executable)}", sys.executable), f"{found}")

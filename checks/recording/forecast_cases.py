@@ -14,6 +14,7 @@ from checks.lib import harness
 from checks.lib.amount_texts import size_text
 from checks.lib.harness import cases_of, expect
 from checks.recording.recorder_runs import SECONDS, TOP
+from precopy_dev.files import read_bytes, read_json, read_text, write_file
 from precopy_tools import places, refusals
 from precopy_tools.formats import samples, traces
 from precopy_tools.predict import clark, day_chart, forecast, plans
@@ -44,8 +45,7 @@ def run(tool, *words, status=0):
 
 
 def read_trace(path):
-    with open(path, "rb") as file:
-        return traces.read(file.read())
+    return traces.read(read_bytes(path))
 
 
 def made_trace(path, pages=4096, ticks=8000, rate=2):
@@ -94,15 +94,13 @@ def damaged_fields(_, folder):
     beside = samples.path_beside(path)
     made_trace(os.path.join(folder, "whole.pcwt"))
     run_thin(os.path.join(folder, "whole.pcwt"), path, "--one-in", "4", "--start", "1000")
-    with open(beside, encoding="utf-8") as file:
-        fields = json.load(file)
+    fields = read_json(beside)
     fields.update(method="values", counted_pages=4000, samples=80)
     trace = read_trace(path)
     written = [record[:2] for record in trace.records()]
 
     def refusal(text):
-        with open(beside, "w", encoding="utf-8") as file:
-            file.write(text)
+        write_file(text, beside)
         try:
             samples.read(path, trace, written)
         except refusals.Refused as refused:
@@ -134,10 +132,8 @@ def damaged_beside_tools(_, folder):
     made_trace(whole)
     run_thin(whole, path, "--one-in", "4", "--start", "1000")
     beside = samples.path_beside(path)
-    with open(beside, encoding="utf-8") as file:
-        text = file.read()
-    with open(beside, "w", encoding="utf-8") as file:
-        file.write(text.replace('"seed": 0', '"seed": -1'))
+    text = read_text(beside)
+    write_file(text.replace('"seed": 0', '"seed": -1'), beside)
     for tool, words in ((run_predict, [path, *LINK]), (run_thin, [path, other, "--one-in", "2"])):
         printed, refused = tool(*words, status=1)
         expect(not printed and "seed is not a number" in refused, refused)
@@ -152,8 +148,7 @@ def refused_traces(_, folder):
     path = os.path.join(folder, "guest.pcwt")
     made_trace(os.path.join(folder, "whole.pcwt"), pages=64, ticks=200)
     run_thin(os.path.join(folder, "whole.pcwt"), path, "--one-in", "1", "--start", "1000")
-    with open(path, "rb") as file:
-        text = file.read()
+    text = read_bytes(path)
     names = set()
     for draws in harness.drawn("damaged records", range(60)):
         damaged = bytearray(text)
@@ -162,8 +157,7 @@ def refused_traces(_, folder):
         damaged = damaged[: draws.choice((len(text), draws.randrange(len(text)), len(text)))] + b"x" * (
             draws.number % 5 == 4
         )
-        with open(path, "wb") as file:
-            file.write(damaged)
+        write_file(damaged, path)
         printed, refused = run_predict(path, *LINK, status=1)
         name = re.match(rf"predict: {re.escape(path)}: (E\d+)(?: record \d+)?: \w", refused)
         expect(not printed and (name or "trace_sha256" in refused or "does not fit" in refused), refused)
@@ -199,6 +193,7 @@ def thinned_pages(_, folder):
         ([whole, os.path.join(folder, "a.pcwt")], 2, "--one-in"),
         ([whole, os.path.join(folder, "none", "a.pcwt"), "--one-in", "2"], 1, "No such file"),
         ([text, os.path.join(folder, "a.pcwt"), "--one-in", "2"], 1, f"{text}: E2: it does not begin with PCWT"),
+        (["/dev/zero", os.path.join(folder, "a.pcwt"), "--one-in", "2"], 1, "/dev/zero: E15: it has more than 2^28 "),
     ):
         _, refused = run_thin(*words, status=status)
         expect(said in refused, refused)
@@ -388,11 +383,9 @@ def made_series(folder, moments):
         run_thin(whole, part, "--one-in", "2", "--seed", str(number), "--start", "1000")
         path = os.path.join(folder, f"guest.{moment:%Y%m%dT%H%M%SZ}.light.pcwt")
         os.rename(part, path)
-        with open(samples.path_beside(part), encoding="utf-8") as file:
-            fields = json.load(file)
+        fields = read_json(samples.path_beside(part))
         fields["taken_at"] = moment.isoformat()
-        with open(samples.path_beside(path), "w", encoding="utf-8") as file:
-            json.dump(fields, file)
+        write_file(json.dumps(fields), samples.path_beside(path))
         os.unlink(samples.path_beside(part))
         paths.append(path)
     os.unlink(whole)
@@ -492,8 +485,7 @@ def pictures_of_any_starts(_, folder):
             )
             for _ in range(draws.randrange(1, 40))
         ]
-        with open(path, "w", encoding="utf-8") as file:
-            file.write(day_chart.drawn(starts, f'<{draws}> & "others"'))
+        write_file(day_chart.drawn(starts, f'<{draws}> & "others"'), path)
         dots = pictured(path)
         expect(len(dots) == 3 * len(starts), f"{len(dots)} dots")
         for number, (x, y, _, text) in enumerate(dots):

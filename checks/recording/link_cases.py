@@ -11,6 +11,7 @@ from checks.lib.harness import cases_of, drawn, expect
 from checks.lib.tally import module
 from checks.lib.view_texts import schema_of
 from checks.recording.forecast_cases import VIEW, run_predict
+from precopy_dev.files import read_text
 from precopy_dev.models import courses, redrawn
 from precopy_dev.tree import TOP
 from precopy_tools.formats import samples, traces
@@ -20,7 +21,6 @@ SQLITE = os.path.join(TOP, "examples", "guests", "sqlite.light.pcwt")
 BEGUN = datetime.datetime(2026, 11, 26, 23, 59, 58, tzinfo=datetime.timezone.utc)
 NOON = BEGUN.replace(hour=12, minute=0, second=0)
 LINKS, RECORDS, WORDS = 2000, 150, 60
-STATUSES = {"yes": 0, "no": 3, "unknown": 4, "uncertain": 5}
 
 
 class Record(NamedTuple):
@@ -121,8 +121,7 @@ def what_goes_without(_, folder):
     picture = os.path.join(folder, "day.svg")
     printed, refused = run_predict(SQLITE, still, *words, "--picture", picture, status=1)
     expect("--picture needs a link that stays" in refused and printed.count("\n") == 1, f"{printed}, {refused}")
-    with open(picture, encoding="utf-8") as file:
-        expect("64.00 MiB a second, from 05:38:55 UTC 32.00, downtime limit 300 ms" in file.read(), "another title")
+    expect("64.00 MiB a second, from 05:38:55 UTC 32.00, downtime limit 300 ms" in read_text(picture), "another title")
 
 
 def drawn_record(draw):

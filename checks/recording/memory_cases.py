@@ -21,6 +21,7 @@ from checks.lib.tally import expect_in_time
 from checks.recording import known_guest
 from checks.recording.recorder_runs import RECORD, SECONDS, TOP, read_until_recording
 from checks.recording.sample_runs import Drawn
+from precopy_dev.files import write_file
 from precopy_tools.formats import samples, traces
 from precopy_tools.qemu import qmp
 from precopy_tools.record import guest_memory, mappings, series
@@ -209,17 +210,18 @@ def never_the_guest(_, folder):
 
 def largest_or_refused(_, folder):
     """The largest is taken if no other is an eighth of it; else all of them are told with their sizes."""
+    # An eighth is more than a stack of 8 MiB, which is not known to be one while its thread runs.
     code = {"code": 40_000}
-    with Known(folder, {"nodes": [["a", "memfd", 16_384], ["b", "file", 2047]], **code}) as known:
+    with Known(folder, {"nodes": [["a", "memfd", 32_768], ["b", "file", 4095]], **code}) as known:
         expect(mappings.chosen(known.pid, ["largest"]) == [known.ranges()["a"]], "not the largest")
         drawn = Drawn(folder, ["--pid", str(known.pid), "--mapping", "largest"], ["--pages", "200", "--for", "100ms"])
         drawn.end()
         _, _, sample = drawn.expect_whole()
-        expect(sample.guest_pages == 16_384 and "left out: ROM, video memory, firmware" in drawn.output, drawn.output)
+        expect(sample.guest_pages == 32_768 and "left out: ROM, video memory, firmware" in drawn.output, drawn.output)
         for name in ("guest.light.pcwt", "guest.light.json", "map"):
             os.unlink(os.path.join(folder, name))
-    for second in (2048, 16_384):
-        with Known(folder, {"nodes": [["a", "memfd", 16_384], ["b", "file", second]], **code}) as known:
+    for second in (4096, 32_768):
+        with Known(folder, {"nodes": [["a", "memfd", 32_768], ["b", "file", second]], **code}) as known:
             drawn = Drawn(folder, ["--pid", str(known.pid), "--mapping", "largest"])
             drawn.end()
             ranges = known.ranges().values()
@@ -437,9 +439,7 @@ def virsh_in(folder, known, identity, garbled=False):
     """An environment with a `virsh` that speaks to the monitor of the stand-in."""
     programs = programs_in(folder)
     text = VIRSH.format(python=sys.executable, identity=str(identity), socket=known.socket, garbled=garbled)
-    path = os.path.join(programs, "virsh")
-    with open(path, "w", encoding="utf-8") as file:
-        file.write(text)
+    path = write_file(text, programs, "virsh")
     os.chmod(path, stat.S_IRWXU)
     return {**os.environ, "PATH": programs, "PYTHONDONTWRITEBYTECODE": "1"}
 

@@ -11,6 +11,7 @@ import time
 from checks.lib.harness import expect
 from checks.lib.tally import Late
 from checks.recording.known_writes import PAGE, PAGES
+from precopy_dev.files import read_bytes
 from precopy_dev.tree import TOP
 from precopy_tools.formats import traces
 
@@ -64,6 +65,8 @@ def read_until_recording(lines):
 class Started:
     """One run of a recorder into a folder, from its first sample on."""
 
+    MAY_BE_LEFT = ("memory", "socket")
+
     def __init__(self, folder, words, path, errors=subprocess.PIPE, **more):
         self.folder = folder
         command = [*words, path]
@@ -80,6 +83,14 @@ class Started:
             raise Late(f"the recorder does not end: {late}") from late
         self.output, self.status = self.began + rest, self.process.returncode
 
+    def expect_nothing(self, status, *words):
+        """A recorder that was refused says these words, and leaves nothing of its own."""
+        expect(self.status == status, f"status {self.status}, {self.output!r}, {self.faults!r}")
+        for word in words:
+            expect(word in self.faults, f"{word!r} is not in {self.faults!r}")
+        left = [name for name in os.listdir(self.folder) if name not in self.MAY_BE_LEFT]
+        expect(not left, f"left: {left}")
+
 
 class Recording(Started):
     """A run of tools/record that writes all of a trace."""
@@ -91,12 +102,10 @@ class Recording(Started):
         self.known_begin = time.monotonic()
 
     def trace(self):
-        with open(self.trace_path, "rb") as file:
-            return traces.read(file.read())
+        return traces.read(read_bytes(self.trace_path))
 
     def image(self):
-        with open(self.image_path, "rb") as file:
-            return file.read()
+        return read_bytes(self.image_path)
 
     def places(self):
         """The place in the source of each page of the trace."""
@@ -127,14 +136,6 @@ def expect_whole(program, recording, status=0):
     behind = [record for record in records if record[0] > 0]
     expect(all(record[0] > 1000 for record in behind), "a write stands before tick 1000 and is not of the first sample")
     return trace, behind
-
-
-def expect_nothing(recording, status, *words):
-    expect(recording.status == status, f"status {recording.status}, {recording.faults!r}")
-    for word in words:
-        expect(word in recording.faults, f"{word!r} is not in {recording.faults!r}")
-    left = [name for name in os.listdir(recording.folder) if name not in ("memory", "socket")]
-    expect(not left, f"left: {left}")
 
 
 def recorded(folder, private, *words, name="guest.pcwt", end=signal.SIGINT):

@@ -1,5 +1,6 @@
 """Cases of checks/recording: guests that do not run, names of records, what is told as JSON, and refusals in words."""
 
+import datetime
 import json
 import os
 import re
@@ -11,11 +12,13 @@ import sys
 import tempfile
 import time
 
+from checks.lib.harness import cases_of
 from checks.lib.tally import LeftOut, expect_in_time, module, need
 from checks.recording import forecast_cases
 from checks.recording.memory_cases import Known
 from checks.recording.recorder_runs import RECORD, SECONDS, TOP, Writing, expect, read_until_recording
 from checks.recording.sample_runs import Drawn, Pages
+from precopy_dev.files import read_json, read_text, write_file
 from precopy_tools.formats import samples
 from precopy_tools.qemu import qmp
 from precopy_tools.record import series
@@ -33,8 +36,7 @@ PROTECTED += " ProtectControlGroups DevicePolicy ReadOnlyPaths InaccessiblePaths
 
 
 def sample_in(path):
-    with open(samples.path_beside(path), encoding="utf-8") as file:
-        return json.load(file)
+    return read_json(samples.path_beside(path))
 
 
 def expect_share(drawn, least, most):
@@ -170,8 +172,7 @@ def services_with_protections(_, __):
     """Both services have the same protections, so that one guest is recorded with no more rights than all."""
     found = []
     for name in (UNIT, UNIT_OF_ALL):
-        with open(os.path.join(TOP, "packaging", name), encoding="utf-8") as file:
-            found.append(dict(line.split("=", 1) for line in file.read().splitlines() if "=" in line))
+        found.append(dict(line.split("=", 1) for line in read_text(TOP, "packaging", name).splitlines() if "=" in line))
     for name in PROTECTED.split():
         rights = [unit.get(name) for unit in found]
         expect(rights[0] and rights[0] == rights[1], f"{name}: {rights}")
@@ -207,6 +208,21 @@ def records_elsewhere(_, folder):
     expect("--record and --when are of one trace" in faults, faults)
 
 
+def words_of_one_trace(_, folder):
+    """What is told of one trace is refused of a series with several, and told of a series with a single one."""
+    begin = datetime.datetime(2026, 11, 26, 22, 0, tzinfo=datetime.timezone.utc)
+    paths = forecast_cases.made_series(folder, [begin, begin + datetime.timedelta(hours=1)])
+    name, link = os.path.join(folder, "guest.light.pcwt"), ["--link", "20MiB", "--downtime", "2ms"]
+    for more in (["--when"], ["--reached", "0.5..1"], ["--record", samples.path_beside(paths[0])]):
+        found = forecast_cases.run_predict(name, *link, *more, status=1)
+        said = "predict: --record, --reached and --when are of one trace, and this is a series\n"
+        expect(found == ("", said), f"{more}: {found}")
+    os.unlink(paths[1])
+    found = forecast_cases.run_predict(name, *link, "--when", status=None)
+    expect(found == forecast_cases.run_predict(paths[0], *link, "--when", status=None), f"{found}")
+    expect("best" in found[0], f"{found}")
+
+
 def silent_monitors(_, folder):
     """A QEMU that does not answer is told apart from one whose monitor somebody else has."""
     with Known(folder, LAYOUT) as known:
@@ -232,10 +248,8 @@ def fault_of(path):
 
 def schema_of_records(_, folder):
     """The published schema of NAME.json takes what the reader takes, and refuses what it refuses field by field."""
-    with open(os.path.join(TOP, "docs", "record.schema.json"), encoding="utf-8") as file:
-        schema = json.load(file)
-    with open(VALUES, encoding="utf-8") as file:
-        values = json.load(file)
+    schema = read_json(TOP, "docs", "record.schema.json")
+    values = read_json(VALUES)
     fields = {**sample_in(RECORDED), "ran_share": 0.5}
     expect(list(schema["properties"]) == list(samples.FIELDS), f"{list(schema['properties'])}")
     expect(set(schema["required"]) == set(samples.FIELDS) - samples.OPTIONAL, f"{schema['required']}")
@@ -253,8 +267,7 @@ def schema_of_records(_, folder):
 def told_as_json(_, folder):
     """Each tool with --json prints documents, a line for each, and nothing else."""
     text, trace, again = (os.path.join(folder, name) for name in ("a.text", "a.pcwt", "b.pcwt"))
-    with open(text, "w", encoding="ascii") as file:
-        file.write("pages 4 size 16\n0 0 0 01\n5 1 15 02\n9000 1 0 03\n")
+    write_file("pages 4 size 16\n0 0 0 01\n5 1 15 02\n9000 1 0 03\n", text)
     thin = os.path.join(folder, "thin.light.pcwt")
     with Pages("private") as pages:
         drawn = os.path.join(folder, "guest.light.pcwt")
@@ -276,17 +289,4 @@ def told_as_json(_, folder):
     expect(json.loads(told)["record"]["trace_pages"] > 0, told)
 
 
-CASES = [
-    paused_while_recorded,
-    stopped_while_recorded,
-    segments_that_stood_still,
-    light_names_draw,
-    one_recorder_a_name,
-    named_by_their_begin,
-    services_with_dashes,
-    words_too_little,
-    records_elsewhere,
-    silent_monitors,
-    schema_of_records,
-    told_as_json,
-]
+CASES = cases_of(__name__)

@@ -13,6 +13,7 @@ from checks.lib.harness import cases_of, expect
 from checks.lib.tally import expect_in_time
 from checks.recording.recorder_runs import RECORD
 from checks.recording.sample_runs import PAGE, PAGES, Drawn, Pages
+from precopy_dev.files import write_file
 from precopy_tools.formats import samples
 from precopy_tools.record import mappings
 
@@ -362,9 +363,7 @@ def a_sparse_file(_, folder):
 
 
 def a_file_that_ends(_, folder):
-    path = os.path.join(folder, "memory")
-    with open(path, "wb") as file:
-        file.write(b"\x01" * (4000 * PAGE))
+    path = write_file(b"\x01" * (4000 * PAGE), folder, "memory")
     drawn = Drawn(folder, ["--file", path], ["--one-in", "4"])
     time.sleep(0.2)
     os.truncate(path, PAGE)

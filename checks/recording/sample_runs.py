@@ -5,8 +5,9 @@ import subprocess
 import sys
 import time
 
-from checks.lib.harness import expect
+from checks.lib.harness import expect, waited
 from checks.recording.recorder_runs import RECORD, SECONDS, TOP, Started, Watched
+from precopy_dev.files import read_bytes
 from precopy_tools.formats import samples, traces
 
 PAGE = 4096
@@ -48,9 +49,7 @@ class Pages(Watched):
         return [status[name].strip() for name in names], sorted(os.listdir(f"{folder}/fd")), watched
 
     def expect_as_before(self):
-        end = time.monotonic() + SECONDS
-        while self.state() != self.before and time.monotonic() < end:
-            time.sleep(0.02)
+        waited(lambda: self.state() == self.before, SECONDS)
         expect(self.state() == self.before, f"{self.state()} was {self.before}")
         expect(self.write(range(0, self.pages, 7)) == 0, "a system call of the process was disturbed")
 
@@ -61,6 +60,8 @@ class Pages(Watched):
 
 class Drawn(Started):
     """A run of tools/record over drawn pages."""
+
+    MAY_BE_LEFT = ("memory", "map")
 
     def __init__(self, folder, source, words=(), cause=None, tool=RECORD, **more):
         self.trace_path, self.map_path = os.path.join(folder, "guest.light.pcwt"), os.path.join(folder, "map")
@@ -75,16 +76,12 @@ class Drawn(Started):
 
     def wait_for_more_than(self, size):
         """Until a look has seen something. It has seen all of a step then, or the rest comes with the next one."""
-        end = time.monotonic() + 2 * SECONDS
-        while self.bytes() <= size:
-            expect(time.monotonic() < end, "the recorder does not look")
-            time.sleep(0.01)
+        expect(waited(lambda: self.bytes() > size, 2 * SECONDS, 0.01), "the recorder does not look")
         time.sleep(0.1)
 
     def read(self):
         """The trace, its writes as (tick, page), and its sample."""
-        with open(self.trace_path, "rb") as file:
-            trace = traces.read(file.read())
+        trace = traces.read(read_bytes(self.trace_path))
         written = [record[:2] for record in trace.records()]
         return trace, written, samples.read(self.trace_path, trace, written)
 
@@ -98,10 +95,3 @@ class Drawn(Started):
         left = [name for name in os.listdir(self.folder) if name.endswith(".part")]
         expect(not left, f"left: {left}")
         return self.read()
-
-    def expect_nothing(self, status, *words):
-        expect(self.status == status, f"status {self.status}, {self.output!r}, {self.faults!r}")
-        for word in words:
-            expect(word in self.faults, f"{word!r} is not in {self.faults!r}")
-        left = [name for name in os.listdir(self.folder) if name not in ("memory", "map")]
-        expect(not left, f"left: {left}")

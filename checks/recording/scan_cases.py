@@ -12,6 +12,7 @@ from checks.lib.tally import need
 from checks.recording.recorder_runs import SECONDS, TOP
 from checks.recording.sample_cases import exact, mapped_anew
 from checks.recording.sample_runs import PAGE, PAGES, Pages
+from precopy_dev.files import write_file
 from precopy_dev.packaging import contents
 from precopy_tools.record import scans
 from precopy_tools.record.pagemap import WrittenPages
@@ -24,8 +25,7 @@ def tools_with(folder, library):
     memory = os.path.join(folder, "memory")
     for part in ("tools", "python"):
         shutil.copytree(os.path.join(TOP, part), os.path.join(memory, part))
-    with open(os.path.join(memory, "scan.so"), "wb") as file:
-        file.write(library)
+    write_file(library, memory, "scan.so")
     return os.path.join(memory, "tools", "record")
 
 
@@ -73,9 +73,7 @@ def looks_with_a_bad_library(_, folder):
 def same_by_both(_, folder):
     """Looks with the library and without it tell the pages that were written, also after a look that failed."""
     library = built()
-    path = os.path.join(folder, "scan.so")
-    with open(path, "wb") as file:
-        file.write(library)
+    path = write_file(library, folder, "scan.so")
     before, scans.PATHS = scans.PATHS, (path,)
     call, scans.PATHS = scans.library(), before
     expect(call is not None, "the library cannot be loaded")

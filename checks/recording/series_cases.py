@@ -10,11 +10,12 @@ import time
 import uuid
 
 from checks.lib import harness
-from checks.lib.harness import cases_of, expect
+from checks.lib.harness import cases_of, expect, waited
 from checks.lib.tally import LeftOut, expect_in_time
 from checks.recording.memory_cases import Known, virsh_in
 from checks.recording.recorder_runs import RECORD, SECONDS, TOP, Started, read_until_recording
 from checks.recording.sample_runs import PAGE, PAGES, Pages
+from precopy_dev.files import read_text, write_file
 from precopy_tools.formats import samples, traces
 from precopy_tools.record import series
 
@@ -48,10 +49,7 @@ class Segments(Started):
 
     @staticmethod
     def wait_for(holds):
-        end = time.monotonic() + 2 * SECONDS
-        while not holds():
-            expect(time.monotonic() < end, "the recorder does not go on")
-            time.sleep(0.02)
+        expect(waited(holds, 2 * SECONDS), "the recorder does not go on")
 
     def told(self):
         """The names of the segments that it has told."""
@@ -185,8 +183,7 @@ def killed_twice(_, folder):
 def kept_segments(_, folder):
     """The last ones are kept. No other file is touched, whatever it is called."""
     for name in OTHERS:
-        with open(os.path.join(folder, name), "w", encoding="ascii") as file:
-            file.write(name)
+        write_file(name, folder, name)
     with Pages("private") as pages:
         run = Segments(folder, pages.source, "--keep", "2", "--for", "5200ms")
         run.end()
@@ -307,8 +304,8 @@ def words_of_a_series(_, folder):
 def service_of_a_guest(_, folder):
     """What the service file says is run, with a guest of libvirt: it is accepted, and a stop ends it well."""
     identity = uuid.uuid4()
-    with open(os.path.join(TOP, "packaging", "precopy-record@.service"), encoding="utf-8") as file:
-        words = re.search(r"^ExecStart=precopy-record (.*)$", file.read(), re.M)[1].split()
+    unit = read_text(TOP, "packaging", "precopy-record@.service")
+    words = re.search(r"^ExecStart=precopy-record (.*)$", unit, re.M)[1].split()
     expect("$OPTIONS" in words, f"{words}")
     *words, path = [word.replace("%I", "known") for word in words if word != "$OPTIONS"]
     path = path.replace("known", "guest")

@@ -65,11 +65,6 @@ def process_ends():
     scans.ioctl = lambda *words: fails(errno.ESRCH) if len(looks) > 8 else IOCTL(*words)
 
 
-def no_library():
-    """The library of the loop of system calls is not built."""
-    scans.LIBRARY = None
-
-
 def slow_count():
     """The pages of the guest are counted for some seconds."""
     counted = sampled.SampledGuest.nonzero
@@ -81,7 +76,7 @@ def slow_count():
     sampled.SampledGuest.nonzero = slowly
 
 
-STOOD_IN = (old_kernel, no_userfaultfd, huge_pages, no_permission, other_machine, process_ends, no_library, slow_count)
+STOOD_IN = (old_kernel, no_userfaultfd, huge_pages, no_permission, other_machine, process_ends, slow_count)
 CAUSES = {cause.__name__: cause for cause in STOOD_IN}
 
 

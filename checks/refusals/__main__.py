@@ -9,10 +9,10 @@ A run that is refused something is a case.
 
 import os
 import re
-import select
 import subprocess
 from functools import partial
 
+from checks.lib.harness import closed_pipe
 from checks.lib.harness import run as run_plainly
 from checks.lib.harness import run_main
 from checks.lib.worked import A
@@ -20,6 +20,7 @@ from checks.refusals import refusal_jobs as jobs
 from checks.refusals.refusal_runs import MOST, SECONDS, Part, count_up, run_parts
 from checks.refusals.refused_growths import SAVED, Harmless, is_for_pieces, told_of_live
 from checks.refusals.threads import PIECES, is_needed, saver_of
+from precopy_dev.files import write_file
 
 # Which thread starts as the Nth may differ from run to run, so N counts up again if one was never the Nth.
 TURNS = 8
@@ -231,15 +232,8 @@ def plainly(runner, job):
 
     with open(runner.trace(job.trace), "rb") as trace, open("/dev/full", "wb") as full:
         ended(trace, full, jobs.WRITE_FAILED)
-    with open(runner.trace(job.trace), "rb") as trace:
-        reader, writer = os.pipe()
-        os.close(reader)
-        # A run that is being started beside this one may hold the reader for a moment.
-        poll = select.poll()
-        poll.register(writer, 0)
-        poll.poll(1000 * SECONDS)
+    with open(runner.trace(job.trace), "rb") as trace, closed_pipe() as writer:
         ended(trace, writer, jobs.WRITE_FAILED)
-        os.close(writer)
     folder = os.open(runner.folder, os.O_RDONLY)
     ended(folder, subprocess.PIPE, jobs.READ_FAILED)
     os.close(folder)
@@ -271,8 +265,7 @@ def parts(runner):
 
 def prepare(runner):
     for name, trace in [("a", A), ("many", jobs.MANY), ("large", jobs.LARGE)]:
-        with open(runner.trace(name), "wb") as file:
-            file.write(trace)
+        write_file(trace, runner.trace(name))
     for job in jobs.HELPS:
         job.output = runner.run(job).output
 

@@ -5,7 +5,6 @@ from checks.lib.traces import header, record
 from checks.lib.worked import A_AT_2000, A_IMAGE, A_REPORT
 from checks.refusals import threads
 
-ZEROS = bytes(16)
 A_SWEEP = b"""\
 case 0 min 2 max 4 inc 1 threshold 1 limit 8 skip 0 rounds 3 stop few at 3667 down 0 total 8
 case 1 min 2 max 2 inc 1 threshold 1 limit 8 skip 0 rounds 2 stop fast at 3000 down 1000 total 8
@@ -67,14 +66,14 @@ class Job:
     # Whether a trace is read, and not only words.
     reads = True
 
-    def __init__(self, name, words, output, trace="a", is_live=False, savers=(), needs=0):
+    def __init__(self, name, words, output, trace="a", is_live=False, savers=()):
         self.name = name
         self.words = words
         self.output = output
         self.trace = trace
         self.is_live = is_live
         self.savers = (threads.INDEX, *savers) if is_live else savers
-        self.needs = needs or (threads.OF_LIVE if is_live else 0)
+        self.needs = threads.OF_LIVE if is_live else 0
 
 
 class Misuse(Job):
@@ -109,7 +108,6 @@ WARM = Job(
     ["live", *PLAN, *THREADS, "--base", "1200", "--start", "1201", "--at-stop"],
     A_AT_2000,
     is_live=True,
-    needs=threads.OF_LIVE + 1,
 )
 WIDE = "2 workers, 2^18 writes"
 WIDE_SWEEP_WORDS = ["sweep", "--workers", "2", *MANY_CASES.split()]

@@ -25,10 +25,11 @@ from typing import NamedTuple
 
 from checks.lib import stream_rows
 from checks.lib.harness import run_main
-from checks.lib.library_runs import is_done, program_says, read, run
+from checks.lib.library_runs import is_done, program_says, run
 from checks.lib.stream_model import Guest, first_wrong, frames
 from checks.lib.tally import left_out, why_not
 from checks.sending import bugs
+from precopy_dev.files import read_bytes, read_text, write_file
 from precopy_dev.tree import TOP
 
 WARNINGS = ["-std=c11", "-Wall", "-Wextra", "-pedantic", "-Werror", "-pthread"]
@@ -84,10 +85,8 @@ def build(tally, folder, how, edits=()):
     """Builds both processes in a folder, the engine with some edits. Tells whether that was done."""
     os.makedirs(folder)
     for name in ("sender", "destination"):
-        source = read(f"examples/c/{name}.c", "r")
-        path = os.path.join(folder, f"{name}.c")
-        with open(path, "w", encoding="utf-8") as file:
-            file.write(bugs.planted(source, edits) if name == "sender" else source)
+        source = read_text(TOP, f"examples/c/{name}.c")
+        path = write_file(bugs.planted(source, edits) if name == "sender" else source, folder, f"{name}.c")
         done = run("cc", *WARNINGS, *how, "-o", os.path.join(folder, name), path)
         if done.returncode:
             return is_done(tally, done, f"{name}.c is compiled with {' '.join(how)} and {edits}")
@@ -113,8 +112,8 @@ def migrate(programs, load, way):
         found = TOLD.fullmatch(sent.stdout.decode())
         if started.returncode or not found:
             raise Failed("destination", started.returncode, f"{told.decode()}, and the sender told {sent.stdout!r}")
-        files = [read(os.path.join(folder, name)) for name in ("trace.pcwt", "source", "memory")]
-        streams = [read(os.path.join(folder, f"stream.{number}")) for number in range(load.streams)]
+        files = [read_bytes(folder, name) for name in ("trace.pcwt", "source", "memory")]
+        streams = [read_bytes(folder, f"stream.{number}") for number in range(load.streams)]
         return Migration(*map(int, found.groups()[:4]), found[5], *files, streams)
 
 

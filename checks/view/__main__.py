@@ -33,6 +33,7 @@ from checks.view.nearest_cases import nearest_tries
 from checks.view.picture_cases import picture_tries
 from checks.view.plan_cases import plan_tries
 from checks.view.quantity_cases import quantity_tries
+from precopy_dev.files import write_file
 from precopy_dev.models import redrawn
 
 SVG = "{http://www.w3.org/2000/svg}"
@@ -177,8 +178,7 @@ def windows_trace(folder, windows, step):
     """Writes a trace whose writes fall into a number of windows, of pages that come again and of new ones."""
     path = os.path.join(folder, f"{windows}-{step}.pcwt")
     writes = [(j * step, (j * j + k * 7) % (j % 40 + 3)) for j in range(windows) for k in range(3)]
-    with open(path, "wb") as file:
-        file.write(made(64, writes))
+    write_file(made(64, writes), path)
     return Trace.at(path)
 
 
@@ -186,8 +186,7 @@ def hot_trace(folder, pages):
     """Writes a trace that writes runs of one page and of two in two windows."""
     path = os.path.join(folder, f"hot-{pages}.pcwt")
     runs = [page for page in range(pages) if page % 5 in (0, 2, 3)]
-    with open(path, "wb") as file:
-        file.write(made(pages, [(tick, page) for tick in (0, 1000) for page in runs]))
+    write_file(made(pages, [(tick, page) for tick in (0, 1000) for page in runs]), path)
     return Trace.at(path)
 
 

@@ -2,7 +2,6 @@
 
 import functools
 import itertools
-import os
 from dataclasses import replace
 
 from checks.lib import migration_model
@@ -13,6 +12,7 @@ from checks.lib.tally import expect
 from checks.lib.traces import Trace, made
 from checks.lib.view_texts import facts, parsed, ran, words_of
 from checks.view.limit_cases import SEEN, in_range, is_refused, some
+from precopy_dev.files import write_file
 from precopy_dev.models import redrawn
 
 BUDGETS = [
@@ -182,9 +182,11 @@ def random_case(draw):
 
 def graded_trace(folder):
     """Writes a trace of 40 pages, of which each is written less often than those before it."""
-    path = os.path.join(folder, "graded.pcwt")
-    with open(path, "wb") as file:
-        file.write(made(40, sorted((tick, page) for page in range(40) for tick in range(page, 2_000, 1 + page * page))))
+    path = write_file(
+        made(40, sorted((tick, page) for page in range(40) for tick in range(page, 2_000, 1 + page * page))),
+        folder,
+        "graded.pcwt",
+    )
     return Trace.at(path)
 
 

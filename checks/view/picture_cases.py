@@ -13,6 +13,7 @@ from checks.lib.tally import expect
 from checks.lib.traces import Trace, made
 from checks.lib.view_texts import ran, told
 from checks.view.limit_cases import in_range, told_of
+from precopy_dev.files import write_file
 from precopy_dev.models import redrawn
 
 SVG = "{http://www.w3.org/2000/svg}"
@@ -300,8 +301,7 @@ def random_trace(draw, folder):
         (draw.choice([0, last, draw.randrange(last + 1)]), draw.choice([hot, draw.randrange(pages)]))
         for _ in range(draw.choice([1, 2, 40, 1_500]))
     )
-    with open(path, "wb") as file:
-        file.write(made(pages, writes, 12))
+    write_file(made(pages, writes, 12), path)
     return Trace.at(path)
 
 

@@ -10,8 +10,9 @@ from fractions import Fraction
 from checks.lib.amount_texts import error_text, moment_text, size_text, time_text
 from checks.lib.harness import drawn
 from checks.lib.tally import Failure, expect
-from checks.lib.view_texts import TOP, parsed, ran
+from checks.lib.view_texts import parsed, ran
 from checks.view.limit_cases import PLAIN, RATES, TIMES
+from precopy_dev.tree import TOP
 from precopy_tools import quantities as tool_texts
 from precopy_tools import words as tool_words
 

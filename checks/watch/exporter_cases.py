@@ -14,6 +14,7 @@ from checks.lib.harness import cases_of, expect
 from checks.lib.tally import expect_in_time, need
 from checks.watch.guest_cases import ODD, Writing
 from checks.watch.watch_runs import LIMITS, SECONDS, Watching, known, metrics_in, of_guest
+from precopy_dev.files import read_json, read_text, write_file
 from precopy_dev.tree import TOP
 from precopy_tools.watch.metrics import METRICS
 
@@ -117,9 +118,7 @@ def node_exporter(folder: str, port: int):
 
 
 def prometheus(folder: str, port: int, of_exporter: int):
-    path = os.path.join(folder, "prometheus.yml")
-    with open(path, "w", encoding="utf-8") as file:
-        file.write(CONFIGURATION.format(rules=RULES, port=of_exporter))
+    path = write_file(CONFIGURATION.format(rules=RULES, port=of_exporter), folder, "prometheus.yml")
     words = [f"--config.file={path}", f"--storage.tsdb.path={folder}/tsdb", f"--web.listen-address=127.0.0.1:{port}"]
     return server(folder, "prometheus", *words, "--log.level=warn")
 
@@ -133,8 +132,7 @@ def asked(port: int, expression: str) -> list[dict]:
 
 def expressions() -> dict[str, str]:
     """The questions of the dashboard by the titles of their panels, for all hosts and guests."""
-    with open(DASHBOARD, encoding="utf-8") as file:
-        panels = json.load(file)["panels"]
+    panels = read_json(DASHBOARD)["panels"]
     found = {}
     for panel in panels:
         for target in panel["targets"]:
@@ -189,8 +187,7 @@ def lines_as_prometheus_wants_them(program, folder):
         with Watching(program, folder, "--pages", "16", limits=limits) as run:
             run.wait_for_value("precopy_guest_verdict", "a", 1, verdict="kept")
             run.end_well()
-    with open(run.textfile, encoding="utf-8") as file:
-        text = file.read()
+    text = read_text(run.textfile)
     expect({key[0] for key in metrics_in(text)} == set(METRICS), "there are metrics that are not told")
     done = subprocess.run(["promtool", "check", "metrics"], input=text, capture_output=True, text=True)
     expect(done.returncode == 0 and not done.stdout + done.stderr, f"{done.returncode}, {done.stdout}{done.stderr}")
@@ -200,9 +197,7 @@ def lines_as_prometheus_wants_them(program, folder):
 def alerts_when_due(_, folder):
     """A guest that falls is told once, and not one that never kept its limits, nor one of which nothing is known."""
     need("promtool")
-    path = os.path.join(folder, "rules.yml")
-    with open(path, "w", encoding="utf-8") as file:
-        file.write(OF_RULES.format(rules=RULES))
+    path = write_file(OF_RULES.format(rules=RULES), folder, "rules.yml")
     for words in (["check", "rules", RULES], ["test", "rules", path]):
         done = subprocess.run(["promtool", *words], capture_output=True, text=True)
         expect(done.returncode == 0, f"{words}: {done.stdout}{done.stderr}")
@@ -211,10 +206,8 @@ def alerts_when_due(_, folder):
 def dashboard_of_known_metrics(_, __):
     """The dashboard and the alerts ask for metrics that there are, and the dashboard for each limit; each panel has a
     place, a title and a unit."""
-    with open(DASHBOARD, encoding="utf-8") as file:
-        dashboard = json.load(file)
-    with open(RULES, encoding="utf-8") as file:
-        named = set(re.findall(r"\bprecopy_\w+", file.read()))
+    dashboard = read_json(DASHBOARD)
+    named = set(re.findall(r"\bprecopy_\w+", read_text(RULES)))
     places = set()
     for panel in dashboard["panels"]:
         place = panel["gridPos"]

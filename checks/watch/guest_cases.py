@@ -1,6 +1,7 @@
 """Cases of checks/watch: what is recorded, predicted and told of guests that write, pause, come, go, and have names."""
 
 import contextlib
+import io
 import json
 import os
 import signal
@@ -10,16 +11,29 @@ import threading
 import time
 import uuid
 
-from checks.lib.harness import cases_of, expect
+from checks.lib.harness import cases_of, expect, waited
 from checks.lib.tally import expect_in_time
 from checks.recording.memory_cases import programs_in
 from checks.watch.watch_runs import LIMITS, SECONDS, Watching, known, of_guest
+from precopy_dev.files import read_json, read_text, write_file
 from precopy_dev.tree import TOP
 from precopy_tools.formats import samples, traces
+from precopy_tools.watch.names import Names
 
 PREDICT = os.path.join(TOP, "tools", "predict")
 PAGE = 4096
 ODD = 'an "odd\\ name'
+# A program that predicts nothing, takes its time for that, and ignores to be ended.
+SLOW = """\
+#!{python}
+import os, signal, time
+signal.signal(signal.SIGTERM, signal.SIG_IGN)
+with open("{place}/new", "w") as file:
+    file.write(str(os.getpid()))
+os.rename("{place}/new", "{place}/begun")
+time.sleep(60)
+"""
+UNNAMED = "not watched: no part of its path is a name that no other guest has"
 NUMBERS = {"time_seconds": "duration_seconds", "sent_bytes": "sent_bytes", "down_seconds": "downtime_seconds"}
 VIRSH = """\
 #!{python}
@@ -198,6 +212,52 @@ def come_pause_and_go(program, folder):
     expect("a: gone" in run.told and "b: gone" in run.told, run.told)
 
 
+def guests_of_one_name(program, folder):
+    """Guests whose sockets have one name are watched by names of their own, which they keep while they are there."""
+    for each in ("x", "y", "z"):
+        os.makedirs(os.path.join(folder, "sockets", each))
+    place = os.path.join(folder, "sockets")
+    with known(place, "x/m.qmp"), known(place, "y/m.qmp"), known(place, "z/n.qmp"):
+        os.symlink(os.path.join(place, "z"), os.path.join(place, "zz"))
+        with Watching(program, folder, "--monitors", os.path.join(place, "*", "*.qmp")) as run:
+            for name in ("x-m", "y-m", "n"):
+                run.wait_for_value("precopy_guest_verdict", name, 1, verdict="kept")
+            with known(place, "z/m.qmp"):
+                found = run.wait_for_value("precopy_guest_records_total", "z-m", 1)
+            expect(found[("precopy_watch_guests",)] == 4, f"{found}")
+            run.end_well()
+    expect(all(run.records_of(name) for name in ("x-m", "y-m", "z-m", "n")), f"{os.listdir(run.output)}")
+    expect(f"x-m: the guest of {place}/x/m.qmp" in run.told and "n: the guest" not in run.told, run.told)
+    expect(not run.faults, run.faults)
+
+
+def names_of_sockets(_, __):
+    """Names are the shortest parts of paths that tell guests apart; what has none is refused once, and in words."""
+    for paths, wanted in (
+        (["/r/a.qmp", "/r/b.c.qmp", "/s/d"], ["a", "b.c", "d"]),
+        (["/r/a/m.qmp", "/r/b/m.qmp", "/r/b/n.qmp"], ["a-m", "b-m", "n"]),
+        (["/q/c/m.qmp", "/r/c/m.qmp", "/r/d/m.qmp"], ["q-c-m", "r-c-m", "d-m"]),
+        (["/m.qmp", "/r/m.qmp", "/r/m.sock"], ["m", "r-m.qmp", "m.sock"]),
+        (["/r/m.qmp", "/r/m.sock"], ["m.qmp", "m.sock"]),
+        (["/r/a-b/m.qmp", "/r/a/b/m.qmp", "/r/c/b/m.qmp"], ["a-b-m", "a-b-m.qmp", "c-b-m"]),
+        (["/r/a/m.qmp", "/r/b/m.qmp", "/s/a-m.qmp"], ["r-a-m", "b-m", "a-m"]),
+        (["/r/.a/m.qmp", "/r/\n/m.qmp", "/r/b/m.qmp"], ["r-.a-m", None, "b-m"]),
+        (["/r/" + "a" * 200 + "/m.qmp", "/r/b/m.qmp"], [None, "b-m"]),
+    ):
+        named, faults = Names(), io.StringIO()
+        with contextlib.redirect_stderr(faults), contextlib.redirect_stdout(io.StringIO()):
+            found = [named.of(paths) for _ in range(3)]
+        expect(found == [{name: path for name, path in zip(wanted, paths) if name}] * 3, f"{paths}: {found}")
+        refused = [path for name, path in zip(wanted, paths) if not name]
+        expect(faults.getvalue() == "".join(f"watch: {path}: {UNNAMED}\n" for path in refused), faults.getvalue())
+    named, both = Names(), ["/r/a/m.qmp", "/r/b/m.qmp"]
+    with contextlib.redirect_stdout(io.StringIO()):
+        found = [named.of(paths) for paths in (both[:1], both, both[1:], both)]
+    first, second = both
+    alone = {"b-m": second}
+    expect(found == [{"m": first}, {"m": first, **alone}, alone, {"a-m": first, **alone}], f"{found}")
+
+
 def memory_that_is_plugged_in(program, folder):
     """The next record is of the memory that the guest has then, and nothing that is counted becomes less."""
     with known(folder, "a.qmp", plugged=["dimm", "private", 500]) as guest:
@@ -208,8 +268,7 @@ def memory_that_is_plugged_in(program, folder):
                 before = run.metrics()[of_guest("precopy_guest_records_total", "a")]
                 run.wait_for_value("precopy_guest_records_total", "a", before + 2)
             run.end_well()
-    with open(samples.path_beside(run.records_of("a")[-2]), encoding="utf-8") as file:
-        expect(json.load(file)["guest_pages"] == 1500, f"{run.told}")
+    expect(read_json(samples.path_beside(run.records_of("a")[-2]))["guest_pages"] == 1500, f"{run.told}")
 
 
 class Domains:
@@ -217,15 +276,13 @@ class Domains:
 
     def __init__(self, folder):
         self.path, self.programs = os.path.join(folder, "domains"), programs_in(folder)
-        with open(os.path.join(self.programs, "virsh"), "w", encoding="utf-8") as file:
-            file.write(VIRSH.format(python=sys.executable, path=self.path))
+        write_file(VIRSH.format(python=sys.executable, path=self.path), self.programs, "virsh")
         os.chmod(os.path.join(self.programs, "virsh"), 0o700)
         self.environment = {**os.environ, "PATH": self.programs, "PYTHONDONTWRITEBYTECODE": "1"}
 
     def tell(self, domains):
         """From now on virsh tells these; of None it has no connection."""
-        with open(f"{self.path}.new", "w", encoding="utf-8") as file:
-            json.dump(domains, file)
+        write_file(json.dumps(domains), f"{self.path}.new")
         os.rename(f"{self.path}.new", self.path)
 
 
@@ -255,6 +312,31 @@ def guests_of_libvirt(program, folder):
         run.end_well()
     expect(run.faults.count("the guests are not told: virsh list: failed to connect") == 1, run.faults)
     expect(not run.records_of("scratch") and run.records_of("-x y"), f"{os.listdir(run.output)}")
+
+
+def ended_while_it_predicts(_, folder):
+    """At a signal the prediction under way ends, and what it has begun, even if that ignores its end."""
+    for number in signal.SIGINT, signal.SIGTERM:
+        place = os.path.join(folder, number.name)
+        os.makedirs(place)
+        slow = write_file(SLOW.format(python=sys.executable, place=place), place, "slow")
+        os.chmod(slow, 0o700)
+        with known(place, "a.qmp"), Watching(slow, place) as run:
+            expect_in_time(waited(lambda: os.path.exists(f"{place}/begun"), SECONDS), f"it predicts nothing: {place}")
+            process = int(read_text(f"{place}/begun"))
+            begun = time.monotonic()
+            run.end(number)
+            expect(run.process.returncode == 0 and not run.faults, f"{run.process.returncode}, {run.faults}")
+            expect_in_time(time.monotonic() - begun < 10, f"it took {time.monotonic() - begun} s to end")
+        expect(waited(lambda: not is_there(process), 1), f"{number.name}: what it began goes on")
+
+
+def is_there(process):
+    """Whether a process runs. One that has ended, and that nobody has waited for yet, does not."""
+    try:
+        return "\nState:\tZ" not in read_text(f"/proc/{process}/status")
+    except (FileNotFoundError, ProcessLookupError):
+        return False
 
 
 def killed_and_begun_again(program, folder):
@@ -302,8 +384,7 @@ def within_its_processor(program, folder):
         run.end_well()
     intervals = set()
     for path in [path for name in names for path in run.records_of(name)[1:]]:
-        with open(samples.path_beside(path), encoding="utf-8") as file:
-            told = json.load(file)
+        told = read_json(samples.path_beside(path))
         intervals.add(told["interval_seconds"])
         length = (told["last_tick"] - told["first_tick"]) * told["tick_seconds"]
         most = length / told["interval_seconds"] + 3
@@ -325,8 +406,7 @@ def spread_over_the_interval(program, folder):
         run.end_well()
     lengths = []
     for name in names:
-        with open(samples.path_beside(run.records_of(name)[0]), encoding="utf-8") as file:
-            told = json.load(file)
+        told = read_json(samples.path_beside(run.records_of(name)[0]))
         lengths.append((told["last_tick"] - told["first_tick"]) / 1000)
     apart = min(after - before for before, after in zip(sorted(lengths), sorted(lengths)[1:]))
     expect_in_time(all(0.9 <= length < 4.5 for length in lengths), f"first records of {lengths} s")

@@ -9,6 +9,7 @@ import time
 from checks.lib.harness import expect
 from checks.lib.tally import Failure, Late
 from checks.recording.memory_cases import Known
+from precopy_dev.files import read_text, write_file
 from precopy_dev.tree import TOP
 
 WATCH = os.path.join(TOP, "tools", "watch")
@@ -60,15 +61,13 @@ class Watching:
         self.told = self.faults = ""
 
     def put_limits(self, text: str) -> None:
-        with open(f"{self.limits}.new", "w", encoding="utf-8") as file:
-            file.write(text)
+        write_file(text, f"{self.limits}.new")
         os.rename(f"{self.limits}.new", self.limits)
 
     def metrics(self) -> dict[tuple, float]:
         """What it tells now; nothing before its first text."""
         try:
-            with open(self.textfile, encoding="utf-8") as file:
-                return metrics_in(file.read())
+            return metrics_in(read_text(self.textfile))
         except FileNotFoundError:
             return {}
 

@@ -6,6 +6,7 @@ import subprocess
 
 from checks.lib.harness import cases_of, expect
 from checks.watch.watch_runs import LIMITS, SECONDS, WATCH, Watching, known, of_guest
+from precopy_dev.files import write_file
 
 # Limits, and what is said of them.
 REFUSED = (
@@ -33,8 +34,7 @@ def refused_limits(program, folder):
     asked = ["--textfile", os.path.join(folder, "a.prom"), "--output", folder, "--limits", path, "--program", program]
     for text, said in (*REFUSED, (None, "limits.toml: No such file or directory")):
         if text is not None:
-            with open(path, "wb") as file:
-                file.write(text.encode(errors="surrogateescape"))
+            write_file(text.encode(errors="surrogateescape"), path)
         elif os.path.exists(path):
             os.unlink(path)
         done = subprocess.run([WATCH, *asked], capture_output=True, text=True, timeout=SECONDS)

@@ -9,7 +9,6 @@ damaged one; how far it was read is tested too. A run is a case.
 
 import os
 import re
-import select
 import subprocess
 import tempfile
 from dataclasses import dataclass
@@ -17,6 +16,7 @@ from dataclasses import dataclass
 from checks.lib import harness
 from checks.lib.traces import header, record
 from checks.lib.worked import A_AT_2000, A_IMAGE, A_REPORT, RECORDS, A, C, damaged
+from precopy_dev.files import read_text
 from precopy_dev.tree import TOP
 
 SECONDS = 20
@@ -109,8 +109,7 @@ class Words:
 
 def documented_options():
     """The options in the table of docs/COMMANDS.md: name, default, and the only command that has it, if one does."""
-    with open(os.path.join(TOP, "docs", "COMMANDS.md"), encoding="utf-8") as file:
-        rows = re.findall(r"^\| `--([a-z-]+)( N)?` \| (\S+) \|(.*)\|$", file.read(), re.M)
+    rows = re.findall(r"^\| `--([a-z-]+)( N)?` \| (\S+) \|(.*)\|$", read_text(TOP, "docs", "COMMANDS.md"), re.M)
     found = []
     for name, number, default, rest in rows:
         only = re.search(r"`(\w+)` only", rest)
@@ -420,13 +419,8 @@ def descriptors(check):
     for words in jobs:
         with open("/dev/full", "wb") as full:
             check.wants(words, 1, b"", b"precopy: write\n", stdout=full)
-        reader, writer = os.pipe()
-        os.close(reader)
-        poll = select.poll()
-        poll.register(writer, 0)
-        poll.poll(1000 * SECONDS)
-        check.wants(words, 1, b"", b"precopy: write\n", stdout=writer)
-        os.close(writer)
+        with harness.closed_pipe() as writer:
+            check.wants(words, 1, b"", b"precopy: write\n", stdout=writer)
         check.wants(words, 1, b"", b"precopy: write\n", closed=1)
     for words in jobs[:4]:
         check.wants(words, 1, b"", b"precopy: trace E17\n", closed=0)

@@ -26,6 +26,7 @@ from checks.lib.harness import run_main
 from checks.lib.tally import LeftOut, expect, need
 from checks.wrongs.faults import Fault, read
 from precopy_dev import tree
+from precopy_dev.files import read_text, write_file
 
 HERE = os.path.join(tree.TOP, "checks", "wrongs")
 SECONDS, OF_A_DAY, LEAST = 900, 8, 3
@@ -100,8 +101,7 @@ def copy_files(folder, to, linked):
 
 def text_of(fault):
     """The text of the file that a fault edits."""
-    with open(os.path.join(tree.TOP, fault.where), encoding="utf-8") as file:
-        text = file.read()
+    text = read_text(tree.TOP, fault.where)
     expect(text.count(fault.old) == 1, f"{fault.old!r} stands {text.count(fault.old)} times in {fault.where}")
     return text
 
@@ -111,8 +111,7 @@ def edited(fault, folder):
     top = copied(folder, fault.where)
     path = os.path.join(top, fault.where)
     text = text_of(fault)
-    with open(path, "w", encoding="utf-8") as file:
-        file.write(text.replace(fault.old, fault.new))
+    write_file(text.replace(fault.old, fault.new), path)
     return top
 
 

@@ -19,7 +19,6 @@ busy that is. The status is 0 if all guests have arrived whole.
 """
 
 import concurrent.futures
-import json
 import os
 import signal
 import subprocess
@@ -29,6 +28,7 @@ import time
 from typing import NamedTuple
 
 from precopy_bench.measuring import memory_folder
+from precopy_dev.files import read_json, write_file
 from precopy_dev.tree import TOP
 from precopy_dev.words import parser_of
 from precopy_tools import words
@@ -175,13 +175,11 @@ class Host:
         done = subprocess.run([*command, "--run", "--force", "--json", path], capture_output=True, text=True)
         if done.returncode:
             raise Failed(done.stderr.strip() or done.stdout[-300:])
-        with open(path.replace(".json", ".text"), "w", encoding="utf-8") as file:
-            file.write(done.stdout)
+        write_file(done.stdout, path.replace(".json", ".text"))
         for name in self.names:
             with self.guests[f"{name}-to"].client() as client:
                 migration.wait_until_arrived(client)
-        with open(path, encoding="utf-8") as file:
-            return json.load(file), sum(self.compared(name) for name in self.names)
+        return read_json(path), sum(self.compared(name) for name in self.names)
 
     def end(self):
         for each in self.guests.values():
@@ -199,8 +197,7 @@ def planned(options, records, folder):
     done = subprocess.run([*command, "--json", path], capture_output=True, text=True)
     if done.returncode not in (0, 3, 4):
         raise Failed(done.stderr.strip())
-    with open(path, encoding="utf-8") as file:
-        return json.load(file)
+    return read_json(path)
 
 
 def schedules_of(told):

@@ -17,6 +17,7 @@ import tempfile
 from precopy_bench import jobs as work
 from precopy_bench.measuring import Fault, Nowhere, Others, run, write_json
 from precopy_bench.programs import built, made, timing_parser
+from precopy_dev.files import write_file
 from precopy_dev.packaging import compilers, launcher
 from precopy_dev.tree import TOP
 
@@ -47,8 +48,7 @@ def install(program, folder):
     for path in (proper, called):
         os.mkdir(os.path.dirname(path))
     shutil.copy(program, proper)
-    with open(called, "wb") as file:
-        file.write(launcher.launcher(os.path.relpath(proper, os.path.dirname(called))))
+    write_file(launcher.launcher(os.path.relpath(proper, os.path.dirname(called))), called)
     os.chmod(called, 0o755)
     return called
 

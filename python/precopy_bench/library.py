@@ -21,6 +21,7 @@ from typing import Callable, Iterator, List, Tuple
 
 from precopy_bench.measuring import Others
 from precopy_bench.programs import TRACES, at_least_1, made
+from precopy_dev.files import read_bytes, write_file
 from precopy_dev.tree import TOP
 from precopy_dev.words import parser_of
 
@@ -48,11 +49,6 @@ def loaded(path: str):
     import precopy
 
     return precopy
-
-
-def bytes_of(traces, name: str) -> bytes:
-    with open(traces[name].path, "rb") as file:
-        return file.read()
 
 
 def hot_trace() -> bytes:
@@ -133,8 +129,7 @@ def time_in_c(table: Table, library: str, text: bytes, stream: bytes) -> None:
     with tempfile.TemporaryDirectory() as folder:
         program, *files = [os.path.join(folder, name) for name in ("pieces", "trace", "stream")]
         for name, data in zip(files, (text, stream)):
-            with open(name, "wb") as file:
-                file.write(data)
+            write_file(data, name)
         source, header = os.path.join(TOP, "bench", "pieces.c"), os.path.join(TOP, "include")
         words = ["cc", "-O2", "-I", header, "-o", program, source, path, f"-Wl,-rpath,{os.path.dirname(path)}"]
         subprocess.run(words, check=True)
@@ -207,8 +202,8 @@ def main() -> int:
     precopy = loaded(asked.library)
     traces = made(["full", "uniform"], asked.traces)
     table = Table(asked.n)
-    time_trace(precopy, table, bytes_of(traces, "full"))
-    time_streams(precopy, table, bytes_of(traces, "uniform"), asked.library)
+    time_trace(precopy, table, read_bytes(traces["full"].path))
+    time_streams(precopy, table, read_bytes(traces["uniform"].path), asked.library)
     time_hot_page(precopy, table)
     busy = others.average()
     if busy is not None:

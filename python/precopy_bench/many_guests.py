@@ -26,6 +26,7 @@ import threading
 import time
 from typing import NamedTuple
 
+from precopy_dev.files import read_json, write_file
 from precopy_dev.tree import TOP
 from precopy_dev.words import parser_of
 from precopy_tools.formats.samples import path_beside
@@ -59,10 +60,8 @@ def make_folder(folder, first, count):
     subprocess.run([TOOLS["thin"], WHOLE, f"{folder}/guest{{}}.light.pcwt", *words], check=True, capture_output=True)
     for number in range(first, first + count):
         path = f"{folder}/guest{number}.light.json"
-        with open(path, encoding="utf-8") as file:
-            fields = json.load(file)
-        with open(path, "w", encoding="utf-8") as file:
-            json.dump({**fields, "taken_of": f"domain guest{number}"}, file)
+        fields = read_json(path)
+        write_file(json.dumps({**fields, "taken_of": f"domain guest{number}"}), path)
 
 
 def make(folder, count):
@@ -207,15 +206,15 @@ def measure(folder, options):
     here = run(folder, TOOLS["evacuate"], *records, "--costs", *options.words)
     show("costs, by all processors", here)
     expect(here, [1], damaged, "costs")
-    with open(os.path.join(folder, "host.jsonl"), "w", encoding="utf-8") as file:
-        file.write(here.output)
+    write_file(here.output, folder, "host.jsonl")
     done = run(folder, TOOLS["evacuate"], "host.jsonl", *options.words, "--json", "told.json")
     show("schedules of these costs", done)
     expect(done, [0, 3, 4], [], "schedules")
     if not done.output.startswith(f"{options.records - len(damaged)} guests"):
         raise Fault(f"not all guests are planned: {done.output[:100]!r}")
-    with open(os.path.join(folder, "apart.json"), "w", encoding="utf-8") as file:
-        json.dump({"apart": [[json.loads(line)["name"] for line in here.output.splitlines()]]}, file)
+    write_file(
+        json.dumps({"apart": [[json.loads(line)["name"] for line in here.output.splitlines()]]}), folder, "apart.json"
+    )
     done = run(folder, TOOLS["evacuate"], "host.jsonl", *options.words, "--settings", "apart.json")
     show("the same, if no two guests may move at once", done)
     expect(done, [0, 3, 4], [], "guests apart")

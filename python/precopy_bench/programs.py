@@ -2,7 +2,6 @@
 the options that say where they are."""
 
 import argparse
-import json
 import os
 import re
 import subprocess
@@ -11,6 +10,7 @@ import tempfile
 
 from precopy_bench import jobs as work
 from precopy_bench.measuring import Fault
+from precopy_dev.files import read_json
 from precopy_dev.packaging import launcher
 from precopy_dev.tree import TOP
 from precopy_dev.words import parser_of
@@ -79,8 +79,7 @@ def made(names, folder):
         raise Fault("the traces cannot be made")
     place, manifest = os.path.join(folder, "manifest.json"), {}
     if os.path.exists(place):
-        with open(place, encoding="utf-8") as file:
-            manifest = json.load(file)
+        manifest = read_json(place)
     fields = ("page_size", "pages", "writes", "last_tick", "bytes")
     path = os.path.join(folder, "{}.pcwt")
     return {name: work.Trace(name, path.format(name), *(it[key] for key in fields)) for name, it in manifest.items()}

@@ -16,6 +16,7 @@ import tempfile
 import time
 
 from precopy_bench.measuring import memory_folder
+from precopy_dev.files import read_text
 from precopy_dev.words import parser_of
 from precopy_tools.qemu.qmp import Client, Fault
 
@@ -70,8 +71,7 @@ class End:
 
     def processor(self):
         """Returns the processor seconds that this end has taken."""
-        with open(f"/proc/{self.process.pid}/stat", encoding="utf-8") as file:
-            fields = file.read().rpartition(")")[2].split()
+        fields = read_text(f"/proc/{self.process.pid}/stat").rpartition(")")[2].split()
         return (int(fields[11]) + int(fields[12])) / TICK
 
     def stop(self):

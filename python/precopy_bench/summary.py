@@ -7,7 +7,6 @@
 Any of the files may be left out: then the tables and bars that it gives are too. The last table has all bars.
 """
 
-import json
 import math
 import re
 import sys
@@ -15,6 +14,7 @@ import sys
 from precopy_bench import jobs as work
 from precopy_bench.run import GROWN, MAIN, PAGES, RECORDED, SHARED, SWEPT, WARMED, WRITES
 from precopy_bench.tables import Tables, table
+from precopy_dev.files import read_json
 
 GIB, PAGE = 1 << 30, 4096
 # The bars. Memory is that of one of each over uniform before copies of writes, in MB.
@@ -177,8 +177,7 @@ def add_run(bars, tables, warm):
 def main():
     tables, warm, pages, installed = None, {}, [], []
     for path in sys.argv[1:]:
-        with open(path, encoding="utf-8") as file:
-            told = json.load(file)
+        told = read_json(path)
         if "taken" in told:
             tables, warm = of_run(told)
         pages = told["pages"] if told.get("lane") == 65_536 else pages

@@ -21,6 +21,7 @@ import tempfile
 from dataclasses import dataclass
 
 from precopy_bench.programs import TRACES
+from precopy_dev.files import read_json
 from precopy_dev.words import parser_of
 
 LONGEST = 1 << 28
@@ -194,10 +195,7 @@ def lines_input(seed):
     return b"".join(b"%08x line %d\n" % (dice.below(1 << 32), i) for i in range(200_000))
 
 
-RECORDED = {
-    "gzip": (["gzip", "-c"], text_input),
-    "sort": (["sort", "--parallel=1", "-S", "64M"], lines_input),
-}
+RECORDED = {"gzip": (["gzip", "-c"], text_input), "sort": (["sort", "--parallel=1", "-S", "64M"], lines_input)}
 
 
 def stores(lines):
@@ -306,8 +304,7 @@ def make_all(names, seed, folder):
     place = os.path.join(folder, "manifest.json")
     manifest = {}
     if os.path.exists(place):
-        with open(place, encoding="utf-8") as file:
-            manifest = json.load(file)
+        manifest = read_json(place)
     for name in names:
         it = manifest[name] = make(name, seed, folder, manifest)
         with open(place + ".new", "w", encoding="utf-8") as file:

@@ -7,6 +7,7 @@ import re
 from dataclasses import dataclass, field
 
 from precopy_dev import tree
+from precopy_dev.files import read_text
 from precopy_dev.tree import TOP
 
 # Crates that only tests use, and programs of tests: nobody builds on their calls.
@@ -32,10 +33,7 @@ class Entry:
     comment: list = field(default_factory=list)
 
 
-@functools.lru_cache(maxsize=None)
-def read(path):
-    with open(path, encoding="utf-8") as file:
-        return file.read()
+read = functools.cache(read_text)
 
 
 def crates():
@@ -150,7 +148,7 @@ def calls_in(crate, path):
         yield Entry(crate, below(crate, path), name, clauses, text[found.start() : end], comment)
 
 
-@functools.lru_cache(maxsize=None)
+@functools.cache
 def calls(crate):
     """What a caller outside of the crate sees, in the order of the files."""
     return [call for path in sources(crate, "src", ".rt") for call in calls_in(crate, path)]
@@ -173,6 +171,6 @@ def definitions_in(crate, path):
         yield Entry(crate, below(crate, path), name, facts, body, comment_above(text, one.start(), "--"))
 
 
-@functools.lru_cache(maxsize=None)
+@functools.cache
 def definitions(crate):
     return [one for path in sources(crate, "specs", ".antt") for one in definitions_in(crate, path)]

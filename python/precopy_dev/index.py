@@ -3,13 +3,13 @@
 It also tells what the contracts of public calls determine (python/precopy_dev/determined/table.py)."""
 
 import argparse
-import os
 import re
 import sys
 import textwrap
 
 from precopy_dev import contracts
 from precopy_dev.determined import table
+from precopy_dev.files import write_file
 from precopy_dev.tree import TOP
 from precopy_tools import version
 
@@ -137,8 +137,7 @@ def main():
     if given.prints:
         sys.stdout.write(page())
         return
-    with open(os.path.join(TOP, PATH), "w", encoding="utf-8") as file:
-        file.write(page())
+    write_file(page(), TOP, PATH)
 
 
 if __name__ == "__main__":

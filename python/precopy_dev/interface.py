@@ -9,13 +9,13 @@ is left to write by hand after a new one is told when the files are written.
 """
 
 import itertools
-import os
 import re
 import sys
 import textwrap
 from collections.abc import Callable
 from typing import NamedTuple
 
+from precopy_dev.files import read_text, write_file
 from precopy_dev.tree import TOP
 from precopy_dev.words import parser_of
 
@@ -299,8 +299,7 @@ bindings/.
 
 def read(path: str) -> str:
     try:
-        with open(os.path.join(TOP, path), encoding="utf-8") as file:
-            return file.read()
+        return read_text(TOP, path)
     except FileNotFoundError:
         return ""
 
@@ -314,8 +313,7 @@ def main(words: list[str]) -> int:
     for path, text in differ.items():
         print(f"{path} {'differs' if asked.compare else 'is written'}")
         if not asked.compare:
-            with open(os.path.join(TOP, path), "w", encoding="utf-8") as file:
-                file.write(text)
+            write_file(text, TOP, path)
     if differ and not asked.compare:
         print(LEFT, end="")
     return int(bool(differ) and asked.compare)

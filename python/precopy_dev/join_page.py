@@ -20,6 +20,7 @@ import posixpath
 import re
 import sys
 
+from precopy_dev.files import read_bytes, write_file
 from precopy_dev.packaging import notices
 from precopy_dev.tree import TOP, read
 from precopy_tools.formats import traces
@@ -137,8 +138,7 @@ def main(words):
 def write_page(module, path):
     page = page_of(module)
     os.makedirs(os.path.dirname(os.path.abspath(path)), exist_ok=True)
-    with open(path, "w", encoding="utf-8") as file:
-        file.write(page)
+    write_file(page, path)
 
 
 def of_module(command, what, words, write):
@@ -148,8 +148,7 @@ def of_module(command, what, words, write):
         print(f"usage: {command} MODULE {what}", file=sys.stderr)
         return 2
     try:
-        with open(words[0], "rb") as file:
-            module = file.read()
+        module = read_bytes(words[0])
         write(module, words[1])
     except (OSError, Refused, notices.Lacks) as error:
         print(f"{command}: {error}", file=sys.stderr)

@@ -14,6 +14,7 @@ import posixpath
 import shutil
 import sys
 
+from precopy_dev.files import read_text, write_file
 from precopy_dev.join_page import IMPORT, of_module, scripts_below
 from precopy_dev.packaging import notices
 from precopy_dev.tree import read
@@ -54,8 +55,7 @@ def is_earlier(folder: str) -> bool:
     """Whether a folder is empty, or has a package of this name."""
     names = os.listdir(folder)
     if "package.json" in names:
-        with open(os.path.join(folder, "package.json"), encoding="utf-8") as file:
-            return f'"name": "{manifest()["name"]}",' in file.read()
+        return f'"name": "{manifest()["name"]}",' in read_text(folder, "package.json")
     return not names
 
 
@@ -69,8 +69,7 @@ def make(folder: str, files: dict[str, bytes]) -> None:
     for name, data in sorted(files.items()):
         path = os.path.join(part, name)
         os.makedirs(os.path.dirname(path), exist_ok=True)
-        with open(path, "wb") as file:
-            file.write(data)
+        write_file(data, path)
     shutil.rmtree(folder, ignore_errors=True)
     os.replace(part, folder)
 

@@ -19,6 +19,8 @@ import os
 import shutil
 import sys
 
+from precopy_dev.files import write_file
+
 # The names of rtlib that this script uses. Of a function or a class: what it is called with.
 NEEDED = {
     "RATTLE": None,
@@ -74,8 +76,7 @@ def toolchain():
 
 
 def mark(stamp, beside):
-    with open(f"{beside}/stamp", "w", encoding="utf-8") as file:
-        file.write(stamp)
+    write_file(stamp, f"{beside}/stamp")
 
 
 def crate_here(rtlib):

@@ -13,14 +13,15 @@ import sys
 import threading
 import time
 
+from precopy_dev.files import read_bytes
+
 TICKS = os.sysconf("SC_CLK_TCK")
 PHASES = ("proof", "tests", "edits")
 
 
 def read(path):
     try:
-        with open(path, "rb") as file:
-            return file.read()
+        return read_bytes(path)
     except OSError:
         return b""
 

@@ -3,6 +3,8 @@
 import os
 from typing import NamedTuple
 
+from precopy_dev.files import read_text
+
 # Its top.
 TOP = os.path.dirname(os.path.dirname(os.path.dirname(os.path.abspath(__file__))))
 
@@ -16,8 +18,7 @@ class Crate(NamedTuple):
 
 def read(path: str) -> str:
     """A text by its path from the top."""
-    with open(os.path.join(TOP, path), encoding="utf-8") as file:
-        return file.read()
+    return read_text(TOP, path)
 
 
 def crates() -> dict[str, Crate]:

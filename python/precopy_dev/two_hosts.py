@@ -23,6 +23,7 @@ import tempfile
 import threading
 import time
 
+from precopy_dev.files import write_file
 from precopy_dev.tree import TOP
 from precopy_tools import version, words
 
@@ -71,12 +72,6 @@ def run(*command: str) -> None:
         raise Failed(f"{' '.join(command)}: {done.stderr.strip()}")
 
 
-def write(path: str, text: str) -> str:
-    with open(path, "w", encoding="utf-8") as file:
-        file.write(text)
-    return path
-
-
 def server_settings(folder: str, address: str) -> str:
     path = os.environ.get("PATH", "/usr/bin:/bin")
     return (
@@ -100,7 +95,7 @@ class Host:
 
     def __init__(self, number: int, name: str, folder: str):
         self.name, self.address, gateway = name, f"10.0.{number}.2", f"10.0.{number}.1"
-        settings = write(f"{folder}/{name}.sshd", server_settings(folder, self.address))
+        settings = write_file(server_settings(folder, self.address), f"{folder}/{name}.sshd")
         command = [found("unshare"), "--net", "--uts", "--mount", "sh", "-c", START, "sh", name, self.address]
         self.log = open(f"{folder}/{name}.log", "w+b")
         self.process = subprocess.Popen([*command, found("sshd"), settings], stdout=self.log, stderr=self.log)
@@ -159,7 +154,7 @@ def with_hosts(command: list[str], seconds: float, lose: list[tuple[str, float]]
     try:
         for number, name in enumerate(HOSTS, 1):
             hosts.append(Host(number, name, folder))
-        settings = write(f"{folder}/ssh", client_settings(folder, {host.name: host.address for host in hosts}))
+        settings = write_file(client_settings(folder, {host.name: host.address for host in hosts}), f"{folder}/ssh")
         for host in hosts:
             host.wait_until_ready(settings)
         login = f"ssh -F {settings}"

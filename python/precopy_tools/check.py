@@ -15,8 +15,9 @@ import argparse
 import sys
 
 from precopy_tools import printed, version, words
+from precopy_tools.formats import traces
 
-WRONG = 3
+WRONG, PIECE = 3, 1 << 20
 
 
 def options_of(given: list[str]) -> argparse.Namespace:
@@ -30,8 +31,20 @@ def options_of(given: list[str]) -> argparse.Namespace:
 
 
 def read(path: str) -> bytes:
+    """A trace, of which no more is read than a byte beyond the greatest size, for which it is refused."""
     with open(path, "rb") as file:
-        return file.read()
+        return file.read(traces.Limits().bytes + 1)
+
+
+def checked(check, paths: list[str]):
+    """What is wrong first in the streams, which may be longer than memory: each is read in pieces, until it is over or
+    something is wrong in it."""
+    for number, path in enumerate(paths):
+        with open(path, "rb") as file:
+            while (piece := file.read(PIECE)) and not check.take(number, piece):
+                pass
+        check.end_stream(number)
+    return check.finish()
 
 
 def main(given: list[str]) -> int:
@@ -42,12 +55,11 @@ def main(given: list[str]) -> int:
         version.complain("check", f"the library for Python is not there: {fault}")
         return 2
     try:
-        trace, streams = read(options.trace), [read(path) for path in options.streams]
-        opened = precopy.OpenTrace(trace)
+        opened = precopy.OpenTrace(read(options.trace))
         writes = opened.writes
         after = writes if options.after is None else min(options.after, writes)
         stop = after if options.tick is None else opened.writes_before(options.tick)
-        found = precopy.check_streams(trace, stop, streams)
+        found = checked(opened.check(stop), options.streams)
     except (OSError, precopy.Refused) as fault:
         version.complain("check", str(fault))
         return 1

@@ -19,7 +19,7 @@ const SIZES_SIZE = 24;
 const CHOICE_SIZE = 16;
 const WINDOW_SIZE = 40;
 const TOUCH_SIZE = 16;
-const PAGE_MARK_SIZE = 16;
+const PAGE_MARK_SIZE = 8;
 
 /** Bytes of a page of WebAssembly memory. */
 const MEMORY_PAGE = 65_536;

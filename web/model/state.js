@@ -91,7 +91,7 @@ function wordOf(name, value) {
 }
 
 /** The settings as words of a query. */
-export function queryOf(settings) {
+function queryOf(settings) {
   const words = new URLSearchParams();
   for (const name of Object.keys(READERS)) {
     words.set(name, wordOf(name, settings[name]));

@@ -210,7 +210,7 @@ export class MapView {
 
   /** Draws the counts: the canvases, and over them the axes, the rows that are written most, and room for marks. */
   draw() {
-    const { axis, cells, grid, totals, width, settings } = this.held;
+    const { axis, cells, grid, width, settings } = this.held;
     this.row = this.row < grid.rows ? this.row : null;
     const most = cells.reduce((greatest, count) => Math.max(greatest, count), 0);
     const steps = heatSteps(most);

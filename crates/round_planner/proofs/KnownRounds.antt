@@ -4,10 +4,10 @@ use Rattle.std.proofs.Common.{sym, ap, subst, ◌∙◌, arith, ◌-◌, ◌⊎�
 use Rattle.std.specs.Prelude.{IfSome}
 use Rattle.std.proofs.lemmas.List.Elements.{All-replicate}
 use Rattle.migration_model.specs.Rates.{MigrationSettings}
-use Rattle.migration_model.specs.Rounds.{IsSent, NextRound, first_round, pages_lacking, round_after}
+use Rattle.migration_model.specs.Rounds.{IsSent, NextRound, pages_lacking, round_after}
 use Rattle.migration_model.specs.Touches.{GuestTouch, pages_written}
 use Rattle.page_bitmap.specs.Listing.{word_count}
-use Rattle.round_planner.specs.Indexing.{IsFirst, IsMarkedAt, IsTurned, RanTo}
+use Rattle.round_planner.specs.Indexing.{IsMarkedAt, IsTurned, RanTo}
 use Rattle.round_planner.specs.Known.{AreKnown, BeginsSo, IsAhead, RunsSo, start_of, sums_of}
 use Rattle.round_planner.specs.Steps.{IsAfter, numbers_after}
 use Rattle.round_planner.specs.declared.known.Ahead.{Ahead}
@@ -17,7 +17,7 @@ use Rattle.round_planner.specs.declared.numbers.RoundSums.{RoundSums}
 use Rattle.round_planner.specs.declared.step.After.TheVariants.{Go}
 use Rattle.round_planner.specs.declared.step.Step.{Step}
 use Rattle.round_planner.proofs.MarkedWays.{marked_next}
-use Rattle.round_planner.proofs.Outcomes.{goes_further, starts}
+use Rattle.round_planner.proofs.Outcomes.{goes_further}
 use Rattle.round_planner.proofs.Scans.{begun}
 
 abbrev pub no_round : Option KnownRound
@@ -75,18 +75,6 @@ begins_so pages touches s ahead is =
       rate_is = sym at.rate_is;
       skip_is = ap (λ n. s.skip && leb 1 n) (sym at.done_is);
     }
-
--- the first round
-pub ahead_first : (pages : ℕ) (touches : List GuestTouch) (s : MigrationSettings) (ahead : Ahead)
-    → IsFirst pages touches s ahead.numbers → ahead.since ≡ s.base → IsAhead pages touches s ahead
-ahead_first pages touches s ahead first since = record {
-  coming = first_round pages touches s;
-  rounds = [];
-  way = starts pages touches s ahead.numbers first;
-  pages_are = ap (λ base. pages_lacking pages touches base s.start) (sym since);
-  order = subst (λ (base : Option ℕ). IfSome base (λ tick. tick ≤ s.start)) (sym since) first.in_range.base_high;
-  in_range = first.in_range;
-}
 
 -- the round that comes begins as its numbers say, and does this
 pub runs_ahead : (pages : ℕ) (touches : List GuestTouch) (s : MigrationSettings) (ahead : Ahead) (start : RoundStart)

@@ -153,21 +153,18 @@ fn place(taken: &mut Vec<Option<Line>>, made: Vec<CaseLine>)
 
 /// Returns the line of a case, which is already there or is made now.
 fn line_or_new<T: Timeline>(
-    planner: &mut Planner,
+    alloc: Global,
     timeline: &T,
-    index: &RoundIndex,
     case: &Settings,
     taken: Option<Line>,
-) -> Line
-    requires planner { IsPlannerFor (T.pages timeline.now) (T.touches timeline.now) planner.old }
-    requires index { IsRoundIndexOf (T.pages timeline.now) (T.touches timeline.now) index.now }
-    requires taken { IfSome taken (IsLineOf (T.pages timeline.now) (T.touches timeline.now) case.now) }
-    ensures line { IsLineOf (T.pages timeline.now) (T.touches timeline.now) case.now result }
-    ensures planner { IsPlannerFor (T.pages timeline.now) (T.touches timeline.now) planner.new }
+) -> Result<Line, SweepError>
+    requires { IfSome taken (IsLineOf (T.pages timeline.now) (T.touches timeline.now) case.now) }
+    ensures line { IfOk result (IsLineOf (T.pages timeline.now) (T.touches timeline.now) case.now) }
+    ensures refusal { IfErr result (λ e. e ≡ SweepError.Memory) }
 {
     match taken {
-        Some(line) => line,
-        None => line_by(planner, timeline, index, case),
+        Some(line) => Ok(line),
+        None => line_of(alloc, timeline, case),
     }
 }
 
@@ -175,21 +172,17 @@ fn line_or_new<T: Timeline>(
 fn in_order<T: Timeline>(
     alloc: Global,
     timeline: &T,
-    index: &RoundIndex,
     cases: &[Settings],
     mut taken: Vec<Option<Line>>,
 ) -> Result<Vec<Line>, SweepError>
-    requires index { IsRoundIndexOf (T.pages timeline.now) (T.touches timeline.now) index.now }
-    requires taken { AreTaken (T.pages timeline.now) (T.touches timeline.now) cases.now taken.items }
+    requires { AreTaken (T.pages timeline.now) (T.touches timeline.now) cases.now taken.items }
     ensures lines { IfOk result (λ lines. AreLines (T.pages timeline.now) (T.touches timeline.now)
         cases.now lines.items) }
     ensures refusal { IfErr result (λ e. e ≡ SweepError.Memory) }
 {
-    let mut planner = Planner::new(alloc, timeline).or(Err(SweepError::Memory))?;
     let mut lines = Vec::with_capacity(alloc, cases.len())?;
     for (number, case) in cases.iter().enumerate() {
-        let line = line_or_new(&mut planner, timeline, index, case, taken[number].take());
-        lines.push(line)?;
+        lines.push(line_or_new(alloc, timeline, case, taken[number].take())?)?;
     }
     Ok(lines)
 }
@@ -245,9 +238,9 @@ fn workers_for<T: Timeline>(timeline: &T, cases: usize, workers: usize) -> usize
     workers.min(cases).min(most)
 }
 
-/// Starts workers side by side, if it is worth starting threads, and puts the lines that they make into the slots of
+/// Makes the lines of all cases, by workers side by side if it is worth starting threads, and puts them into the slots of
 /// their cases.
-fn make_beside<R: Threads + Sync, T: Timeline + Sync>(
+fn make_lines<R: Threads + Sync, T: Timeline + Sync>(
     rt: &R,
     alloc: Global,
     timeline: &T,
@@ -315,8 +308,8 @@ pub fn sweep<R: Threads + Sync, T: Timeline + Sync>(
     }
     let index = RoundIndex::build(alloc, timeline).or(Err(SweepError::Memory))?;
     let mut taken = no_lines(alloc, cases.len())?;
-    make_beside(rt, alloc, timeline, &index, cases, workers, &mut taken)?;
-    in_order(alloc, timeline, &index, cases, taken)
+    make_lines(rt, alloc, timeline, &index, cases, workers, &mut taken)?;
+    in_order(alloc, timeline, cases, taken)
 }
 
 /// Returns the lines of [`sweep`], all made on the caller's thread.
@@ -335,5 +328,5 @@ pub fn sweep_in_turn<T: Timeline>(
     let index = RoundIndex::build(alloc, timeline).or(Err(SweepError::Memory))?;
     let mut taken = no_lines(alloc, cases.len())?;
     make_alone(alloc, timeline, &index, cases, &mut taken)?;
-    in_order(alloc, timeline, &index, cases, taken)
+    in_order(alloc, timeline, cases, taken)
 }

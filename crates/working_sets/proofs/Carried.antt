@@ -1,20 +1,17 @@
 -- Pieces that are counted side by side.
-use Rattle.std.proofs.Common.{◌≡◌, ℕ, suc, zero, ltb, ◌+◌, ◌*◌, ◌/◌, ◌^◌, ◌<◌, ◌≤◌, Bool, true, false, cond, eqb, not, leb, ◌&&◌, List}
+use Rattle.std.proofs.Common.{◌≡◌, ℕ, suc, zero, ltb, ◌+◌, ◌*◌, ◌/◌, ◌<◌, ◌≤◌, Bool, true, false, cond, eqb, not, leb, ◌&&◌, List}
 use Rattle.std.proofs.Common.{[], ◌∷◌, ◌++◌, Option, None, Some, Result, drop, length, get_or, set, replicate, refl, sym, ap, subst, ◌∙◌}
 use Rattle.std.proofs.Common.{inl, inr, arith}
-use Rattle.std.specs.List.{All, filter, range_with_len}
-use Rattle.std.proofs.Math.Nat.{lt-div-mul-add, mul-le-mul_left, mul-le-mul_right}
-use Rattle.std.proofs.lemmas.Bool.{cases_eq}
-use Rattle.std.proofs.lemmas.List.{append-nil, append_assoc, get_or-replicate, get_or-set_same, get_or-set_other}
-use Rattle.std.proofs.lemmas.List.{get_or_append_left, length-append, length-replicate, length-set}
+use Rattle.std.proofs.Math.Nat.{lt-div-mul-add, mul-le-mul_right}
+use Rattle.std.proofs.lemmas.Bool.{cases_eq, cond_both}
+use Rattle.std.proofs.lemmas.List.{append-nil, append_assoc, get_or-replicate}
+use Rattle.std.proofs.lemmas.List.{length-append, length-replicate, length-set}
 use Rattle.std.proofs.lemmas.List.Sums.{fold_more}
 use Rattle.migration_model.specs.Rates.{MigrationSettings, AreSettings}
-use Rattle.migration_model.specs.Trace.{last_by}
 use Rattle.migration_model.specs.Touches.{GuestTouch, IsTouch, AreTouches, no_touch}
 use Rattle.migration_model.specs.Windows.{WindowRow}
-use Rattle.migration_model.proofs.Order.{last_by-le}
-use Rattle.migration_model.proofs.Ranges.{filter_range_agree}
-use Rattle.working_sets.specs.Counting.{CanAdd, CanCount, Counting, HasRoom, blank, counted, hot_of, mark_of, marked, one_if, passed}
+use Rattle.working_sets.specs.Counting.{CanAdd, Counting, HasRoom, PageMark, blank, counted, first_window}
+use Rattle.working_sets.specs.Counting.{mark_of, marked, one_if, unseen}
 use Rattle.working_sets.specs.Counting.{row_closed, started, turned, turned_open, unmarked, window_at, with_row, written}
 use Rattle.working_sets.specs.Pieces.{Begins, Carries, FitsRow, added, head_of, pushed, row_with, rows_with}
 use Rattle.working_sets.specs.Pieces.{AreMade, IsJoined, IsMade, cut_at, state_at, stepped}
@@ -23,13 +20,9 @@ use Rattle.working_sets.specs.declared.counting.PageSeen.{PageSeen}
 use Rattle.working_sets.specs.declared.error.TablesError.{TablesError}
 use Rattle.working_sets.specs.declared.joining.Joined.{Joined}
 use Rattle.working_sets.specs.declared.pieces.Piece.{Piece}
-use Rattle.working_sets.proofs.Counts.{count_le}
-use Rattle.working_sets.proofs.Last.{in_window}
-use Rattle.working_sets.proofs.Open.{room_turned}
+use Rattle.working_sets.proofs.Seen.{set_elsewhere, set_here}
 use Rattle.working_sets.proofs.Rows.{IsSmall, IsSmall-row_of, same_row}
-use Rattle.working_sets.proofs.Shown.{quotient_low}
 use Rattle.working_sets.proofs.Whole.{PassesTo, one_more_added, ready_to_add, start_of_pass}
-use Rattle.working_sets.proofs.Written.{hits}
 
 -- ---- the states of one pass
 
@@ -80,39 +73,56 @@ fits_at pages n touches s now fits few p =
       fresh = omega (arith, small.fresh_high);
     }
 
-pub windows_at : (pages n page : ℕ) (touches : List GuestTouch) (s : MigrationSettings) (now : Counting)
-    → AreTouches pages touches → PassesTo pages touches s n now → page < pages → (mark_of now page).windows < 2 ^ 64
-windows_at pages n page touches s now fits p low =
-    let q = p.passes in
-    let own = q.shows.each page unmarked low in
-    let high = count_le (λ i. hits (in_window now.window i) page q.done) 0 (now.row.number + 1) in
-    let early : All (λ x. x.tick ≤ 2 ^ 40) q.done = λ k d within.
-    let each : All (IsTouch pages) (q.done ++ drop n touches) = rw (← q.joined) at fits.each in
-    let is = each k d (omega (arith, length-append q.done (drop n touches))) in
-    let here : IsTouch pages (get_or q.done k d) = rw (get_or_append_left q.done (drop n touches) d k within) at is in
-    omega (arith, here.tick) in
-    let last : last_by (λ t. t.tick) q.done ≤ 2 ^ 40 = last_by-le (λ t. t.tick) (2 ^ 40) q.done early in
-    let quotient = quotient_low (last_by (λ t. t.tick) q.done) now.window in
-    let times : last_by (λ t. t.tick) q.done / now.window * 1
-    ≤ last_by (λ t. t.tick) q.done / now.window * now.window =
-    mul-le-mul_left (last_by (λ t. t.tick) q.done / now.window) q.shows.some in
-    omega (arith, own.windows, high, q.at, last, quotient, times)
+one_if_low : (b : Bool) → one_if b ≤ 1
+one_if_low true = omega arith
+one_if_low false = omega arith
 
--- ---- marks
+-- a page is in no more windows than there are touches
+mark_few : (n page at_page : ℕ) (s : Counting) → at_page < length s.marks → (mark_of s page).windows ≤ n
+    → (mark_of (written s at_page) page).windows ≤ n + 1
+mark_few n page at_page s low few = elim (cases_eq at_page page) [
+  | inl same ↦
+      let there = marked (mark_of s at_page) s.row.number in
+      let here = ap (λ (m : PageMark). m.windows) (set_here s.marks at_page page there unmarked same low) in
+      let old : (mark_of s at_page).windows ≡ (mark_of s page).windows = ap (λ p. (mark_of s p).windows) same in
+      let one = one_if_low (not (eqb (mark_of s at_page).last (s.row.number + 1))) in
+      omega (arith, here, old, one, few)
+  | inr other ↦
+      let there = marked (mark_of s at_page) s.row.number in
+      let kept = ap (λ (m : PageMark). m.windows) (set_elsewhere s.marks at_page page there unmarked other) in
+      omega (arith, kept, few)
+]
 
-pub same_mark : (marks : List PageSeen) (page at : ℕ) (mark : PageSeen) → page ≡ at → page < length marks
-    → get_or (set marks page mark) at unmarked ≡ mark
-same_mark marks page at mark same low =
-    ap (λ p. get_or (set marks page mark) p unmarked) (sym same) ∙ get_or-set_same marks page mark unmarked low
-
-pub other_mark : (marks : List PageSeen) (page at : ℕ) (mark : PageSeen) → (page ≡ at → ⊥)
-    → get_or (set marks page mark) at unmarked ≡ get_or marks at unmarked
-other_mark marks page at mark other = get_or-set_other marks page at mark unmarked (λ e. other (sym e))
+pub windows_few : (pages n page : ℕ) (touches : List GuestTouch) (s : MigrationSettings) → AreSettings s
+    → AreTouches pages touches → n ≤ length touches → page < pages
+    → (mark_of (state_at s.window pages touches n) page).windows ≤ n
+windows_few pages zero page touches s are fits low within =
+    let first = ap (λ (x : Counting). (mark_of x page).windows) (state_first s.window pages touches) in
+    let none = ap (λ (m : PageMark). m.windows) (get_or-replicate pages page unmarked unmarked within) in
+    omega (arith, first, none)
+windows_few pages (suc n) page touches s are fits low within =
+    let more : n + 1 ≡ suc n = omega arith in
+    let early : n < length touches = omega arith in
+    let touch = get_or touches n no_touch in
+    let now = state_at s.window pages touches n in
+    let before = windows_few pages n page touches s are fits (omega arith) within in
+    let passes = passes_at pages touches s n are fits (omega arith) in
+    let len = passes.passes.shows.len in
+    let is : IsTouch pages touch = fits.each n no_touch early in
+    let turned_len : length (turned now touch.tick).marks ≡ length now.marks =
+    cond_both (ltb touch.tick now.end) _ _ (λ (x : Counting). length x.marks ≡ length now.marks) (λ _. refl) (λ _. refl) in
+    let turned_few : (mark_of (turned now touch.tick) page).windows ≤ n =
+    cond_both (ltb touch.tick now.end) _ _ (λ (x : Counting). (mark_of x page).windows ≤ n) (λ _. before) (λ _. before) in
+    let next = mark_few n page touch.page (turned now touch.tick) (omega (arith, turned_len, len, is.page)) turned_few in
+    let state = state_more s.window pages n touches touch early refl in
+    let same = ap (λ (x : Counting). (mark_of x page).windows) state in
+    let at_more = ap (λ m. (mark_of (state_at s.window pages touches m) page).windows) more in
+    omega (arith, at_more, same, next)
 
 -- ---- where a piece begins
 
-pub begins_first : (w pages : ℕ) (touches : List GuestTouch) (at : OpenWindow) (marks : List PageSeen)
-    → at ≡ record { end = w; row = blank 0 } → marks ≡ replicate pages unmarked
+pub begins_first : (w pages : ℕ) (touches : List GuestTouch) (at : OpenWindow) (marks : List PageMark)
+    → at ≡ first_window w → marks ≡ replicate pages unmarked
     → Begins (state_at w pages touches 0) at marks
 begins_first w pages touches at marks at_is marks_are =
     rw (state_first w pages touches, at_is, marks_are) (record {
@@ -120,17 +130,17 @@ begins_first w pages touches at marks at_is marks_are =
       row_is = refl;
       len = refl;
       last = λ page low. refl;
-      windows = λ page low. ap (λ (m : PageSeen). m.windows) (get_or-replicate pages page unmarked unmarked
+      windows = λ page low. ap (λ (m : PageMark). m.windows) (get_or-replicate pages page unmarked unmarked
           (omega (arith, length-replicate pages unmarked)));
     })
 
-begins_either : (b : Bool) (w tick : ℕ) (now : Counting) (at : OpenWindow) (marks : List PageSeen) → now.window ≡ w
+begins_either : (b : Bool) (w tick : ℕ) (now : Counting) (at : OpenWindow) (marks : List PageMark) → now.window ≡ w
     → Begins now at marks
     → Begins (cond b now (record now {
       end = (tick / now.window + 1) * now.window;
       rows = with_row now.rows now.row;
       row = blank (tick / now.window);
-    })) (cond b at (window_at w tick)) marks
+    })) (cond b at (window_at w tick at)) marks
 begins_either true w tick now at marks w_is c = c
 begins_either false w tick now at marks w_is c = record {
   end_is = ap (λ v. (tick / v + 1) * v) (sym w_is);
@@ -140,16 +150,20 @@ begins_either false w tick now at marks w_is c = record {
   windows = c.windows;
 }
 
-begins_turned : (w tick : ℕ) (now : Counting) (at : OpenWindow) (marks : List PageSeen) → now.window ≡ w
+begins_turned : (w tick : ℕ) (now : Counting) (at : OpenWindow) (marks : List PageMark) → now.window ≡ w
     → Begins now at marks → Begins (turned now tick) (turned_open w tick at) marks
 begins_turned w tick now at marks w_is c =
-    subst (λ e. Begins (turned now tick) (cond (ltb tick e) at (window_at w tick)) marks) (sym c.end_is)
+    subst (λ e. Begins (turned now tick) (cond (ltb tick e) at (window_at w tick at)) marks) (sym c.end_is)
     (begins_either (ltb tick now.end) w tick now at marks w_is c)
 
-begins_passed : (page : ℕ) (now : Counting) (at : OpenWindow) (marks : List PageSeen) → page < length marks
-    → Begins now at marks → Begins (written now page) at (passed marks page at.row.number)
+-- marks after a write to a page in the window of a number, if nothing is counted
+abbrev pub marks_passed : List PageMark → ℕ → ℕ → List PageMark
+marks_passed marks page number = set marks page (record (get_or marks page unmarked) { last = number + 1 })
+
+begins_passed : (page : ℕ) (now : Counting) (at : OpenWindow) (marks : List PageMark) → page < length marks
+    → Begins now at marks → Begins (written now page) at (marks_passed marks page at.row.number)
 begins_passed page now at marks low c =
-    let new : PageSeen = record (get_or marks page unmarked) { last = at.row.number + 1 } in
+    let new : PageMark = record (get_or marks page unmarked) { last = at.row.number + 1 } in
     let there = marked (mark_of now page) now.row.number in
     let number : at.row.number ≡ now.row.number = ap (λ (r : WindowRow). r.number) c.row_is in
     record {
@@ -157,28 +171,28 @@ begins_passed page now at marks low c =
       row_is = c.row_is;
       len = length-set marks page new ∙ c.len ∙ sym (length-set now.marks page there);
       last = λ at_page within. elim (cases_eq page at_page) [
-        | inl same ↦ ap (λ (m : PageSeen). m.last) (same_mark marks page at_page new same low)
+        | inl same ↦ ap (λ (m : PageMark). m.last) (set_here marks page at_page new unmarked same low)
             ∙ ap (λ n. n + 1) number
-            ∙ sym (ap (λ (m : PageSeen). m.last)
-            (same_mark now.marks page at_page there same (omega (arith, c.len))))
-        | inr other ↦ ap (λ (m : PageSeen). m.last) (other_mark marks page at_page new other)
+            ∙ sym (ap (λ (m : PageMark). m.last)
+            (set_here now.marks page at_page there unmarked same (omega (arith, c.len))))
+        | inr other ↦ ap (λ (m : PageMark). m.last) (set_elsewhere marks page at_page new unmarked other)
             ∙ c.last at_page (omega (arith, length-set marks page new))
-            ∙ sym (ap (λ (m : PageSeen). m.last) (other_mark now.marks page at_page there other))
+            ∙ sym (ap (λ (m : PageMark). m.last) (set_elsewhere now.marks page at_page there unmarked other))
       ];
       windows = λ at_page within. elim (cases_eq page at_page) [
-        | inl same ↦ ap (λ (m : PageSeen). m.windows) (same_mark marks page at_page new same low)
+        | inl same ↦ ap (λ (m : PageMark). m.windows) (set_here marks page at_page new unmarked same low)
             ∙ c.windows page low
-        | inr other ↦ ap (λ (m : PageSeen). m.windows) (other_mark marks page at_page new other)
+        | inr other ↦ ap (λ (m : PageMark). m.windows) (set_elsewhere marks page at_page new unmarked other)
             ∙ c.windows at_page (omega (arith, length-set marks page new))
       ];
     }
 
 pub begins_more : (w pages n tick page : ℕ) (touches : List GuestTouch) (touch : GuestTouch) (at : OpenWindow)
-    (turn : OpenWindow) (marks new : List PageSeen)
+    (turn : OpenWindow) (marks new : List PageMark)
     → (state_at w pages touches n).window ≡ w → n < length touches → touch ≡ get_or touches n no_touch
     → tick ≡ touch.tick → page ≡ touch.page → page < length marks
     → Begins (state_at w pages touches n) at marks → turn ≡ turned_open w tick at
-    → new ≡ passed marks page turn.row.number
+    → new ≡ marks_passed marks page turn.row.number
     → Begins (state_at w pages touches (n + 1)) turn new
 begins_more w pages n tick page touches touch at turn marks new w_is low is tick_is page_is within c turn_is new_is =
     let now = state_at w pages touches n in
@@ -188,18 +202,9 @@ begins_more w pages n tick page touches touch at turn marks new w_is low is tick
     rw (after, new_is, turn_is)
     (begins_passed page (turned now tick) (turned_open w tick at) marks within there)
 
--- the number of the open window, and so 1 more, is low
-pub number_low : (b : Bool) (w tick : ℕ) (now : Counting) (at : OpenWindow) → HasRoom now.row → at.row ≡ blank now.row.number
-    → tick < 2 ^ 40 → 1 ≤ w → (cond b at (window_at w tick)).row.number + 1 < 2 ^ 64
-number_low true w tick now at room is low some = omega (arith, room.number, ap (λ (r : WindowRow). r.number) is)
-number_low false w tick now at room is low some =
-    let quotient = quotient_low tick w in
-    let number : tick / w * 1 ≤ tick / w * w = mul-le-mul_left (tick / w) some in
-    omega (arith, quotient, number)
-
 -- ---- a piece on its way
 
-pub carries_first : (now : Counting) (at : OpenWindow) (marks : List PageSeen) → FitsRow now.row → Begins now at marks
+pub carries_first : (now : Counting) (at : OpenWindow) (marks : List PageMark) → FitsRow now.row → Begins now at marks
     → Carries now now [] at marks
 carries_first now at marks fits c =
     let same : now.row ≡ added now.row at.row =
@@ -239,12 +244,12 @@ pushed_if rows None = rows
 pushed_if rows (Some row) = pushed rows row
 
 carries_either : (b : Bool) (w tick : ℕ) (before now : Counting) (rows : List WindowRow) (at : OpenWindow)
-    (marks : List PageSeen) → now.window ≡ w → Carries before now rows at marks
+    (marks : List PageMark) → now.window ≡ w → Carries before now rows at marks
     → Carries before (cond b now (record now {
       end = (tick / now.window + 1) * now.window;
       rows = with_row now.rows now.row;
       row = blank (tick / now.window);
-    })) (pushed_if rows (cond b None (Some at.row))) (cond b at (window_at w tick)) marks
+    })) (pushed_if rows (cond b None (Some at.row))) (cond b at (window_at w tick at)) marks
 carries_either true w tick before now rows at marks w_is c = c
 carries_either false w tick before now rows at marks w_is c = record {
   end_is = ap (λ v. (tick / v + 1) * v) (sym w_is);
@@ -256,12 +261,12 @@ carries_either false w tick before now rows at marks w_is c = record {
   each = c.each;
 }
 
-carries_turned : (w tick : ℕ) (before now : Counting) (rows : List WindowRow) (at : OpenWindow) (marks : List PageSeen)
+carries_turned : (w tick : ℕ) (before now : Counting) (rows : List WindowRow) (at : OpenWindow) (marks : List PageMark)
     → now.window ≡ w → Carries before now rows at marks
     → Carries before (turned now tick) (pushed_if rows (row_closed tick at)) (turned_open w tick at) marks
 carries_turned w tick before now rows at marks w_is c =
     subst (λ e. Carries before (turned now tick) (pushed_if rows (cond (ltb tick e) None (Some at.row)))
-    (cond (ltb tick e) at (window_at w tick)) marks) (sym c.end_is)
+    (cond (ltb tick e) at (window_at w tick at)) marks) (sym c.end_is)
     (carries_either (ltb tick now.end) w tick before now rows at marks w_is c)
 
 row_counted : (rows : List WindowRow) (old row : WindowRow) (last : ℕ) → row.number ≡ (row_with old rows row).number
@@ -281,7 +286,7 @@ fits_counted : (rows : List WindowRow) (old row more : WindowRow) → FitsRow (a
 fits_counted [] old row more fits new = new
 fits_counted (head ∷ rows) old row more fits new = fits
 
-carries_written : (page : ℕ) (before now : Counting) (rows : List WindowRow) (at : OpenWindow) (marks : List PageSeen)
+carries_written : (page : ℕ) (before now : Counting) (rows : List WindowRow) (at : OpenWindow) (marks : List PageMark)
     → page < length marks → FitsRow (written now page).row → Carries before now rows at marks
     → Carries before (written now page) rows (record at { row = counted at.row (get_or marks page unmarked).last })
     (set marks page (marked (get_or marks page unmarked) at.row.number))
@@ -306,34 +311,34 @@ carries_written page before now rows at marks low fits c =
       len = length-set marks page new ∙ c.len ∙ sym (length-set now.marks page there);
       each = λ q within. elim (cases_eq page q) [
         | inl same ↦
-            let here = same_mark marks page q new same low in
-            let that = same_mark now.marks page q there same (omega (arith, c.len)) in
+            let here = set_here marks page q new unmarked same low in
+            let that = set_here now.marks page q there unmarked same (omega (arith, c.len)) in
             let old : mark_of before page ≡ mark_of before q = ap (mark_of before) same in
             record {
-              last = ap (λ (m : PageSeen). m.last) here ∙ ap (λ n. n + 1) c.number
-                  ∙ sym (ap (λ (m : PageSeen). m.last) that);
+              last = ap (λ (m : PageMark). m.last) here ∙ ap (λ n. n + 1) c.number
+                  ∙ sym (ap (λ (m : PageMark). m.last) that);
               windows = omega (
                 arith,
-                ap (λ (m : PageSeen). m.windows) here,
-                ap (λ (m : PageSeen). m.windows) that,
-                ap (λ (m : PageSeen). m.windows) old,
+                ap (λ (m : PageMark). m.windows) here,
+                ap (λ (m : PageMark). m.windows) that,
+                ap (λ (m : PageMark). m.windows) old,
                 own.windows,
                 counts,
               );
             }
         | inr other ↦
-            let here = other_mark marks page q new other in
-            let that = other_mark now.marks page q there other in
+            let here = set_elsewhere marks page q new unmarked other in
+            let that = set_elsewhere now.marks page q there unmarked other in
             let is = c.each q (omega (arith, length-set marks page new)) in
             record {
-              last = ap (λ (m : PageSeen). m.last) here ∙ is.last ∙ sym (ap (λ (m : PageSeen). m.last) that);
-              windows = ap (λ (m : PageSeen). m.windows) that ∙ is.windows
-                  ∙ ap (λ n. (mark_of before q).windows + n) (sym (ap (λ (m : PageSeen). m.windows) here));
+              last = ap (λ (m : PageMark). m.last) here ∙ is.last ∙ sym (ap (λ (m : PageMark). m.last) that);
+              windows = ap (λ (m : PageMark). m.windows) that ∙ is.windows
+                  ∙ ap (λ n. (mark_of before q).windows + n) (sym (ap (λ (m : PageMark). m.windows) here));
             }
       ];
     }
 
-room_carried : (rows : List WindowRow) (old row now : WindowRow) → now ≡ row_with old rows row → row.number ≡ now.number
+pub room_carried : (rows : List WindowRow) (old row now : WindowRow) → now ≡ row_with old rows row → row.number ≡ now.number
     → HasRoom now → HasRoom row
 room_carried [] old row now is number room = record {
   number = omega (arith, number, room.number);
@@ -344,26 +349,9 @@ room_carried [] old row now is number room = record {
 }
 room_carried (head ∷ rows) old row now is number room = subst HasRoom is room
 
--- the next touch may be counted, once its window is open
-pub carries_count : (w tick page : ℕ) (before now : Counting) (rows : List WindowRow) (at turn : OpenWindow)
-    (marks : List PageSeen) → now.window ≡ w → turn ≡ turned_open w tick at → CanAdd now tick page
-    → Carries before now rows at marks → CanCount turn.row marks page
-carries_count w tick page before now rows at turn marks w_is turn_is can c =
-    let low : page < length marks = omega (arith, can.page_low, c.len) in
-    let some : 1 ≤ w = omega (arith, w_is, can.window_some) in
-    let quotient = quotient_low tick w in
-    let number : tick / w * 1 ≤ tick / w * w = mul-le-mul_left (tick / w) some in
-    let room = room_carried rows before.row at.row now.row c.row_is c.number can.row in
-    let opened = room_turned (ltb tick at.end) w tick at room (omega (arith, quotient, number, can.tick_low)) in
-    record {
-      page_low = low;
-      room = subst (λ (x : OpenWindow). HasRoom x.row) (sym turn_is) opened;
-      mark = omega (arith, can.mark, (c.each page low).windows);
-    }
-
 -- a touch is counted
 pub carries_more : (w pages n tick page : ℕ) (touches : List GuestTouch) (touch : GuestTouch) (before : Counting)
-    (rows closed : List WindowRow) (at turn new : OpenWindow) (marks seen : List PageSeen)
+    (rows closed : List WindowRow) (at turn new : OpenWindow) (marks seen : List PageMark)
     → (state_at w pages touches n).window ≡ w → n < length touches → touch ≡ get_or touches n no_touch
     → tick ≡ touch.tick → page ≡ touch.page → page < length marks
     → FitsRow (state_at w pages touches (n + 1)).row → Carries before (state_at w pages touches n) rows at marks
@@ -397,7 +385,7 @@ cut_order touches each number =
     omega arith
 
 pub joined_first : (w pages each : ℕ) (touches : List GuestTouch) (joined : Joined) → joined.rows.items ≡ []
-    → joined.row ≡ blank 0 → joined.marks.items ≡ replicate pages unmarked
+    → joined.row ≡ blank 0 → joined.marks.items ≡ replicate pages unseen
     → IsJoined (state_at w pages touches (cut_at touches each 0)) joined
 joined_first w pages each touches joined rows row marks =
     let none : cut_at touches each 0 ≡ 0 = omega arith in
@@ -406,19 +394,13 @@ joined_first w pages each touches joined rows row marks =
     rw at (record {
       rows = rows;
       row = row;
-      len = ap length marks;
-      windows = λ page low. ap (λ (ms : List PageSeen). (get_or ms page unmarked).windows) marks;
+      len = ap length marks ∙ length-replicate pages unseen ∙ sym (length-replicate pages unmarked);
+      windows = λ page low.
+          let within : page < pages = omega (arith, low, ap length marks, length-replicate pages unseen) in
+          (λ i. (get_or (marks i) page unseen).windows)
+          ∙ ap (λ (m : PageSeen). m.windows) (get_or-replicate pages page unseen unseen within)
+          ∙ sym (ap (λ (m : PageMark). m.windows) (get_or-replicate pages page unmarked unmarked within));
     })
-
--- marks with the same windows have the same hot pages
-pub hot_same : (hot : ℕ) (a b : List PageSeen) → length a ≡ length b
-    → ((page : ℕ) → page < length a → (get_or a page unmarked).windows ≡ (get_or b page unmarked).windows)
-    → hot_of a hot ≡ hot_of b hot
-hot_same hot a b len same =
-    filter_range_agree (λ page. leb hot (get_or b page unmarked).windows)
-    (λ page. leb hot (get_or a page unmarked).windows) 0 (length a)
-    (λ page low high. ap (λ n. leb hot n) (same page (omega arith)))
-    ∙ ap (λ n. filter (λ page. leb hot (get_or b page unmarked).windows) (range_with_len 0 n)) len
 
 pub made_from : (w pages each number : ℕ) (touches : List GuestTouch) (made : List (Result Piece TablesError))
     → ((i : ℕ) (d : Result Piece TablesError) → i < length made

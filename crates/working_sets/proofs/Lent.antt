@@ -17,14 +17,14 @@ use Rattle.migration_model.specs.Touches.{GuestTouch, AreTouches}
 use Rattle.migration_model.specs.Windows.{WindowRow, WorkingSets, rows_of, row_of, windows_of, working_sets_of}
 use Rattle.migration_model.proofs.Order.{in_order-front, last_by-le, last_by-push}
 use Rattle.migration_model.proofs.Lists.{over_more}
-use Rattle.working_sets.specs.Counting.{blank, finished, one_if, row_closed, started, unmarked, with_row}
+use Rattle.working_sets.specs.Counting.{finished, first_window, one_if, row_closed, unseen, with_row}
 use Rattle.working_sets.specs.Lending.{HasRows, count_after, numbers_of, rows_after, rows_over}
 use Rattle.working_sets.specs.declared.counting.OpenWindow.{OpenWindow}
 use Rattle.working_sets.specs.declared.counting.PageSeen.{PageSeen}
 use Rattle.working_sets.specs.declared.lending.WindowNumbers.{WindowNumbers}
-use Rattle.working_sets.proofs.Open.{state_of, with_closed}
+use Rattle.working_sets.proofs.Open.{TablesTo, state_of, tables_start, with_closed}
 use Rattle.working_sets.proofs.Shown.{has_write, quotient_low}
-use Rattle.working_sets.proofs.Whole.{PassesTo, start_of_pass, end_of_pass}
+use Rattle.working_sets.proofs.Whole.{end_of_pass}
 
 -- ---- the buffer of rows
 
@@ -84,24 +84,22 @@ turned_either false closed old rows count row low are = closed_after closed old 
 
 -- a pass that has reached a touch
 pub record LentPasses (pages : ℕ) (touches : List GuestTouch) (s : MigrationSettings) (index w : ℕ) (at : OpenWindow)
-    (count : ℕ) (marks : List PageSeen) (old rows : List WindowNumbers) : Type 0 where
+    (count : ℕ) (seen : List PageSeen) (old rows : List WindowNumbers) : Type 0 where
   pub closed : List WindowRow
-  pub passes : PassesTo pages touches s index (state_of w at closed marks)
+  pub passes : TablesTo pages touches s index w at closed seen
   pub are : AreClosed closed old rows count
   pub few : length closed + one_if (leb 1 at.row.writes) ≤ index
 
 pub lent_start : (pages : ℕ) (touches : List GuestTouch) (s : MigrationSettings) (w : ℕ) (at : OpenWindow)
-    (marks : List PageSeen) (rows : List WindowNumbers) → AreSettings s
-    → w ≡ s.window → at ≡ record { end = w; row = blank 0 } → marks ≡ replicate pages unmarked
-    → LentPasses pages touches s 0 w at 0 marks rows rows
-lent_start pages touches s w at marks rows are w_is at_is marks_are =
-    let begun : state_of w at [] marks ≡ started w pages = λ i. state_of w (at_is i) [] (marks_are i) in
-    record {
-      closed = [];
-      passes = start_of_pass pages touches s (state_of w at [] marks) w pages are begun w_is refl;
-      are = record { rows_are = refl; count_is = refl; len = refl };
-      few = omega (arith, ap (λ (x : OpenWindow). one_if (leb 1 x.row.writes)) at_is);
-    }
+    (seen : List PageSeen) (rows : List WindowNumbers) → AreSettings s
+    → w ≡ s.window → at ≡ first_window w → seen ≡ replicate pages unseen
+    → LentPasses pages touches s 0 w at 0 seen rows rows
+lent_start pages touches s w at seen rows are w_is at_is seen_are = record {
+  closed = [];
+  passes = tables_start pages touches s w at [] seen are w_is at_is refl seen_are;
+  are = record { rows_are = refl; count_is = refl; len = refl };
+  few = omega (arith, ap (λ (x : OpenWindow). one_if (leb 1 x.row.writes)) at_is);
+}
 
 -- ---- there is a slot for each row
 
@@ -135,11 +133,11 @@ last_of_front done (x ∷ left) order =
 
 -- there are fewer closed rows than windows
 pub closed_few : (pages : ℕ) (touches : List GuestTouch) (s : MigrationSettings) (index w : ℕ) (at : OpenWindow)
-    (marks : List PageSeen) (closed : List WindowRow) → AreTouches pages touches
-    → PassesTo pages touches s index (state_of w at closed marks) → 1 ≤ w → w ≡ s.window
+    (seen : List PageSeen) (closed : List WindowRow) → AreTouches pages touches
+    → TablesTo pages touches s index w at closed seen → 1 ≤ w → w ≡ s.window
     → length closed < windows_of touches w
-closed_few pages touches s index w at marks closed fits p some w_is =
-    let q = p.passes in
+closed_few pages touches s index w at seen closed fits p some w_is =
+    let q = p.passes.passes in
     let number = at.row.number in
     let rows : length closed ≤ number = omega (
       arith,
@@ -159,16 +157,16 @@ closed_few pages touches s index w at marks closed fits p some w_is =
     omega (arith, rows, q.at, under)
 
 pub slot_low : (pages : ℕ) (touches : List GuestTouch) (s : MigrationSettings) (index w : ℕ) (at : OpenWindow)
-    (count : ℕ) (marks : List PageSeen) (old rows : List WindowNumbers) → AreTouches pages touches
-    → AreSettings s → w ≡ s.window → LentPasses pages touches s index w at count marks old rows
+    (count : ℕ) (seen : List PageSeen) (old rows : List WindowNumbers) → AreTouches pages touches
+    → AreSettings s → w ≡ s.window → LentPasses pages touches s index w at count seen old rows
     → index ≤ length touches → HasRows touches s.window (length old)
     → 1 ≤ at.row.writes → count < length rows
-slot_low pages touches s index w at count marks old rows fits are w_is p low has some = elim has [
+slot_low pages touches s index w at count seen old rows fits are w_is p low has some = elim has [
   | inl writes ↦
       let one : one_if (leb 1 at.row.writes) ≡ 1 = ap one_if (le-leb 1 at.row.writes some) in
       omega (arith, p.few, one, writes, p.are.count_is, p.are.len, low)
   | inr windows ↦
-      let closed = closed_few pages touches s index w at marks p.closed fits p.passes
+      let closed = closed_few pages touches s index w at seen p.closed fits p.passes
       (omega (arith, w_is, are.window_low)) w_is in
       omega (arith, closed, windows, p.are.count_is, p.are.len, ap (windows_of touches) w_is)
 ]
@@ -202,12 +200,12 @@ one_if_few false = omega arith
 
 -- a touch is counted
 pub lent_step : (pages : ℕ) (touches : List GuestTouch) (s : MigrationSettings) (index w tick : ℕ) (at new : OpenWindow)
-    (count next : ℕ) (marks seen : List PageSeen) (old rows after : List WindowNumbers)
-    → (p : LentPasses pages touches s index w at count marks old rows) → (1 ≤ at.row.writes → count < length rows)
-    → PassesTo pages touches s (index + 1) (state_of w new (with_closed p.closed (row_closed tick at)) seen)
+    (count next : ℕ) (seen told : List PageSeen) (old rows after : List WindowNumbers)
+    → (p : LentPasses pages touches s index w at count seen old rows) → (1 ≤ at.row.writes → count < length rows)
+    → TablesTo pages touches s (index + 1) w new (with_closed p.closed (row_closed tick at)) told
     → after ≡ rows_closed rows count (row_closed tick at) → next ≡ count_closed count (row_closed tick at)
-    → LentPasses pages touches s (index + 1) w new next seen old after
-lent_step pages touches s index w tick at new count next marks seen old rows after p slot passes after_is next_is =
+    → LentPasses pages touches s (index + 1) w new next told old after
+lent_step pages touches s index w tick at new count next seen told old rows after p slot passes after_is next_is =
     let few = few_turned (ltb tick at.end) p.closed at.row index p.few in
     record {
       closed = with_closed p.closed (row_closed tick at);
@@ -219,16 +217,16 @@ lent_step pages touches s index w tick at new count next marks seen old rows aft
 -- ---- the end
 
 pub lent_end : (pages : ℕ) (touches : List GuestTouch) (s : MigrationSettings) (index w : ℕ) (at : OpenWindow)
-    (count last : ℕ) (marks : List PageSeen) (old rows after : List WindowNumbers) → AreTouches pages touches
-    → AreSettings s → w ≡ s.window → LentPasses pages touches s index w at count marks old rows
+    (count last : ℕ) (seen : List PageSeen) (old rows after : List WindowNumbers) → AreTouches pages touches
+    → AreSettings s → w ≡ s.window → LentPasses pages touches s index w at count seen old rows
     → index ≤ length touches → length touches ≤ index → HasRows touches s.window (length old)
     → after ≡ rows_after rows count at.row → last ≡ count_after count at.row
     → (after ≡ rows_over (rows_of touches pages s.window) old) × (last ≡ length (rows_of touches pages s.window))
-lent_end pages touches s index w at count last marks old rows after fits are w_is p low high has after_is last_is =
-    let slot = slot_low pages touches s index w at count marks old rows fits are w_is p low has in
-    let state = state_of w at p.closed marks in
+lent_end pages touches s index w at count last seen old rows after fits are w_is p low high has after_is last_is =
+    let slot = slot_low pages touches s index w at count seen old rows fits are w_is p low has in
+    let state = state_of w at p.closed p.passes.marks in
     let all : finished state s.hot ≡ working_sets_of pages touches s =
-    end_of_pass pages touches s index state s.hot (finished state s.hot) p.passes high refl refl in
+    end_of_pass pages touches s index state s.hot (finished state s.hot) p.passes.passes high refl refl in
     let rows_are : with_row p.closed at.row ≡ rows_of touches pages s.window =
     ap (λ (x : WorkingSets). x.windows) all in
     let put = closed_after p.closed old rows count at.row slot p.are in (

@@ -6,7 +6,9 @@ pub mod Shown
 pub mod Pass
 pub mod Kept
 pub mod Whole
+pub mod Seen
 pub mod Open
 pub mod OtherWords
 pub mod Lent
 pub mod Carried
+pub mod Pieced

@@ -12,8 +12,7 @@ use Rattle.std.proofs.lemmas.List.FromFn.{filter_of_map_range_with_len_more}
 use Rattle.migration_model.specs.Trace.{last_by}
 use Rattle.migration_model.specs.Touches.{GuestTouch}
 use Rattle.migration_model.specs.Windows.{WindowRow, row_of, rows_of, windows_with}
-use Rattle.working_sets.specs.declared.counting.PageSeen.{PageSeen}
-use Rattle.working_sets.specs.Counting.{Counting, blank, unmarked, one_if, with_row, counted, marked, mark_of}
+use Rattle.working_sets.specs.Counting.{Counting, PageMark, blank, unmarked, one_if, with_row, counted, marked, mark_of}
 use Rattle.working_sets.specs.Counting.{turned, written, started}
 use Rattle.working_sets.proofs.Counts.{count_agree, count_change, count_extend, map_agree, filter_extend}
 use Rattle.working_sets.proofs.Written.{hits, hits_push_other, hits_push_out, hits_push_in, hits_past}
@@ -34,7 +33,7 @@ abbrev pub windows_below : List GuestTouch → ℕ → ℕ → ℕ → ℕ
 windows_below writes w page n = count_by (λ i. hits (in_window w i) page writes) (range_with_len 0 n)
 
 -- what a page's mark says, the window of this number being open
-pub record IsMark (w : ℕ) (writes : List GuestTouch) (number page : ℕ) (mark : PageSeen) : Type 0 where
+pub record IsMark (w : ℕ) (writes : List GuestTouch) (number page : ℕ) (mark : PageMark) : Type 0 where
   pub last : IsLast w writes page mark.last
   pub low : mark.last ≤ number + 1
   pub windows : mark.windows ≡ windows_below writes w page (number + 1)
@@ -46,7 +45,7 @@ pub record Shows (pages : ℕ) (done : List GuestTouch) (s : Counting) : Type 0 
   pub row_is : s.row ≡ row_of done pages s.window s.row.number
   pub rows_are : s.rows ≡ rows_below done pages s.window s.row.number
   pub len : length s.marks ≡ pages
-  pub each : (page : ℕ) (d : PageSeen) → page < pages → IsMark s.window done s.row.number page (get_or s.marks page d)
+  pub each : (page : ℕ) (d : PageMark) → page < pages → IsMark s.window done s.row.number page (get_or s.marks page d)
 
 -- ---- the start
 
@@ -171,7 +170,7 @@ Holds_turned pages tick done s shows low =
 
 -- ---- one more write
 
-IsMark_here : (w number page : ℕ) (done : List GuestTouch) (write : GuestTouch) (mark : PageSeen)
+IsMark_here : (w number page : ℕ) (done : List GuestTouch) (write : GuestTouch) (mark : PageMark)
     → All (λ x. x.tick < (number + 1) * w) done
     → number * w ≤ write.tick → write.tick < (number + 1) * w → write.page ≡ page → IsMark w done number page mark
     → IsMark w (done ++ write ∷ []) number page (marked mark number)
@@ -199,7 +198,7 @@ IsMark_here w number page done write mark below low high same is =
       windows = omega (arith, change, now, adds.pages, is.windows);
     }
 
-IsMark_other : (w number page : ℕ) (done : List GuestTouch) (write : GuestTouch) (mark : PageSeen)
+IsMark_other : (w number page : ℕ) (done : List GuestTouch) (write : GuestTouch) (mark : PageMark)
     → (write.page ≡ page → ⊥) → IsMark w done number page mark
     → IsMark w (done ++ write ∷ []) number page mark
 IsMark_other w number page done write mark other is = record {

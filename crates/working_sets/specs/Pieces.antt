@@ -8,6 +8,7 @@ use Rattle.std.specs.List.{fold}
 use Rattle.migration_model.specs.Touches.{GuestTouch}
 use Rattle.migration_model.specs.Windows.{WindowRow}
 use Rattle.working_sets.specs.Counting.{Counting, blank, mark_of, started, turned, unmarked, with_row, written}
+use Rattle.working_sets.specs.Counting.{PageMark, SayMarks, unseen}
 use Rattle.working_sets.specs.declared.counting.OpenWindow.{OpenWindow}
 use Rattle.working_sets.specs.declared.counting.PageSeen.{PageSeen}
 use Rattle.working_sets.specs.declared.pieces.Piece.{Piece}
@@ -57,13 +58,13 @@ pub record FitsRow (row : WindowRow) : Type 0 where
   pub fresh : row.fresh < 2 ^ 32
 
 -- a page is in as many windows as before and in the piece together, and its last window is the piece's
-pub record IsCarried (before now seen : PageSeen) : Type 0 where
+pub record IsCarried (before now seen : PageMark) : Type 0 where
   pub last : seen.last ≡ now.last
   pub windows : now.windows ≡ before.windows + seen.windows
 
 -- what is counted over a piece leads from the state before it to the state after it
 pub record Carries (before now : Counting) (rows : List WindowRow) (at : OpenWindow)
-    (marks : List PageSeen) : Type 0 where
+    (marks : List PageMark) : Type 0 where
   pub end_is : at.end ≡ now.end
   pub number : at.row.number ≡ now.row.number
   pub rows_are : now.rows ≡ rows_with before.rows before.row rows
@@ -74,12 +75,25 @@ pub record Carries (before now : Counting) (rows : List WindowRow) (at : OpenWin
       → IsCarried (mark_of before page) (mark_of now page) (slice_index_or marks page unmarked)
 
 -- where a piece begins: nothing is counted, and marks have the last window alone
-pub record Begins (now : Counting) (at : OpenWindow) (marks : List PageSeen) : Type 0 where
+pub record Begins (now : Counting) (at : OpenWindow) (marks : List PageMark) : Type 0 where
   pub end_is : at.end ≡ now.end
   pub row_is : at.row ≡ blank now.row.number
   pub len : length marks ≡ length now.marks
   pub last : (page : ℕ) → page < length marks → (slice_index_or marks page unmarked).last ≡ (mark_of now page).last
   pub windows : (page : ℕ) → page < length marks → (slice_index_or marks page unmarked).windows ≡ 0
+
+-- a piece begins after so many touches: what is kept of pages says what such marks say
+pub record BeginsSo (now : Counting) (index : ℕ) (at : OpenWindow) (seen : List PageSeen) : Type 0 where
+  pub marks : List PageMark
+  pub begins : Begins now at marks
+  pub says : SayMarks index at marks seen
+
+-- what is counted over a piece up to so many touches: what is kept of pages says what such marks say
+pub record CarriesSo (before now : Counting) (index : ℕ) (rows : List WindowRow) (at : OpenWindow)
+    (seen : List PageSeen) : Type 0 where
+  pub marks : List PageMark
+  pub carries : Carries before now rows at marks
+  pub says : SayMarks index at marks seen
 
 -- the touch at which a piece begins, if each has so many touches
 abbrev pub cut_at : List GuestTouch → ℕ → ℕ → ℕ
@@ -87,8 +101,9 @@ cut_at touches each number = min (number * each) (length touches)
 
 -- this is the piece of a number
 abbrev pub IsPiece : ℕ → ℕ → List GuestTouch → ℕ → ℕ → Piece → Type 0
-IsPiece w pages touches each number piece = Carries (state_at w pages touches (cut_at touches each number))
-    (state_at w pages touches (cut_at touches each (number + 1))) piece.rows.items piece.at piece.marks.items
+IsPiece w pages touches each number piece = CarriesSo (state_at w pages touches (cut_at touches each number))
+    (state_at w pages touches (cut_at touches each (number + 1))) (cut_at touches each (number + 1))
+    piece.rows.items piece.at piece.marks.items
 
 -- what a worker made is the piece of a number, or memory ran out
 pub record IsMade (w pages : ℕ) (touches : List GuestTouch) (each number : ℕ)
@@ -108,4 +123,4 @@ pub record IsJoined (now : Counting) (joined : Joined) : Type 0 where
   pub row : joined.row ≡ now.row
   pub len : length joined.marks.items ≡ length now.marks
   pub windows : (page : ℕ) → page < length joined.marks.items
-      → (slice_index_or joined.marks.items page unmarked).windows ≡ (mark_of now page).windows
+      → (slice_index_or joined.marks.items page unseen).windows ≡ (mark_of now page).windows

@@ -2,7 +2,7 @@
 
 ghost use Rattle.std.specs.Prelude.{◌≡◌, ◌+◌, ◌<◌, ◌≤◌, ◌^◌, ℕ, IfErr, IfOk, OnOk, length, slice_index_or};
 ghost use Rattle.migration_model.specs.Windows.{working_sets_of};
-ghost use Rattle.working_sets.specs.Counting.{unmarked};
+ghost use Rattle.working_sets.specs.Counting.{unseen};
 ghost use Rattle.working_sets.specs.Pieces.{AreMade, FitsRow, IsJoined, IsPiece, added, cut_at, head_of, row_with};
 ghost use Rattle.working_sets.specs.Pieces.{rows_with, state_at};
 
@@ -65,11 +65,11 @@ fn push_rows(
 /// Adds the windows of a piece to those of the pieces before it, page by page.
 fn add_windows(sums: &mut [PageSeen], marks: &[PageSeen])
     requires len { length sums.old ≡ length marks.now }
-    requires fits { (page : ℕ) → page < length marks.now → (slice_index_or sums.old page unmarked).windows
-        + (slice_index_or marks.now page unmarked).windows < 2 ^ 64 }
+    requires fits { (page : ℕ) → page < length marks.now → (slice_index_or sums.old page unseen).windows
+        + (slice_index_or marks.now page unseen).windows < 2 ^ 32 }
     ensures len { length sums.new ≡ length sums.old }
-    ensures each { (page : ℕ) → page < length marks.now → (slice_index_or sums.new page unmarked).windows
-        ≡ (slice_index_or sums.old page unmarked).windows + (slice_index_or marks.now page unmarked).windows }
+    ensures each { (page : ℕ) → page < length marks.now → (slice_index_or sums.new page unseen).windows
+        ≡ (slice_index_or sums.old page unseen).windows + (slice_index_or marks.now page unseen).windows }
 {
     for page in 0..marks.len() {
         sums[page].windows += marks[page].windows;

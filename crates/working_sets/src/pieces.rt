@@ -5,7 +5,7 @@
 //! added to those of the pieces before.
 
 ghost use Rattle.std.specs.Prelude.{◌≡◌, ◌+◌, ◌<◌, ◌≤◌, ◌^◌, IfErr, IfOk, OnOk, length};
-ghost use Rattle.working_sets.specs.Pieces.{Begins, Carries, IsMade, cut_at, pushed, state_at};
+ghost use Rattle.working_sets.specs.Pieces.{BeginsSo, CarriesSo, IsMade, cut_at, pushed, state_at};
 
 use crate::counting::{OpenWindow, PageSeen, UNSEEN};
 use crate::error::TablesError;
@@ -41,8 +41,9 @@ fn start_of<T: Timeline>(
     from: usize,
 ) -> Result<Start, AllocError>
     requires { from ≤ length (T.touches timeline.now) }
-    ensures { IfOk result (λ start. Begins
-        (state_at settings.now.window (T.pages timeline.now) (T.touches timeline.now) from) start.at start.marks.items) }
+    ensures { IfOk result (λ start. BeginsSo
+        (state_at settings.now.window (T.pages timeline.now) (T.touches timeline.now) from) from start.at
+        start.marks.items) }
 {
     let window = settings.asked().window;
     let mut marks = Vec::from_elem(alloc, UNSEEN, timeline.page_count() as usize)?;
@@ -78,9 +79,9 @@ pub(crate) fn count_piece<T: Timeline>(
 ) -> Result<Piece, TablesError>
     requires order { from ≤ to }
     requires low { to ≤ length (T.touches timeline.now) }
-    ensures piece { IfOk result (λ piece. Carries
+    ensures piece { IfOk result (λ piece. CarriesSo
         (state_at settings.now.window (T.pages timeline.now) (T.touches timeline.now) from)
-        (state_at settings.now.window (T.pages timeline.now) (T.touches timeline.now) to)
+        (state_at settings.now.window (T.pages timeline.now) (T.touches timeline.now) to) to
         piece.rows.items piece.at piece.marks.items) }
     ensures refusal { IfErr result (λ e. e ≡ TablesError.Memory) }
 {

@@ -82,7 +82,7 @@ def parts_of(tree):
     return names, premises, tree
 
 
-@functools.lru_cache(maxsize=None)
+@functools.cache
 def named_in(path):
     """Returns the laws that a file names for relations, in lines above its contracts: "`R` holds of one value alone:
     `law`", or with more words between."""
@@ -101,6 +101,6 @@ def clauses_of(call):
         yield found[1] or "result", " ".join(text.split())
 
 
-@functools.lru_cache(maxsize=None)
+@functools.cache
 def laws():
     return Laws()

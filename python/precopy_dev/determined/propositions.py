@@ -134,7 +134,7 @@ class Reader:
         return ("record", base, fields)
 
 
-@functools.lru_cache(maxsize=None)
+@functools.cache
 def parsed(text):
     reader = Reader(text)
     tree = reader.term()
@@ -285,7 +285,7 @@ def read_equations(entry):
     return Definition(entry.crate, entry.path, entry.name, "equations", equations=equations)
 
 
-@functools.lru_cache(maxsize=None)
+@functools.cache
 def definitions():
     """Returns all definitions by their names."""
     found = {}
@@ -300,7 +300,7 @@ def definitions():
     return found
 
 
-@functools.lru_cache(maxsize=None)
+@functools.cache
 def imports(path):
     """Returns the crate from which a file takes each name."""
     found = {}

@@ -310,7 +310,7 @@ def in_turn(work, *key):
         WORKING.discard((work, key))
 
 
-@functools.lru_cache(maxsize=None)
+@functools.cache
 def by_cases(crate, path, name, at):
     """Returns the laws by which each case of a relation determines an argument, or None if one does not. If cases are
     told by this argument, each two of them must exclude each other."""

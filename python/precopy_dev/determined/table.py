@@ -261,7 +261,7 @@ class Reading:
         return self.by_only(solver, {"(result ≡ 0)": FORM, "((result ≡ 0) ⊎ (result ≡ 61))": FORM})
 
 
-@functools.lru_cache(maxsize=None)
+@functools.cache
 def memory_alone():
     """Returns the types of errors that have one cause, which is that memory ran out."""
     found = {"AllocError"}
@@ -289,7 +289,7 @@ def says_memory(said):
     return any(re.fullmatch(r"\(\$err ≡ \w+\.Memory\)", text) for text in said)
 
 
-@functools.lru_cache(maxsize=None)
+@functools.cache
 def rows():
     """Returns the rows of all public calls outside of tests that answer or change something, by their names."""
     crates = [crate for crate in contracts.crates() if not contracts.OF_TESTS.fullmatch(crate)]

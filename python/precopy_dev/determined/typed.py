@@ -7,7 +7,7 @@ from precopy_dev import contracts
 from precopy_dev.determined import propositions
 
 
-@functools.lru_cache(maxsize=None)
+@functools.cache
 def fields_of(type_text, path):
     """Returns the fields of a type that a file names, as contracts see it, and their types, or None."""
     text = re.sub(r"^&(?:'\w+ )?(?:mut )?|\bconst\b", "", type_text).strip()
@@ -39,7 +39,7 @@ def split_at_commas(text):
         yield part.strip()
 
 
-@functools.lru_cache(maxsize=None)
+@functools.cache
 def declared():
     """Returns the fields of each type by its name and its crate: those of its model, or None if that is no record."""
     types, records = {}, propositions.definitions()

@@ -18,6 +18,7 @@ import sys
 import tempfile
 
 from precopy_dev.edits.files import GATE, PROVER, TWIN, BadEdit, read_edits
+from precopy_dev.files import write_file
 from precopy_dev.tree import TOP as ROOT
 from precopy_dev.tree import crates
 
@@ -57,11 +58,6 @@ def copy_crates(names, room):
                 shutil.copytree(here, f"{room}/crates/{name}/{part}")
 
 
-def write(text, path):
-    with open(path, "w", encoding="utf-8") as file:
-        file.write(text)
-
-
 # ---- Wrong bodies.
 
 
@@ -70,7 +66,7 @@ def try_edits(crate, edits, room):
     that it was not, and the first that it told."""
     os.makedirs(f"{room}/crates/{crate}/must-fail")
     for edit in edits:
-        write(edit.text, f"{room}/crates/{crate}/must-fail/{edit.name}.edit")
+        write_file(edit.text, f"{room}/crates/{crate}/must-fail/{edit.name}.edit")
     found, words = {}, ["rt", "must-fail", crate]
     with subprocess.Popen(words, cwd=room, stdout=subprocess.PIPE, text=True, errors="replace") as ran:
         for line in ran.stdout:
@@ -100,7 +96,7 @@ def note(edits, found):
         if name in found:
             how, told = found[name]
             lines[name] = "\t".join((name, edit.digest(), day, how, place_of(told)))
-    write("".join(f"{lines[name]}\n" for name in sorted(lines)), RECORD)
+    write_file("".join(f"{lines[name]}\n" for name in sorted(lines)), RECORD)
 
 
 def refused(crate, edits, room, records):
@@ -120,7 +116,7 @@ def open_goal(crate, edits, room):
     try:
         for edit in edits:
             for path, text in edit.put_in(room).items():
-                write(text, f"{room}/{path}")
+                write_file(text, f"{room}/{path}")
         how = {"cwd": f"{room}/crates/{crate}", "stdin": subprocess.DEVNULL, "stdout": subprocess.PIPE}
         ran = subprocess.run(["rt", "check"], stderr=subprocess.STDOUT, text=True, errors="replace", **how)
     finally:

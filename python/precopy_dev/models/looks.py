@@ -99,16 +99,3 @@ def plan(pages: int, touches: Touches, settings: Settings) -> Plan:
         if reason:
             return Plan(lists, reason, end, left, duration(len(left), settings.rate))
         start, due = end, left
-
-
-def pages_text(pages: list[int]) -> str:
-    """Pages as the crate's rows write them: their list, or how many they are if these are more than eight."""
-    return f"{len(pages)} pages" if len(pages) > 8 else str(pages)
-
-
-def text_of(made: Plan) -> str:
-    """A plan as the crate's rows write it."""
-    rows = (f"{it.start} {it.end} {len(it.pages)} {it.sent} {len(it.left)}; " for it in made.lists)
-    looks = len(made.lists) - (made.reason == "record")
-    total = made.sent() + len(made.last)
-    return f"{''.join(rows)}{made.reason} {made.stop} {pages_text(made.last)} {made.down} {made.sent()} {total} {looks}"

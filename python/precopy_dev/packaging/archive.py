@@ -8,6 +8,7 @@ import platform
 import re
 import tarfile
 
+from precopy_dev.files import write_file
 from precopy_dev.packaging import contents, library
 
 LEAST_PYTHON = "3.10"
@@ -61,6 +62,5 @@ def build(folder):
     data = tarball(name, entries)
     sum_line = f"{hashlib.sha256(data).hexdigest()}  {name}.tar.gz\n"
     for path, what in ((f"{name}.tar.gz", data), (f"{name}.tar.gz.sha256", sum_line.encode())):
-        with open(os.path.join(folder, path), "wb") as file:
-            file.write(what)
+        write_file(what, folder, path)
         yield os.path.join(folder, path)

@@ -5,12 +5,7 @@ import re
 # What is offered for the value of an option or for a word: files and processes by the word, some numbers by the option.
 FILES = {"PATH", "FILE", "SCRIPT", "SOCKET", "TRACE", "TEXT", "OUTPUT", "INPUT", "FOLDER", "IMAGE", "MAP", "STREAM"}
 PROCESSES = {"PID"}
-NUMBERS = {
-    "--workers": "1 2 4 8 16",
-    "--streams": "1 2 4 8 16",
-    "--replayers": "1 2 4 8 16",
-    "--lane": "64 1024 65536",
-}
+NUMBERS = {"--workers": "1 2 4 8 16", "--streams": "1 2 4 8 16", "--replayers": "1 2 4 8 16", "--lane": "64 1024 65536"}
 
 
 def values_of(option):

@@ -13,6 +13,7 @@ from dataclasses import dataclass
 from typing import Iterator, NamedTuple, Optional
 
 from precopy_dev import index
+from precopy_dev.files import read_bytes, write_file
 from precopy_dev.packaging import compilers, completions, documents, launcher, manuals, notices, options
 from precopy_dev.tree import TOP
 from precopy_tools import version
@@ -72,8 +73,7 @@ class Entry:
         if self.link is not None:
             os.symlink(self.link, path)
             return
-        with open(path, "wb") as file:
-            file.write(self.data)
+        write_file(self.data, path)
         os.chmod(path, self.mode)
 
 
@@ -88,8 +88,7 @@ class NotBuilt(Exception):
 
 
 def read(path):
-    with open(os.path.join(TOP, path), "rb") as file:
-        return file.read()
+    return read_bytes(TOP, path)
 
 
 def program_file(name):
@@ -138,8 +137,7 @@ def stripped(path):
         made = os.path.join(folder, "program")
         if strip := shutil.which("strip"):
             subprocess.run([strip, "--strip-unneeded", "-o", made, path], check=True)
-        with open(made if strip else path, "rb") as file:
-            return file.read()
+        return read_bytes(made if strip else path)
 
 
 def scan_library() -> bytes:
@@ -149,8 +147,7 @@ def scan_library() -> bytes:
     with tempfile.TemporaryDirectory() as folder:
         made = os.path.join(folder, "scan.so")
         compilers.run(compilers.tool("cc", "the recorder's loop of system calls"), *how, "-o", made)
-        with open(made, "rb") as file:
-            return file.read()
+        return read_bytes(made)
 
 
 def commands(places, python) -> Iterator[Entry]:
@@ -210,8 +207,7 @@ def module() -> bytes:
     """The WebAssembly module of the page, which the package for Node has too."""
     if not os.path.isfile(os.path.join(TOP, MODULE)):
         raise NotBuilt("the page's module is not built: make page builds it")
-    with open(os.path.join(TOP, MODULE), "rb") as file:
-        return file.read()
+    return read_bytes(TOP, MODULE)
 
 
 def joined_page() -> bytes:
@@ -222,8 +218,7 @@ def joined_page() -> bytes:
         joined = subprocess.run([os.path.join(TOP, "dev", "join-page"), os.path.join(TOP, MODULE), made])
         if joined.returncode:
             raise NotBuilt("the page cannot be joined: dev/join-page says why")
-        with open(made, "rb") as file:
-            return file.read()
+        return read_bytes(made)
 
 
 def document(places, path) -> Entry:

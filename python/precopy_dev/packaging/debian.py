@@ -11,6 +11,7 @@ import subprocess
 import tempfile
 import textwrap
 
+from precopy_dev.files import write_file
 from precopy_dev.packaging import compilers, contents, notices
 from precopy_dev.tree import TOP, read
 
@@ -72,8 +73,7 @@ def write_texts(folder, wanted):
         "control": control.replace(named, maintainer, 1),
     }
     for name, text in texts.items():
-        with open(os.path.join(folder, name), "w", encoding="utf-8") as file:
-            file.write(text)
+        write_file(text, folder, name)
 
 
 def build_all(folder, maintainer):

@@ -5,6 +5,7 @@ import os
 import re
 import tempfile
 
+from precopy_dev.files import read_bytes
 from precopy_dev.packaging import compilers
 from precopy_dev.tree import TOP, read
 
@@ -27,5 +28,4 @@ def launcher(program):
     with tempfile.TemporaryDirectory() as folder:
         made = os.path.join(folder, "launcher")
         compilers.run(compilers.tool("cc", "the launchers"), *OPTIONS, *words, "-o", made)
-        with open(made, "rb") as file:
-            return file.read()
+        return read_bytes(made)

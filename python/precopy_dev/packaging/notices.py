@@ -11,6 +11,7 @@ import shutil
 import subprocess
 
 from precopy_dev import tree
+from precopy_dev.files import read_text, write_file
 from precopy_dev.tree import TOP
 
 USE = re.compile(r"^\s*(?:pub )?use ([a-z_0-9]+)::", re.M)
@@ -49,8 +50,7 @@ def used_by(library: str) -> set[str]:
     used = set()
     for folder, _, names in os.walk(os.path.join(libraries(), library, "src")):
         for name in names:
-            with open(os.path.join(folder, name), encoding="utf-8") as file:
-                used |= set(USE.findall(file.read()))
+            used |= set(USE.findall(read_text(folder, name)))
     return {name for name in used - {library, "std"} if os.path.isdir(os.path.join(libraries(), name, "src"))}
 
 
@@ -71,8 +71,7 @@ def notices_of(library: str) -> list[str]:
     texts = []
     for name in sorted(os.listdir(folder)):
         if name.startswith(("LICENSE", "NOTICE", "COPYRIGHT")):
-            with open(os.path.join(folder, name), encoding="utf-8") as file:
-                texts.append(file.read().strip())
+            texts.append(read_text(folder, name).strip())
     return texts
 
 
@@ -90,14 +89,12 @@ def make(_) -> None:
     """Writes the notices to KEPT, so that an installation of what is built needs no toolchain."""
     for crates, path in KEPT.items() if shutil.which("rt") else ():
         os.makedirs(os.path.dirname(path), exist_ok=True)
-        with open(path, "w", encoding="utf-8") as file:
-            file.write(told_by_toolchain(crates))
+        write_file(told_by_toolchain(crates), path)
 
 
 def notices(crates: tuple[str, ...] = SHIPPED) -> str:
     """The notices as `make` has kept them."""
     try:
-        with open(KEPT[crates], encoding="utf-8") as file:
-            return file.read()
+        return read_text(KEPT[crates])
     except FileNotFoundError as fault:
         raise Lacks("the notices of the toolchain's libraries are not there: make writes them") from fault

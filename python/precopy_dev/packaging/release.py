@@ -6,6 +6,7 @@ import re
 import subprocess
 
 from precopy_dev import js_package
+from precopy_dev.files import read_bytes, write_file
 from precopy_dev.packaging import archive, contents, debian, notices
 from precopy_dev.tree import TOP
 from precopy_tools.version import VERSION
@@ -59,11 +60,9 @@ def build(folder, maintainer):
     }
     for name, data in texts.items():
         paths.append(os.path.join(folder, name))
-        with open(paths[-1], "wb") as file:
-            file.write(data)
+        write_file(data, paths[-1])
     sums = os.path.join(folder, "SHA256SUMS")
     with open(sums, "w", encoding="utf-8") as file:
         for path in sorted(paths):
-            with open(path, "rb") as made:
-                print(f"{hashlib.sha256(made.read()).hexdigest()}  {os.path.basename(path)}", file=file)
+            print(f"{hashlib.sha256(read_bytes(path)).hexdigest()}  {os.path.basename(path)}", file=file)
     return [*paths, sums]

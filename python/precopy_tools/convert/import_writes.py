@@ -38,7 +38,7 @@ class BadLine(Exception):
 
 class Shape:
     """How many pages there are, and how large they are: as asked, or as the writes need. And the version, if given. Of
-    the text the number of the line, or of what `unit` names."""
+    the text the number of the line."""
 
     def __init__(self, pages, size):
         self.pages = pages
@@ -47,7 +47,7 @@ class Shape:
         self.tick = 0
         self.most_page = -1
         self.most_end = 0
-        self.unit, self.number = "line", 0
+        self.number = 0
 
     def come_to(self, tick):
         if tick < self.tick:
@@ -220,7 +220,7 @@ def run(options, source, writer):
     try:
         write_all(writes, writer, options.first)
     except (BadLine, traces.Full) as fault:
-        version.complain("import", f"{shape.unit} {shape.number}: {fault}")
+        version.complain("import", f"line {shape.number}: {fault}")
         return 1
     writer.finish(shape.shift(), shape.count(), shape.version)
     if options.json:

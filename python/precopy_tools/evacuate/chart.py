@@ -38,8 +38,8 @@ KEYS = {
 WITHOUT_ROUNDS = {**KEYS, "moving": ("moves", 75)}
 
 
-def ellipsis(name: str, most: int = 22) -> str:
-    return name if len(name) <= most else f"{name[: most - 1]}…"
+def ellipsis(name: str) -> str:
+    return name if len(name) <= 22 else f"{name[:21]}…"
 
 
 def kind_of(move: Placed) -> str:

@@ -42,12 +42,7 @@ def schedule_document(schedule: Schedule, deadline: float | None) -> dict:
 
 def move_document(move: Placed, hour: Hour, days: dict[str, list[Day]]) -> dict:
     name, cost = move.guest.name, move.cost
-    told = {
-        "guest": name,
-        "start_seconds": move.start / 1e6,
-        "end_seconds": move.end / 1e6,
-        "slot": move.slot,
-    }
+    told = {"guest": name, "start_seconds": move.start / 1e6, "end_seconds": move.end / 1e6, "slot": move.slot}
     if cost.shares:
         told["shares"] = [
             {"after_seconds": share.micros / 1e6, "link_bytes_per_second": share.bandwidth} for share in cost.shares

@@ -48,12 +48,7 @@ def costs_in(path: str, asked: Asked, limits_of: Callable[[str], Wanted]) -> lis
         return [traces.told(fault)]
 
 
-def gathered(
-    paths: list[str],
-    asked: Asked,
-    limits_of: Callable[[str], Wanted],
-    jobs: int,
-) -> Gathered:
+def gathered(paths: list[str], asked: Asked, limits_of: Callable[[str], Wanted], jobs: int) -> Gathered:
     """The guests of some records and files of costs. Without numbers at once these are 1, 2, 4 and so on, and all."""
     count = sum(lines_in(path) if path.endswith(OF_COSTS) else 1 for path in paths)
     numbers = asked.numbers or host_schedules.numbers_up_to(max(count, 1))

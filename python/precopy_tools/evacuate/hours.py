@@ -105,10 +105,11 @@ def is_within(window: Window, hour: float) -> bool:
 
 
 def opening(window: Window, now: float) -> tuple[float, Window]:
-    """When guests may begin to move, in Unix time: now, or when the window opens next; and what is left of it."""
+    """When guests may begin to move, in Unix time: now, or when the window opens next; and what is left of it, which is
+    a second or more."""
     since = (now - window.begin) % DAY
-    if since < window.length:
-        return now, Window(int(now % DAY), int(window.length - since))
+    if left := max(0, int(window.length - since)):
+        return now, Window(int(now % DAY), left)
     return now + DAY - since, window
 
 

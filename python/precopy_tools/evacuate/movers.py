@@ -42,6 +42,7 @@ class QmpMover:
     def __init__(self, step: Step, way: Way):
         self.move, self.way, self.client = step.move, way, None
         self.begun, self.is_told, self.silent, self.last = False, False, 0, Look("moving")
+        self.doubt: qmp.Fault | None = None  # why it is not known whether QEMU has begun
 
     def why_not(self) -> str:
         """Why this guest must not be touched; nothing if it may."""
@@ -57,13 +58,20 @@ class QmpMover:
         return ""
 
     def begin(self) -> None:
-        """Begins, or raises a Fault."""
+        """Begins, or raises a Fault. If it is not known whether QEMU has begun, it is watched as if it has."""
         if why := self.why_not():
             raise qmp.Fault(why)
         self.client = qmp.Client(self.way.monitor, SECONDS)
         self.client.ask("migrate-set-capabilities", capabilities=[{"capability": "events", "state": True}])
-        for command in qmp_commands(self.move, self.way.to)[1:]:
-            self.client.ask(command["execute"], **command["arguments"])
+        _, parameters, migrate = qmp_commands(self.move, self.way.to)
+        self.client.ask(parameters["execute"], **parameters["arguments"])
+        try:
+            self.client.ask(migrate["execute"], **migrate["arguments"])
+        except qmp.Fault as fault:
+            self.doubt = fault
+            self._close()
+            if self.look().state == "failed":
+                raise
         self.begun = True
 
     def take(self, share: int) -> bool:
@@ -83,6 +91,7 @@ class QmpMover:
         try:
             self.client = self.client or qmp.Client(self.way.monitor, SECONDS_TO_ANSWER)
             self.last, self.silent = self._seen(self.client.ask("query-migrate")), 0
+            self.doubt = None
         except qmp.Fault as fault:
             self._close()
             self.silent += 1
@@ -92,11 +101,18 @@ class QmpMover:
 
     def _seen(self, told: dict) -> Look:
         status, ram = told.get("status", "none"), told.get("ram", {})
+        if self.doubt and not self._has_begun(status):
+            return Look("failed", why=str(self.doubt))
         state = {"completed": "moved", "failed": "failed", "cancelled": "cancelled", "none": "failed"}.get(status)
         why = told.get("error-desc", "QEMU says no cause") if state == "failed" else ""
         downtime = 1000 * told["downtime"] if "downtime" in told else None
         sent = ram.get("transferred", self.last.sent)
         return Look(state or "moving", sent, ram.get("remaining", 0), downtime, why)
+
+    def _has_begun(self, status: str) -> bool:
+        """Whether QEMU has begun though that was not answered: it moves, or it has moved since, and not earlier."""
+        has_left = status == "completed" and self.client.ask("query-status").get("status") == "postmigrate"
+        return has_left or status not in IDLE
 
     def cancel(self) -> None:
         """Tells it once to stay. A monitor that does not answer is told with the next look."""
@@ -113,8 +129,11 @@ class QmpMover:
         try:
             with qmp.Client(self.way.monitor, SECONDS_TO_ANSWER) as client:
                 status = client.ask("query-status").get("status")
+                migration = client.ask("query-migrate").get("status", "none")
         except qmp.Fault as fault:
             return f"nothing is known of it ({fault}): look at both hosts"
+        if migration not in IDLE:
+            return f"its migration is {migration}, and its state here is {status}: look at both hosts"
         return "it runs here" if status == "running" else f"it is here, and its state is {status}"
 
     def _close(self) -> None:

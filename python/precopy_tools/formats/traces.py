@@ -129,7 +129,7 @@ def read(text):
 def read_file(path):
     """A trace in a file, and its records. A refusal names the file and the cause."""
     with open(path, "rb") as file:
-        text = file.read()
+        text = file.read(Limits().bytes + 1)
     try:
         trace = read(text)
         return trace, list(trace.records())

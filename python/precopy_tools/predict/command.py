@@ -194,8 +194,8 @@ def write_picture(options: argparse.Namespace, starts: list[day_chart.Start]) ->
 
 def predict(options: argparse.Namespace) -> int:
     paths = series.named(options.traces)
-    if (options.record or options.reached) and len(paths) > 1:
-        raise Refused("--record and --reached are of one trace, and this is a series")
+    if (options.record or options.reached or options.when) and len(paths) > 1:
+        raise Refused("--record, --reached and --when are of one trace, and this is a series")
     if len(paths) > 1 or options.picture or options.json:
         return predict_each(options, paths)
     forecast, link = asked(options, paths[0])

@@ -57,10 +57,7 @@ def safe_size(memory):
 
 def program_files(name, package):
     """A program and the libraries that it needs, as (name in the guest, path here)."""
-    path = found(shutil.which(name), name, package)
-    listed = subprocess.run(["ldd", path], capture_output=True, text=True, check=True).stdout
-    libraries = re.findall(r"(/\S+) \(0x", listed)
-    return [(f"bin/{name}", path)] + [(library.lstrip("/"), library) for library in libraries]
+    return added_files(found(shutil.which(name), name, package))
 
 
 def added_files(path):

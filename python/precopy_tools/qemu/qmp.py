@@ -145,10 +145,20 @@ class Pause:
     seconds = 0.0
 
 
+def stop(client):
+    """Stops the guest. If that is not answered in time it may be stopped later, so it is told to go on."""
+    try:
+        client.ask("stop")
+    except Fault:
+        with contextlib.suppress(Fault):
+            client.ask("cont")
+        raise
+
+
 @contextlib.contextmanager
-def paused(path):
+def paused(path, seconds=SECONDS):
     """The guest is paused in the body. It goes on afterwards if it was running."""
-    with Client(path) as client:
+    with Client(path, seconds) as client:
         pause = Pause()
         status = client.ask("query-status")
         running = status.get("running") if is_object(status) else None
@@ -156,7 +166,7 @@ def paused(path):
             raise Fault(f"{path}: query-status: an answer without running")
         begun = time.monotonic()
         if running:
-            client.ask("stop")
+            stop(client)
         try:
             yield pause
         finally:

@@ -4,9 +4,10 @@
     tools/watch --monitors '/run/qemu/*.qmp' --limits limits.toml --textfile precopy.prom --output guests
 
 The guests are those of libvirt, or with --monitors those of QEMU whose monitors have sockets of such names; each is
-called as its socket. Each guest is a series, NAME.light.pcwt in the folder of --output, as tools/record --segment
-writes it, for tools/predict and tools/evacuate. Guests that come are recorded from then on, and those that go are told
-no more. What is known of all of them is written to --textfile, for the textfile collector of Prometheus' node exporter.
+called as its socket, and as FOLDER-NAME if others have its NAME. Each guest is a series, NAME.light.pcwt in the folder
+of --output, as tools/record --segment writes it, for tools/predict and tools/evacuate. Guests that come are recorded
+from then on, and those that go are told no more. What is known of all of them is written to --textfile, for the
+textfile collector of Prometheus' node exporter.
 
 The limits are a file of TOML, which is read again when it changes:
 

@@ -61,10 +61,7 @@ class Counts(NamedTuple):
         """With what a recorder has of its segment."""
         written = max(0, recorder.writer.writes - recorder.first_nonzero) * memory.PAGE * recorder.weight()
         return Counts(
-            self.segments + segments,
-            self.looks + recorder.samples,
-            self.late + recorder.late,
-            self.dirtied + written,
+            self.segments + segments, self.looks + recorder.samples, self.late + recorder.late, self.dirtied + written
         )
 
 

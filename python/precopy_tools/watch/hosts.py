@@ -7,15 +7,11 @@ import stat
 
 from precopy_tools.qemu import qmp
 from precopy_tools.record import domains, watching
+from precopy_tools.watch.names import Names, is_name, name_of
 
 # How many monitors are asked at once, so that some that hang do not hold up all.
 AT_ONCE = 8
 SECONDS = 1.0
-
-
-def is_name(name: str) -> bool:
-    """Whether this can be in the name of a file, and in a line."""
-    return name.isprintable() and "/" not in name and not name.startswith(".") and name != ""
 
 
 class Libvirt:
@@ -32,19 +28,25 @@ class Libvirt:
 
 
 class Monitors:
-    """The guests of QEMU whose monitors' sockets have names of this pattern. Each is called as its socket."""
+    """The guests of QEMU whose monitors' sockets have names of this pattern. Each is called as its socket, and if there
+    are several of that name, by folders of its path too."""
 
     def __init__(self, pattern: str):
-        self.pattern, self.sockets = pattern, {}
+        self.pattern, self.names, self.sockets = pattern, Names(), {}
 
     def look(self) -> dict[str, bool | None]:
         """Each guest whose monitor answers, and whether it runs. One that hangs is there, and nothing is known."""
-        paths = [path for path in sorted(glob.glob(self.pattern)) if is_socket(path)]
-        self.sockets = {os.path.splitext(os.path.basename(path))[0]: path for path in paths}
-        names = [name for name in self.sockets if is_name(name)]
+        paths = self._paths()
         with concurrent.futures.ThreadPoolExecutor(AT_ONCE) as pool:
-            found = zip(names, pool.map(lambda name: self._state(self.sockets[name]), names))
-            return {name: runs for name, (is_there, runs) in found if is_there}
+            found = zip(paths, pool.map(self._state, paths))
+            there = {path: runs for path, (is_there, runs) in found if is_there}
+        self.sockets = self.names.of([*there])
+        return {name: there[path] for name, path in self.sockets.items()}
+
+    def _paths(self) -> list[str]:
+        """The sockets, each once, by whichever of its paths comes first."""
+        paths = [path for path in sorted(glob.glob(self.pattern)) if is_socket(path) and is_name(name_of(path))]
+        return [*{(name_of(path), os.path.realpath(path)): path for path in reversed(paths)}.values()][::-1]
 
     @staticmethod
     def _state(path: str) -> tuple[bool, bool | None]:

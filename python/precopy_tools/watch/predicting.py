@@ -4,9 +4,11 @@ them, so that they take no more than a share of a processor."""
 import json
 import os
 import resource
+import signal
 import subprocess
 import sys
 import threading
+import time
 from collections.abc import Callable
 from typing import NamedTuple
 
@@ -15,7 +17,9 @@ from precopy_tools.watch.limits import Limits
 
 # Where the package of these tools is.
 FOLDER = os.path.dirname(os.path.dirname(os.path.dirname(os.path.realpath(__file__))))
-SECONDS = 600
+SECONDS, SECONDS_TO_END = 600, 2
+# How often a prediction under way looks whether the service is over.
+STEP = 0.2
 NICE = 10
 KEPT, MISSED, UNCERTAIN, UNKNOWN = VERDICTS = ("kept", "missed", "uncertain", "unknown")
 
@@ -63,17 +67,44 @@ class Failed(Exception):
     """A prediction could not be made; the text says why."""
 
 
-def predicted(program: str, path: str, limits: Limits) -> Prediction:
+def finished(process: subprocess.Popen, is_over: threading.Event) -> tuple[str, str]:
+    """What a process prints until it ends. If that takes too long, or the service is over, it is ended, and a Failed
+    says so."""
+    until = time.monotonic() + SECONDS
+    while True:
+        try:
+            return process.communicate(timeout=STEP)
+        except subprocess.TimeoutExpired as fault:
+            if is_over.is_set() or time.monotonic() > until:
+                end_group(process)
+                why = "the service ends" if is_over.is_set() else f"no prediction within {SECONDS} s"
+                raise Failed(why) from fault
+
+
+def end_group(process: subprocess.Popen) -> None:
+    """Ends a process that leads a group, with all that it has begun. Until it is waited for, no other group has its
+    number."""
+    os.killpg(process.pid, signal.SIGTERM)
+    until = time.monotonic() + SECONDS_TO_END
+    ended = os.WEXITED | os.WNOHANG | os.WNOWAIT
+    while os.waitid(os.P_PID, process.pid, ended) is None and time.monotonic() < until:
+        time.sleep(0.01)
+    os.killpg(process.pid, signal.SIGKILL)
+    process.communicate()
+
+
+def predicted(program: str, path: str, limits: Limits, is_over: threading.Event) -> Prediction:
     """What tools/predict tells of a segment, or Failed."""
     environment = {**os.environ, "PYTHONPATH": FOLDER}
     how = {"stdin": subprocess.DEVNULL, "stdout": subprocess.PIPE, "stderr": subprocess.PIPE, "text": True}
-    with subprocess.Popen(command_of(program, path, limits), env=environment, **how) as process:
+    command = command_of(program, path, limits)
+    # In a group of its own, so that what it begins ends with it.
+    with subprocess.Popen(command, env=environment, process_group=0, **how) as process:
         os.setpriority(os.PRIO_PROCESS, process.pid, NICE)
         try:
-            text, faults = process.communicate(timeout=SECONDS)
-        except subprocess.TimeoutExpired as fault:
-            process.kill()
-            raise Failed(f"{path}: no prediction within {SECONDS} s") from fault
+            text, faults = finished(process, is_over)
+        except Failed as fault:
+            raise Failed(f"{path}: {fault}") from fault
     if process.returncode not in (0, 3, 4, 5):
         raise Failed(faults.strip() or f"{path}: the prediction ended with status {process.returncode}")
     try:
@@ -122,6 +153,10 @@ class Predictor:
         with self.changed:
             self.changed.notify()
 
+    def join(self) -> None:
+        """Until the prediction under way has ended too."""
+        self.thread.join(2 * SECONDS_TO_END)
+
     def _next(self) -> tuple[str, str] | None:
         with self.changed:
             while not self.waiting and not self.is_over.is_set():
@@ -141,8 +176,10 @@ class Predictor:
     def _predict(self, name: str, path: str) -> None:
         limits = self.limits_of(name)
         try:
-            found = predicted(self.program, path, limits)
+            found = predicted(self.program, path, limits, self.is_over)
         except (Failed, OSError) as fault:
+            if self.is_over.is_set():
+                return
             found = Prediction(limits, UNKNOWN)
             self.failures += 1
             version.complain("watch", f"{name}: {fault}")

@@ -143,4 +143,5 @@ class Service:
         until = time.monotonic() + SECONDS_TO_END
         for thread in threads:
             thread.join(max(0.0, until - time.monotonic()))
+        self.predictor.join()
         self.write()

@@ -256,7 +256,7 @@ fn many_cases(rt: &impl Abort, alloc: Global) -> Vec<Settings> {
                 threshold: 1 + number % 5,
                 start: 100 + 400 * (number / 8 % 2),
                 skip: number / 2 % 2 == 1,
-                base: Some(50).filter(|_| number >= 128),
+                base: (number >= 128).then_some(50),
                 ..ASKED
             })
             .expect(rt, "settings"))

@@ -6,8 +6,8 @@ use Rattle.migration_model.specs.Sweeps.{SweepLine, IsLineOf, AreLines}
 use Rattle.sweep_report.proofs.Taken.{no_line, taken_set, lines_more}
 use Rattle.sweep_report.proofs.sweeping.in_order.Goals as goal
 
-pub line_or_new-line-requires-clause-taken : goal.line_or_new-line-requires-clause-taken
-line_or_new-line-requires-clause-taken g c =
+pub line_or_new-requires : goal.line_or_new-requires
+line_or_new-requires g c =
     let pages = g.T.Timeline.pages c.args.timeline.now in
     let touches = g.T.Timeline.touches c.args.timeline.now in
     let case = c.index-cases-number.result in
@@ -26,12 +26,11 @@ loop-number-preserved g c =
     let taken = c.loop-number.taken.items in
     let before = c.loop-number.invariant in
     record {
-      planner = c.line_or_new-line.ensures.planner;
       taken = taken_set pages n touches c.args.cases.now taken _ no_line (λ d. tt)
           (ap (λ (x : Option SweepLine). set taken n x) c.take.ensures.after) before.taken;
       lines = lines_more pages n touches c.args.cases.now c.loop-number.lines.items c.push.new.self.items
-          c.index-cases-number.result c.line_or_new-line.result (omega arith)
-          c.index-cases-number.is c.in_ok-push.ensures.items before.lines c.line_or_new-line.ensures.line;
+          c.index-cases-number.result c.in_ok-line_or_new.field-0 (omega arith)
+          c.index-cases-number.is c.in_ok-push.ensures.items before.lines c.in_ok-line_or_new.ensures.line;
     }
 
 pub returns-clause-lines : goal.returns-clause-lines

@@ -1,8 +1,9 @@
 use Rattle.std.proofs.Common.{◌≤◌, ◌∙◌, ap, arith, length}
 use Rattle.migration_model.specs.Rates.{MigrationSettings}
-use Rattle.working_sets.specs.Counting.{hot_of, with_row}
+use Rattle.working_sets.specs.Counting.{hot_in, with_row}
 use Rattle.working_sets.specs.Pieces.{state_at}
-use Rattle.working_sets.proofs.Carried.{hot_same, pages_at, passes_at}
+use Rattle.working_sets.proofs.Carried.{pages_at, passes_at}
+use Rattle.working_sets.proofs.Seen.{hot_same}
 use Rattle.working_sets.proofs.Whole.{end_of_pass}
 use Rattle.working_sets.proofs.joining.tables_of.Goals as goal
 
@@ -23,7 +24,7 @@ returns-clause-answer g c =
     let all : length touches ≤ length touches = omega arith in
     let passes = passes_at pages touches s (length touches) c.asked-asked.ensures.in_range c.touch_count.ensures.fits
     all in
-    let hot = c.in_ok-hot.ensures ∙ ap (λ marks. hot_of marks c.asked.inside.hot) c.deref.ensures.value
+    let hot = c.in_ok-hot.ensures ∙ ap (λ marks. hot_in marks c.asked.inside.hot) c.deref.ensures.value
     ∙ hot_same c.asked.inside.hot c.args.joined.marks.items (state_at s.window pages touches (length touches)).marks
     c.requires.len c.requires.windows in
     let rows = c.in_ok-push_row.ensures ∙ (λ i. with_row (c.requires.rows i) (c.requires.row i)) in

@@ -1,22 +1,22 @@
 use Rattle.std.proofs.Common.{rules, ◌≡◌, ◌<◌, ◌∙◌, ap, arith, length, refl, replicate, sym}
 use Rattle.migration_model.specs.Rates.{MigrationSettings}
 use Rattle.migration_model.specs.Touches.{no_touch}
-use Rattle.working_sets.specs.Counting.{unmarked}
+use Rattle.working_sets.specs.Counting.{unseen}
 use Rattle.working_sets.proofs.Lent.{count_closed, lent_end, lent_start, lent_step, rows_closed}
 use Rattle.working_sets.proofs.Lent.{slot_closed, slot_low}
-use Rattle.working_sets.proofs.Open.{can_pass, none_closed, pass_next}
+use Rattle.working_sets.proofs.Open.{none_closed, tables_count, tables_next, tables_open}
 use Rattle.working_sets.proofs.lending.window_rows.Goals as goal
 use Rattle.working_sets.proofs.lending.window_rows.Goals.{in-Some, in_default}
 
 pub loop-index-init : goal.loop-index-init
 loop-index-init g c =
-    let filled : c.fill.new.self ≡ replicate (length c.split_at_mut-marks.result.0.now) unmarked = search rules in
+    let filled : c.fill.new.self ≡ replicate (length c.split_at_mut-marks.result.0.now) unseen = search rules in
     let len : length c.split_at_mut-marks.result.0.now ≡ g.T.Timeline.pages c.args.timeline.now =
     c.split_at_mut-marks.ensures.front_len ∙ c.page_count.ensures.pages in
     lent_start _ _ c.args.settings.now c.behind-settings.inside.window _ c.fill.new.self c.args.rows.now
     c.asked.ensures.in_range
     (ap (λ (x : MigrationSettings). x.window) (c.behind-settings.view_is ∙ c.asked.ensures.value)) c.first-at.ensures
-    (filled ∙ ap (λ n. replicate n unmarked) len)
+    (filled ∙ ap (λ n. replicate n unseen) len)
 
 pub put_row-count-requires : goal.put_row-count-requires
 put_row-count-requires g c =
@@ -28,10 +28,19 @@ put_row-count-requires g c =
     slot_closed c.touch.inside.tick at.at c.in-Some.row (at.count < length at.rows) slot
     (sym c.turn.ensures.closed ∙ c.in-Some.is)
 
+pub turn-requires : goal.turn-requires
+turn-requires g c =
+    let at = c.loop-index in
+    tables_open _ _ c.args.settings.now at.index _ _ _ _ no_touch at.at at.invariant.closed at.marks
+    c.touch_count-index-end.ensures.fits (omega (arith, c.page_count.ensures.pages, c.page_count.ensures.few))
+    c.asked.ensures.in_range at.invariant.passes
+    (omega (arith, c.loop-index-test.true, c.touch_count-index-end.ensures.count)) c.touch-touch.ensures
+    (ap (λ t. t.tick) c.touch.view_is) (ap (λ t. t.page) c.touch.view_is)
+
 pub count-requires : goal.count-requires
 count-requires g c =
     let at = c.loop-index in
-    let can = can_pass _ _ c.args.settings.now at.index _ _ _ _ no_touch at.at at.invariant.closed at.marks
+    let can = tables_count _ _ c.args.settings.now at.index _ _ _ _ no_touch at.at at.invariant.closed at.marks
     c.touch_count-index-end.ensures.fits (omega (arith, c.page_count.ensures.pages, c.page_count.ensures.few))
     c.asked.ensures.in_range at.invariant.passes
     (omega (arith, c.loop-index-test.true, c.touch_count-index-end.ensures.count)) c.touch-touch.ensures
@@ -44,10 +53,15 @@ loop-index-preserved g c =
     let fits = c.touch_count-index-end.ensures.fits in
     let tick = ap (λ t. t.tick) c.touch.view_is in
     let w_is = ap (λ (x : MigrationSettings). x.window) (c.behind-settings.view_is ∙ c.asked.ensures.value) in
-    let next = pass_next _ _ c.args.settings.now at.index _ _ _ _ no_touch at.at c.turn.new.self c.count.new.self
-    at.invariant.closed _ at.marks c.count.new.marks fits at.invariant.passes
-    (omega (arith, c.loop-index-test.true, c.touch_count-index-end.ensures.count)) c.touch-touch.ensures tick
-    (ap (λ t. t.page) c.touch.view_is) c.turn.ensures.window refl c.count.ensures.window c.count.ensures.marks in
+    let low : at.index < length (g.T.Timeline.touches c.args.timeline.now) =
+    omega (arith, c.loop-index-test.true, c.touch_count-index-end.ensures.count) in
+    let page = ap (λ t. t.page) c.touch.view_is in
+    let can = tables_count _ _ c.args.settings.now at.index _ _ _ _ no_touch at.at at.invariant.closed at.marks fits
+    (omega (arith, c.page_count.ensures.pages, c.page_count.ensures.few)) c.asked.ensures.in_range at.invariant.passes
+    low c.touch-touch.ensures tick page in
+    let next = tables_next _ _ c.args.settings.now at.index _ _ _ _ no_touch at.at c.turn.new.self c.count.new.self
+    at.invariant.closed _ at.marks c.count.new.marks fits at.invariant.passes low c.touch-touch.ensures tick page
+    can.page_low c.turn.ensures.window refl c.count.ensures.window c.count.ensures.marks in
     let slot = slot_low _ _ c.args.settings.now at.index _ at.at at.count at.marks c.args.rows.now at.rows fits
     c.asked.ensures.in_range w_is at.invariant
     (omega (arith, at.auto.index-end, c.touch_count-index-end.ensures.count)) c.requires.rows in
