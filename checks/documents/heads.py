@@ -19,7 +19,6 @@ DIFFERS = (
     "What was asked of `precopy` stands in crates below it",
     "`start` belongs to the program's crate",
     "A page's bytes are borrowed from the cache",
-    "The first part of a warm start is made page by page from the index",
     "The first part is joined to that of stream 0 when its lanes are drained",
     "Allocators are `Global`",
     "Some edits only approximate a wrong body, and only tests refuse some",

@@ -66,14 +66,14 @@ class Job:
     # Whether a trace is read, and not only words.
     reads = True
 
-    def __init__(self, name, words, output, trace="a", is_live=False, savers=()):
+    def __init__(self, name, words, output, trace="a", is_live=False, savers=(), needs=0):
         self.name = name
         self.words = words
         self.output = output
         self.trace = trace
         self.is_live = is_live
         self.savers = (threads.INDEX, *savers) if is_live else savers
-        self.needs = threads.OF_LIVE if is_live else 0
+        self.needs = needs or (threads.OF_LIVE if is_live else 0)
 
 
 class Misuse(Job):
@@ -108,6 +108,7 @@ WARM = Job(
     ["live", *PLAN, *THREADS, "--base", "1200", "--start", "1201", "--at-stop"],
     A_AT_2000,
     is_live=True,
+    needs=threads.OF_LIVE + 1,
 )
 WIDE = "2 workers, 2^18 writes"
 WIDE_SWEEP_WORDS = ["sweep", "--workers", "2", *MANY_CASES.split()]

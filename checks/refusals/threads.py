@@ -13,7 +13,8 @@ SAVERS = {
     PIECES: r"core::thread::lent::.*",
 }
 # All others are started by a scope, and are needed. How many kinds of them a live run has at least: it plans, receives,
-# replays and copies. If many pages are left at the stop, which hangs on the schedule, others make frames of them.
+# replays and copies. A warm start has one more, which makes the memory of its base. If many pages are left at the stop,
+# which hangs on the schedule, others make frames of them.
 NEEDED, OF_LIVE = re.compile(r"core::scope::entry\b.*"), 4
 
 

@@ -3,22 +3,21 @@
 ghost use Rattle.std.specs.Prelude.{◌≡◌, ◌<◌, ◌&&◌, nat_lt, ℕ, IfErr, IfOk, IsTrue, Some, length};
 ghost use Rattle.std.specs.Prelude.{slice_index};
 ghost use Rattle.live_engine.specs.Warm.{is_lacking};
-ghost use Rattle.migration_model.specs.Final.{shape_of_trace};
-ghost use Rattle.migration_model.specs.Frames.{IsFrameOf};
+ghost use Rattle.migration_model.specs.Memory.{image_before};
 ghost use Rattle.migration_model.specs.Trace.{IsGuestSize};
-ghost use Rattle.migration_model.specs.Versions.{page_at, version_before};
+ghost use Rattle.migration_model.specs.Versions.{version_before};
 ghost use Rattle.migration_model.specs.Warm.{first_part};
 ghost use Rattle.page_bitmap.specs.Listing.{word_count};
 ghost use Rattle.page_bitmap.specs.Pages.{in_words};
-ghost use Rattle.page_versions.specs.Copies.{ArePagesOf};
 ghost use Rattle.page_versions.specs.Index.{IsIndexOf};
 
 use crate::error::LiveError;
+use crate::opening::versions_before;
 use collector::Part;
 use guest_log::WriteLog;
+use image_build::Image;
 use page_bitmap::{add_page, all_pages, word_count};
-use page_message::{Frame, frame_of};
-use page_versions::{PageIndex, PageSource, TracePages};
+use page_versions::PageIndex;
 use std::alloc::Global;
 
 /// Returns the bitmap of the pages whose versions, given by page, are greater than before a base.
@@ -74,45 +73,21 @@ pub(crate) fn pages_lacking<W: WriteLog>(
     }
 }
 
-/// Returns the frame of a page as it is before a tick, at its version then.
-fn frame_before<W: WriteLog>(
-    alloc: Global,
-    source: &PageSource<'_, W>,
-    index: &PageIndex,
-    page: u32,
-    tick: u64,
-) -> Result<Frame, LiveError>
-    requires of { IsIndexOf index.now source.now }
-    requires page { page < source.now.pages }
-    ensures frame { IfOk result (IsFrameOf (shape_of_trace source.now) page (version_before source.now page tick)
-        (page_at source.now page (version_before source.now page tick))) }
-    ensures memory { IfErr result (λ e. e ≡ LiveError.Memory) }
-{
-    let shape = source.shape();
-    let version = index.version_before(page, tick);
-    let mut bytes = Vec::new(alloc);
-    source.bytes_into(page, version, &mut bytes)?;
-    Ok(frame_of(&shape, page, version, bytes))
-}
-
-/// Returns the part that has each page of the guest's memory before a base, at its version then. It makes page after
-/// page, and takes no memory for the bytes of a page of zeros.
-pub(crate) fn part_before<W: WriteLog>(
+/// Returns the part that has each page of the guest's memory before a base, at its version then.
+pub(crate) fn part_of_memory<W: WriteLog>(
     alloc: Global,
     trace: &W,
-    pages: &TracePages,
+    index: &PageIndex,
     base: u64,
+    memory: Image,
 ) -> Result<Part, LiveError>
-    requires { ArePagesOf pages.now.index pages.now.packed (W.trace trace.now) }
+    requires of { IsIndexOf index.now (W.trace trace.now) }
+    requires memory { memory ≡ image_before (W.trace trace.now) base }
     ensures part { IfOk result (λ part. part ≡ first_part (W.trace trace.now) (Some base)) }
     ensures memory { IfErr result (λ e. e ≡ LiveError.Memory) }
 {
     let shape = trace.shape();
-    let source = PageSource::new(trace, &pages.index, pages.packed.as_ref());
-    let mut part = Part::new(alloc, shape);
-    for page in 0..shape.pages {
-        let frame = frame_before(alloc, &source, &pages.index, page, base)?;
-        part.exchange(frame)?;
-    }
-    Ok(part)
+    let stamps = versions_before(alloc, trace, index, base)?;
+    let bytes = memory.into_bytes();
+    Ok(Part::of_image(alloc, shape, &bytes, &stamps)?)
 }
