@@ -1,11 +1,20 @@
 """Cases of checks/evacuation: monitors that hang, lose answers or lie, virsh in other languages, and what is told."""
 
+import contextlib
+import io
 import os
 import subprocess
 
+from checks.evacuation import monitors
+from checks.evacuation.calm_cases import Waiting
 from checks.evacuation.cases import Programs, expect, four_guests
 from checks.evacuation.moving_cases import SECONDS, by_qmp, four_monitors, script_of
 from checks.lib.harness import cases_of
+from checks.lib.tally import expect_in_time
+from precopy_tools.evacuate import lines, movers, run, ways
+from precopy_tools.evacuate.costs import Cost, Guest, Wanted
+from precopy_tools.evacuate.schedules import Placed
+from precopy_tools.qemu import qmp
 
 UNKNOWN = "idle: not known whether it has moved: "
 
@@ -46,6 +55,39 @@ def scripts_that_nobody_reads(programs: Programs, folder: str) -> None:
         done = subprocess.run([path], cwd="/", stdout=nowhere, stderr=subprocess.PIPE, text=True, timeout=SECONDS)
     expect(done.returncode == 0 and not done.stderr, f"{done}")
     expect([event.what for event in log].count("ends") == 4, f"{log}")
+
+
+def moving(folder: str, log: list, name: str, number: int, of_slot: int = 0, **how) -> run.Moving:
+    """The move of a guest with a monitor of its own."""
+    cost = Cost(2, 1e8, 1_000_000, 1, 1, 1, 1, 1, "yes", True, "")
+    placed = Placed(Guest(name, "", "", "", Wanted(0.3), {2: cost}, {}), cost, 0, 1_000_000, number)
+    step = lines.Step(number, placed, of_slot, 0, "at once")
+    return run.Moving(step, movers.QmpMover(step, ways.Way(monitors.Monitor(folder, name, log, 0.3, **how).path)), None)
+
+
+def a_monitor_that_hangs(_, folder: str) -> None:
+    """While one monitor takes its time, others begin and end; the slow one has moved in the end as they have."""
+    log: list[monitors.Event] = []
+    moves = [moving(folder, log, "slow", 1, hangs=6.0), moving(folder, log, "a", 2), moving(folder, log, "b", 3, 2)]
+    going = run.Run(moves, Waiting(), 0.0)
+    with contextlib.redirect_stdout(io.StringIO()):
+        going.perform()
+    states = {move.planned.guest.name: move.state for move in going.outcome().moves}
+    expect(states == dict.fromkeys(("slow", "a", "b"), "moved"), f"{states}")
+    events = [(event.guest, event.what) for event in sorted(log)]
+    expect_in_time(events.index(("b", "ends")) < events.index(("slow", "begins")), f"others wait: {log}")
+
+
+def monitors_that_are_free_again(_, folder: str) -> None:
+    """The monitor of a guest that has not moved is there for others, also while the run goes on."""
+    move = moving(folder, [], "web", 1, fails="no room")
+    move.begin()
+    while move.is_under_way:
+        move.look()
+        move.wait()
+    expect(move.seen.state == "failed", f"{move.seen}")
+    with qmp.Client(move.mover.way.monitor, SECONDS / 10) as client:
+        expect(client.object_of("query-status")["running"], "it does not run")
 
 
 CASES = cases_of(__name__)

@@ -73,6 +73,8 @@ class QmpMover:
             if self.look().state == "failed":
                 raise
         self.begun = True
+        if self.client:
+            self.client.seconds = SECONDS_TO_ANSWER
 
     def take(self, share: int) -> bool:
         """Goes on with another share of the link, or begins with it. Returns whether the monitor has taken it."""
