@@ -15,7 +15,7 @@ from precopy_tools.evacuate import movers as host_movers
 from precopy_tools.evacuate import sharing
 from precopy_tools.evacuate.lines import Step
 from precopy_tools.evacuate.movers import Look
-from precopy_tools.evacuate.outcome import Moved, Outcome
+from precopy_tools.evacuate.outcome import LOST, Moved, Outcome
 from precopy_tools.evacuate.texts import gigabits
 from precopy_tools.evacuate.ways import Way
 from precopy_tools.qemu import qmp
@@ -157,7 +157,7 @@ class Moving:
         elif state == "cancelled":
             why = "it was cancelled"
         where = "" if state == "moved" else self.mover.whereabouts()
-        times = (micros_of(each - begun) for each in (self.begun, self.ended))
+        times = (micros_of(max(0.0, each - begun)) for each in (self.begun, self.ended))
         return Moved(self.step.move, state, *times, self.seen.sent, self.seen.downtime, why, where)
 
 
@@ -253,8 +253,9 @@ class Run:
         if move.seen.state == "moved":
             self._print(f"{move.name} has moved")
             return
-        why = f": {move.seen.why}" if move.seen.why else ""
-        self._print(f"{move.name} has not moved, {move.seen.state}{why}")
+        state, why = move.seen.state, move.seen.why
+        told = LOST if state == "lost" else f" has not moved, {state}{': ' if why else ''}"
+        self._print(f"{move.name}{told}{why}")
         if not self.is_stopped:
             self.is_stopped = True
             self._print("no other guest begins")
@@ -280,7 +281,9 @@ class Run:
         self.lines = len(lines) if is_terminal else 0
 
     def outcome(self) -> Outcome:
-        return Outcome([move.moved(self.begun) for move in self.moves], micros_of(time.monotonic() - self.begun))
+        """What came of it. A run that is stopped before it opens has taken no time."""
+        taken = max(0.0, time.monotonic() - self.begun)
+        return Outcome([move.moved(self.begun) for move in self.moves], micros_of(taken))
 
 
 def expect_ready(options: argparse.Namespace, steps: list[Step], ways: dict[str, Way], status: int) -> None:
