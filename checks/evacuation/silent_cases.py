@@ -3,7 +3,10 @@
 import contextlib
 import io
 import os
+import socket
 import subprocess
+import threading
+import time
 
 from checks.evacuation import monitors
 from checks.evacuation.calm_cases import Waiting
@@ -88,6 +91,38 @@ def monitors_that_are_free_again(_, folder: str) -> None:
     expect(move.seen.state == "failed", f"{move.seen}")
     with qmp.Client(move.mover.way.monitor, SECONDS / 10) as client:
         expect(client.object_of("query-status")["running"], "it does not run")
+
+
+def full_queues(_, folder: str) -> None:
+    """A monitor whose queue is full is waited for as one that does not answer, and asked as soon as there is room."""
+    path = os.path.join(folder, "full.qmp")
+    with contextlib.ExitStack() as stack:
+        server = stack.enter_context(socket.socket(socket.AF_UNIX))
+        server.bind(path)
+        server.listen(0)
+        stack.enter_context(socket.socket(socket.AF_UNIX)).connect(path)
+        begun = time.monotonic()
+        try:
+            qmp.Client(path, 0.5)
+        except qmp.Fault as fault:
+            expect("no answer within 0.5 s" in str(fault), f"{fault}")
+        expect(time.monotonic() - begun >= 0.5, f"it waits for {time.monotonic() - begun} s")
+        answering = threading.Timer(0.5, answer_two, [server])
+        stack.callback(answering.join)
+        answering.start()
+        with qmp.Client(path, SECONDS) as client:
+            expect(client.object_of("query-status") == {"status": "running"}, "another answer")
+
+
+def answer_two(server: socket.socket) -> None:
+    """Takes one client from a queue, which has gone, and answers another one."""
+    server.accept()[0].close()
+    client, _ = server.accept()
+    with client, client.makefile("rw") as stream:
+        monitors.Monitor.say(stream, {"QMP": {}})
+        for told in {}, {"status": "running"}:
+            stream.readline()
+            monitors.Monitor.say(stream, {"return": told})
 
 
 CASES = cases_of(__name__)

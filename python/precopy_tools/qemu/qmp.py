@@ -6,7 +6,7 @@ import socket
 import struct
 import time
 
-SECONDS = 20
+SECONDS, REST = 20, 0.05
 # An answer is one line, and no answer that is asked for here is nearly as long.
 MOST_BYTES = 16 << 20
 
@@ -75,9 +75,20 @@ class Client:
             f"nobody else has this socket: QEMU{f', process {maker},' if maker else ''} does not answer; is it stopped?"
         )
 
-    def _greet(self):
+    def _connect(self):
+        """Has a place in the queue of the socket. The system does not wait for one, and so it is tried again."""
+        end = time.monotonic() + self.seconds
         self.socket.settimeout(self.seconds)
-        self.socket.connect(self.path)
+        while True:
+            try:
+                return self.socket.connect(self.path)
+            except BlockingIOError as fault:
+                if time.monotonic() > end:
+                    raise TimeoutError(f"no answer within {self.seconds:g} s") from fault
+            time.sleep(REST)
+
+    def _greet(self):
+        self._connect()
         self.maker = self.process()
         self._next("QMP")
         self.ask("qmp_capabilities")
