@@ -5,8 +5,10 @@ import io
 import os
 import socket
 import subprocess
+import sys
 import threading
 import time
+import types
 
 from checks.evacuation import monitors
 from checks.evacuation.calm_cases import Waiting
@@ -14,12 +16,40 @@ from checks.evacuation.cases import Programs, expect, four_guests
 from checks.evacuation.moving_cases import SECONDS, by_qmp, four_monitors, script_of
 from checks.lib.harness import cases_of
 from checks.lib.tally import expect_in_time
+from precopy_dev.tree import TOP
 from precopy_tools.evacuate import lines, movers, run, ways
 from precopy_tools.evacuate.costs import Cost, Guest, Wanted
 from precopy_tools.evacuate.schedules import Placed
 from precopy_tools.qemu import qmp
 
 UNKNOWN = "idle: not known whether it has moved: "
+# A process whose table of open files is full.
+FULL = """\
+import os, resource, sys, types
+from precopy_tools.evacuate import movers, ways
+from precopy_tools.qemu import qmp
+from precopy_tools.record import domains
+mover = movers.QmpMover(types.SimpleNamespace(move=None), ways.Way(sys.argv[1]))
+resource.setrlimit(resource.RLIMIT_NOFILE, (64, 64))
+held = []
+try:
+    while True:
+        held.append(os.open("/dev/null", os.O_RDONLY))
+except OSError:
+    pass
+try:
+    told = mover.why_not()
+    domains.virsh("list")
+except qmp.Fault as fault:
+    os.close(held.pop())
+    print(told, fault, sep="\\n")
+"""
+
+
+def step_of(name: str):
+    """A step of which only the guest is known."""
+    guest = types.SimpleNamespace(name=name, limits=types.SimpleNamespace(domain=None))
+    return types.SimpleNamespace(move=types.SimpleNamespace(guest=guest))
 
 
 def scripts_without_answers(programs: Programs, folder: str) -> None:
@@ -93,6 +123,17 @@ def monitors_that_are_free_again(_, folder: str) -> None:
         expect(client.object_of("query-status")["running"], "it does not run")
 
 
+def monitors_that_lie(_, folder: str) -> None:
+    """An answer that is no object is a fault, as none is."""
+    for wrong in [], "running", 5, None:
+        monitor = monitors.Monitor(folder, f"lies{type(wrong).__name__}", [])
+        monitor.answer = lambda *_, told=wrong: {"return": told}
+        mover = movers.QmpMover(step_of("web"), ways.Way(monitor.path))
+        expect(mover.why_not().endswith("query-status: an answer that is no object"), mover.why_not())
+        expect(mover.whereabouts().startswith("nothing is known of it ("), mover.whereabouts())
+        expect(mover.look().state == "moving" and mover.silent == 1, f"{mover.last}")
+
+
 def full_queues(_, folder: str) -> None:
     """A monitor whose queue is full is waited for as one that does not answer, and asked as soon as there is room."""
     path = os.path.join(folder, "full.qmp")
@@ -123,6 +164,16 @@ def answer_two(server: socket.socket) -> None:
         for told in {}, {"status": "running"}:
             stream.readline()
             monitors.Monitor.say(stream, {"return": told})
+
+
+def full_tables_of_files(_, folder: str) -> None:
+    """A monitor or a virsh that cannot be asked now, since too many files are open, is a fault that is told."""
+    environment = {**os.environ, "PYTHONPATH": os.path.join(TOP, "python")}
+    path = monitors.Monitor(folder, "web", []).path
+    command = [sys.executable, "-B", "-c", FULL, path]
+    done = subprocess.run(command, env=environment, capture_output=True, text=True, timeout=SECONDS)
+    told = f"{path}: Too many open files\nvirsh list: Too many open files\n"
+    expect((done.returncode, done.stdout) == (0, told), f"{done}")
 
 
 CASES = cases_of(__name__)

@@ -47,12 +47,13 @@ class Client:
     """One connection. QEMU serves one client at a time, so keep it no longer than it is needed."""
 
     def __init__(self, path, seconds=SECONDS):
-        self.path, self.seconds, self.rest, self.maker = path, seconds, bytearray(), None
-        self.socket = socket.socket(socket.AF_UNIX)
+        self.path, self.seconds, self.rest, self.maker, self.socket = path, seconds, bytearray(), None, None
         try:
+            self.socket = socket.socket(socket.AF_UNIX)
             self._greet()
         except (OSError, ValueError, Fault) as fault:
-            self.socket.close()
+            if self.socket:
+                self.socket.close()
             raise self._no_monitor(fault) from fault
 
     def _no_monitor(self, fault):
@@ -137,6 +138,12 @@ class Client:
         except (OSError, ValueError) as fault:
             raise Fault(f"{self.path}: {command}: {getattr(fault, 'strerror', None) or fault}") from fault
         return returned(self.path, command, answer)
+
+    def object_of(self, command):
+        """What a question is answered that QEMU answers with an object."""
+        if not is_object(told := self.ask(command)):
+            raise Fault(f"{self.path}: {command}: an answer that is no object")
+        return told
 
     def process(self):
         """The process that made the socket: QEMU, if it was not handed to it. None if it is in another namespace."""

@@ -28,6 +28,8 @@ def virsh(*words: str) -> str:
         raise qmp.Fault(f"virsh {words[0]}: no answer within {SECONDS} s") from fault
     if done.returncode:
         told = done.stderr.strip().removeprefix("error: ").replace("\nerror: ", ": ") or f"status {done.returncode}"
+    except OSError as fault:
+        raise qmp.Fault(f"virsh {words[0]}: {fault.strerror}") from fault
         raise qmp.Fault(f"virsh {words[0]}: {told}")
     return done.stdout
 
