@@ -4,6 +4,7 @@ import contextlib
 import io
 import os
 import socket
+import stat
 import subprocess
 import sys
 import threading
@@ -16,6 +17,7 @@ from checks.evacuation.cases import Programs, expect, four_guests
 from checks.evacuation.moving_cases import SECONDS, by_qmp, four_monitors, script_of
 from checks.lib.harness import cases_of
 from checks.lib.tally import expect_in_time
+from precopy_dev.files import write_file
 from precopy_dev.tree import TOP
 from precopy_tools.evacuate import lines, movers, run, ways
 from precopy_tools.evacuate.costs import Cost, Guest, Wanted
@@ -23,6 +25,15 @@ from precopy_tools.evacuate.schedules import Placed
 from precopy_tools.qemu import qmp
 
 UNKNOWN = "idle: not known whether it has moved: "
+# A virsh whose user reads German.
+GERMAN = """\
+#!/bin/sh
+case $LC_ALL in C*) state=running ;; *) state=laufend ;; esac
+case "$*" in
+*domstate*) echo "$state" ;;
+*domjobinfo*) echo 'Job type:         {job}' ;;
+esac
+"""
 # A process whose table of open files is full.
 FULL = """\
 import os, resource, sys, types
@@ -174,6 +185,27 @@ def full_tables_of_files(_, folder: str) -> None:
     done = subprocess.run(command, env=environment, capture_output=True, text=True, timeout=SECONDS)
     told = f"{path}: Too many open files\nvirsh list: Too many open files\n"
     expect((done.returncode, done.stdout) == (0, told), f"{done}")
+
+
+def virsh_in_other_languages(_, folder: str) -> None:
+    """virsh is asked in English. Of a guest that has a job still it is not said that it runs here."""
+    code = "import types, sys; from precopy_tools.evacuate import movers, ways\n"
+    code += "from checks.evacuation.silent_cases import step_of\n"
+    code += "mover = movers.VirshMover(step_of('web'), ways.Way('', 'b'))\nprint(mover.why_not(), mover.whereabouts())"
+    for job, told in (
+        ("None", " it runs here\n"),
+        (
+            "Unbounded",
+            "domain web has a job already it has a job still, and its state here is running: look at both hosts\n",
+        ),
+    ):
+        os.makedirs(os.path.join(folder, job))
+        os.chmod(write_file(GERMAN.format(job=job), folder, job, "virsh"), stat.S_IRWXU)
+        environment = {**os.environ, "PATH": f"{folder}/{job}:{os.environ['PATH']}", "LC_ALL": "de_DE.UTF-8"}
+        environment["PYTHONPATH"] = f"{TOP}:{TOP}/python"
+        command = [sys.executable, "-B", "-c", code]
+        done = subprocess.run(command, env=environment, capture_output=True, text=True, timeout=SECONDS)
+        expect(done.stdout == told, f"{job}: {done}")
 
 
 CASES = cases_of(__name__)

@@ -173,14 +173,12 @@ class VirshMover:
 
     def why_not(self) -> str:
         try:
-            state = domains.virsh("domstate", "--domain", self.domain).strip()
-            job = domains.virsh("domjobinfo", "--domain", self.domain)
+            state, is_idle = self._state()
         except qmp.Fault as fault:
             return str(fault)
         if state not in MOVABLE:
             return f"domain {self.domain} does not run here: its state is {state}"
-        kind = re.search(r"^Job type: +(.+?) *$", job, re.M)
-        return "" if kind and kind[1] == "None" else f"domain {self.domain} has a job already"
+        return "" if is_idle else f"domain {self.domain} has a job already"
 
     def begin(self) -> None:
         if why := self.why_not():
@@ -243,13 +241,16 @@ class VirshMover:
 
     def whereabouts(self) -> str:
         try:
-            state = domains.virsh("domstate", "--domain", self.domain).strip()
+            state, is_idle = self._state()
         except qmp.Fault as fault:
             return f"nothing is known of it ({fault}): look at both hosts"
+        if not is_idle:
+            return f"it has a job still, and its state here is {state}: look at both hosts"
         return "it runs here" if state == "running" else f"it is here, and its state is {state}"
 
     def end(self) -> None:
-        self.errors.close()
+        if self.errors:
+            self.errors.close()
 
 
 MOVERS = {"qmp": QmpMover, "virsh": VirshMover}
