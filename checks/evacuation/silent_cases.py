@@ -14,7 +14,7 @@ import types
 from checks.evacuation import monitors
 from checks.evacuation.calm_cases import Waiting
 from checks.evacuation.cases import Programs, expect, four_guests
-from checks.evacuation.moving_cases import SECONDS, by_qmp, four_monitors, script_of
+from checks.evacuation.moving_cases import SECONDS, by_qmp, four_monitors, run_of, script_of
 from checks.lib.harness import cases_of
 from checks.lib.tally import expect_in_time
 from precopy_dev.files import write_file
@@ -132,6 +132,17 @@ def monitors_that_are_free_again(_, folder: str) -> None:
     expect(move.seen.state == "failed", f"{move.seen}")
     with qmp.Client(move.mover.way.monitor, SECONDS / 10) as client:
         expect(client.object_of("query-status")["running"], "it does not run")
+
+
+def reports_that_cannot_be_written(programs: Programs, folder: str) -> None:
+    """A run whose report cannot be written says so. That a guest has not moved is told by the status all the same."""
+    records = four_guests(folder)
+    for number, (how, status) in enumerate((({}, 1), ({"fails": "no room"}, 5))):
+        place = os.path.join(folder, str(number))
+        os.makedirs(place)
+        four_monitors(place, idle=how)
+        _, fault = run_of(programs, *records, *by_qmp(place), "--json", f"{place}/none/told.json", status=status)
+        expect(f"{place}/none/told.json: No such file or directory" in fault, fault)
 
 
 def monitors_that_lie(_, folder: str) -> None:
