@@ -13,7 +13,7 @@ import types
 
 from checks.evacuation import monitors
 from checks.evacuation.calm_cases import Waiting
-from checks.evacuation.cases import Programs, expect, four_guests
+from checks.evacuation.cases import LINK, Programs, expect, four_guests, run_tool, steady_guest, write_record
 from checks.evacuation.moving_cases import SECONDS, by_qmp, four_monitors, run_of, script_of
 from checks.lib.harness import cases_of
 from checks.lib.tally import expect_in_time
@@ -217,6 +217,15 @@ def virsh_in_other_languages(_, folder: str) -> None:
         command = [sys.executable, "-B", "-c", code]
         done = subprocess.run(command, env=environment, capture_output=True, text=True, timeout=SECONDS)
         expect(done.stdout == told, f"{job}: {done}")
+
+
+def names_that_are_no_moments(programs: Programs, folder: str) -> None:
+    """A record whose name ends in a moment that never was is no segment, and refuses nothing."""
+    web, *_ = four_guests(folder)
+    odd = write_record(folder, "db.20261399T250000Z", steady_guest(4097, 10))
+    for words in [], ["--at", "03:00"], ["--window", "22:00-06:00"]:
+        text, fault = run_tool(programs, web, odd, "--link", LINK, "--at-once", "1", *words)
+        expect("\ndb " in text and not fault, f"{words}: {text}, {fault}")
 
 
 CASES = cases_of(__name__)
