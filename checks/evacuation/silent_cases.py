@@ -1,5 +1,6 @@
 """Cases of checks/evacuation: monitors that hang, lose answers or lie, virsh in other languages, and what is told."""
 
+import ast
 import contextlib
 import io
 import os
@@ -226,6 +227,18 @@ def names_that_are_no_moments(programs: Programs, folder: str) -> None:
     for words in [], ["--at", "03:00"], ["--window", "22:00-06:00"]:
         text, fault = run_tool(programs, web, odd, "--link", LINK, "--at-once", "1", *words)
         expect("\ndb " in text and not fault, f"{words}: {text}, {fault}")
+
+
+def names_in_scripts(_, folder: str) -> None:
+    """A script for python3 has the names of guests as they are, whatever letters are in them."""
+    for name in ("web", "d\u00e9-\U0001f600", "'\\ \"{x}\u2028"):
+        step = moving(folder, [], f"m{ord(name[-1])}", 1).step
+        step = step._replace(move=step.move._replace(guest=step.move.guest._replace(name=name)))
+        text = lines.qmp_script([step], {name: ways.Way(f"/run/{name}", f"unix:/run/{name}")})
+        tree = next(each for each in ast.parse(text).body if getattr(each, "target", None) and each.target.id == "PLAN")
+        (row,) = ast.literal_eval(tree.value)
+        found = (row["guest"], row["monitor"], row["commands"][-1]["arguments"]["uri"])
+        expect(found == (name, f"/run/{name}", f"unix:/run/{name}"), f"{found} in place of {name!r}")
 
 
 CASES = cases_of(__name__)

@@ -161,7 +161,7 @@ def qmp_script(steps: list[Step], ways: dict[str, Way]) -> str:
         }
         for step in steps
     ]
-    rows = "".join(f"    {json.dumps(row, ensure_ascii=True)},\n" for row in plan)
+    rows = "".join(f"    {row!a},\n" for row in plan)
     with open(QMP_SCRIPT, encoding="utf-8") as file:
         return file.read().replace(PLAN, f"# {title_of(steps)}\nPLAN: list = [\n{rows}]")
 
