@@ -241,4 +241,12 @@ def names_in_scripts(_, folder: str) -> None:
         expect(found == (name, f"/run/{name}", f"unix:/run/{name}"), f"{found} in place of {name!r}")
 
 
+def limits_in_milliseconds(_, __) -> None:
+    """A limit of whole milliseconds is told as it is, and others are rounded down."""
+    for limit in range(1, 5000):
+        found = lines.milliseconds(limit * 1_000 / 1_000_000)
+        expect(found == limit, f"{limit} ms are told as {found}")
+    expect((lines.milliseconds(0.0015), lines.milliseconds(0.000001)) == (1, 1), "not rounded down")
+
+
 CASES = cases_of(__name__)
