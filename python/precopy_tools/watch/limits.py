@@ -90,13 +90,21 @@ class File:
         try:
             state = self._state()
             if state != self.seen:
-                self.seen = state
-                self.host = self._read()
-                print(f"limits: {self.path} is read again", flush=True)
+                self._read_again(state)
             self.fault = ""
         except (OSError, Refused) as fault:
             self._complain(traces.told(fault))
         return self.host
+    def _read_again(self, state: tuple[int, int, int]) -> None:
+        """What is refused is not read twice; what could not be read is tried again."""
+        try:
+            self.host = self._read()
+        except Refused:
+            self.seen = state
+            raise
+        self.seen = state
+        print(f"limits: {self.path} is read again", flush=True)
+
 
     def _complain(self, told: str) -> None:
         if told != self.fault:
