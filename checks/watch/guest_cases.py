@@ -235,7 +235,7 @@ def guests_of_one_name(program, folder):
     expect(not run.faults, run.faults)
 
 
-def names_of_sockets(_, __):
+def names_of_sockets(_, folder):
     """Names are the shortest parts of paths that tell guests apart; what has none is refused once, and in words."""
     for paths, wanted in (
         (["/r/a.qmp", "/r/b.c.qmp", "/s/d"], ["a", "b.c", "d"]),

@@ -12,16 +12,18 @@ from precopy_tools.watch.names import Names, Odd, is_name, name_of
 # How many monitors are asked at once, so that some that hang do not hold up all.
 AT_ONCE = 8
 SECONDS = 1.0
+# How long virsh may take. A service that is ended waits for it, and is killed if that takes too long.
+LIST_SECONDS = 10.0
 
 
 class Libvirt:
     """The guests of libvirt, by two calls of virsh for all of them."""
 
-    def look(self) -> dict[str, bool | None]:
-        """Each guest that is not shut off, and whether it runs; or a Fault."""
     def __init__(self):
         self.odd = Odd()
 
+    def look(self) -> dict[str, bool | None]:
+        """Each guest that is not shut off, and whether it runs; or a Fault."""
         active, running = (
             domains.virsh("list", "--name", *words, seconds=LIST_SECONDS).splitlines()
             for words in ([], ["--state-running"])
