@@ -21,7 +21,9 @@ from checks.recording.sample_runs import Drawn, Pages
 from precopy_dev.files import read_json, read_text, write_file
 from precopy_tools.formats import samples
 from precopy_tools.qemu import qmp
-from precopy_tools.record import series
+from precopy_tools.record import command as record_command
+from precopy_tools.record import sampled, series, sources
+from precopy_tools.record.pagemap import Unavailable
 
 LAYOUT = {"nodes": [["a", "private", 600], ["b", "memfd", 500]], "code": 5000}
 # A record of drawn pages, with its NAME.json.
@@ -287,6 +289,41 @@ def told_as_json(_, folder):
             expect(told["format"] == name and wanted.items() <= told.items(), f"{tool}: {told}")
     told, _ = forecast_cases.run_predict(thin, "--link", "64MiB", "--json", status=None)
     expect(json.loads(told)["record"]["trace_pages"] > 0, told)
+
+
+class Untracked(sampled.SampledGuest):
+    """A guest whose writes cannot be followed."""
+
+    def tracker(self):
+        raise Unavailable("it is tried")
+
+
+def nothing_left_open(_, folder):
+    """A recorder that cannot begin leaves nothing open, however often it is tried."""
+    with Pages("private") as pages:
+        for words, kind, fault in (
+            (["--by", "writes"], Untracked, Unavailable),
+            (["--one-in", "1"], sampled.SampledGuest, ValueError),
+        ):
+            options = record_command.options_of([*pages.source, *words, os.path.join(folder, "a.light.pcwt")])
+            source = sources.source_of(options)
+            source = source._replace(ranges=[(0, 1 << 48)] if fault is ValueError else source.ranges)
+            for _ in range(3):
+                try:
+                    sampled.SampleRecorder(kind(options, source), None, options)
+                except fault:
+                    continue
+                raise AssertionError(f"{words}: it begins")
+        left = [path for path in map(path_of, os.listdir("/proc/self/fd")) if f"/{pages.process.pid}/" in path]
+    expect(not left, f"{left}")
+
+
+def path_of(descriptor):
+    """The file of a descriptor; of one that another case has closed meanwhile there is none."""
+    try:
+        return os.readlink(f"/proc/self/fd/{descriptor}")
+    except OSError:
+        return ""
 
 
 CASES = cases_of(__name__)
