@@ -291,6 +291,26 @@ def told_as_json(_, folder):
     expect(json.loads(told)["record"]["trace_pages"] > 0, told)
 
 
+def odd_names_and_streams(_, folder):
+    """A name that an encoding does not have is printed all the same, and a tool whose standard output is closed says
+    so."""
+    odd = os.path.join(os.fsencode(folder), b"a\xff\xc3\xa9.light.pcwt")
+    closed = ["sh", "-c", 'exec "$@" >&-', "sh"]
+    with Pages("private") as pages:
+        for encoding, how, more, said, fault in (
+            ("utf-8", [], [], odd, b""),
+            ("ascii", [], [], b"a\xff\\xe9.light.pcwt", b""),
+            ("utf-8", [], ["--json"], b"a\\udcff\\u00e9.light.pcwt", b""),
+            ("utf-8", closed, [], b"", b"record: what it prints could not be written: Bad file descriptor\n"),
+        ):
+            environment = {**os.environ, "PYTHONIOENCODING": f"{encoding}:strict", "PYTHONUTF8": "1"}
+            command = [*how, RECORD, *pages.source, "--for", "300ms", *more, odd]
+            done = subprocess.run(command, env=environment, capture_output=True, timeout=12 * SECONDS)
+            expect(done.returncode == 0 and said in done.stdout and done.stderr == fault, f"{encoding}, {more}: {done}")
+            expect(os.path.exists(odd), f"{os.listdir(folder)}")
+            os.unlink(odd)
+
+
 class Untracked(sampled.SampledGuest):
     """A guest whose writes cannot be followed."""
 
