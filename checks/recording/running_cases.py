@@ -291,6 +291,17 @@ def told_as_json(_, folder):
     expect(json.loads(told)["record"]["trace_pages"] > 0, told)
 
 
+def statuses_of_several(_, folder):
+    """Of several records the status is 3 if one does not keep its limit, also if nothing is known of another one."""
+    paths = [os.path.join(folder, f"{name}.light.pcwt") for name in ("runs", "still")]
+    for path, more in zip(paths, ({}, {"ran_share": 0.5})):
+        shutil.copy(RECORDED, path)
+        write_file(json.dumps({**sample_in(RECORDED), **more}), samples.path_beside(path))
+    words = ["--link", "32MiB", "--downtime", "10ms", "--clark"]
+    for given, status in ((paths[:1] * 2, 3), (paths[1:] * 2, 4), (paths, 3), (paths[::-1], 3)):
+        forecast_cases.run_predict(*given, *words, status=status)
+
+
 def odd_names_and_streams(_, folder):
     """A name that an encoding does not have is printed all the same, and a tool whose standard output is closed says
     so."""
