@@ -19,11 +19,14 @@ from checks.recording.memory_cases import Known
 from checks.recording.recorder_runs import RECORD, SECONDS, TOP, Writing, expect, read_until_recording
 from checks.recording.sample_runs import Drawn, Pages
 from precopy_dev.files import read_json, read_text, write_file
+from precopy_tools.evacuate import settings
 from precopy_tools.formats import samples
 from precopy_tools.qemu import qmp
 from precopy_tools.record import command as record_command
 from precopy_tools.record import sampled, series, sources
 from precopy_tools.record.pagemap import Unavailable
+from precopy_tools.refusals import Refused
+from precopy_tools.watch import limits
 
 LAYOUT = {"nodes": [["a", "private", 600], ["b", "memfd", 500]], "code": 5000}
 # A record of drawn pages, with its NAME.json.
@@ -300,6 +303,20 @@ def statuses_of_several(_, folder):
     words = ["--link", "32MiB", "--downtime", "10ms", "--clark"]
     for given, status in ((paths[:1] * 2, 3), (paths[1:] * 2, 4), (paths, 3), (paths[::-1], 3)):
         forecast_cases.run_predict(*given, *words, status=status)
+
+
+def files_without_end(_, __):
+    """A file of settings, and what stands beside a record, is read no further than the most that it may have."""
+    told = "/dev/zero has more than 16 MiB\n"
+    _, fault = forecast_cases.run_predict(RECORDED, "--link", "64MiB", "--record", "/dev/zero", status=1)
+    expect(fault == f"predict: {told}", fault)
+    for read in (limits.File, settings.read):
+        try:
+            read("/dev/zero")
+        except Refused as refused:
+            expect(f"{refused}\n" == told, f"{refused}")
+        else:
+            raise AssertionError(f"{read}: it ends")
 
 
 def odd_names_and_streams(_, folder):
