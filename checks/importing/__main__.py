@@ -160,6 +160,8 @@ def derived_shape(_, folder):
         expect(done.status == 0, done)
         expect(done.output[:12] == header(pages, 0, shift)[:12], f"{text!r} gives {done.output[:16]!r}")
         expect([write[:2] for write in records_of(done.output)] == wanted, f"{text!r} gives {done.output!r}")
+    done = run([IMPORT, "--first", "9" * 20, "-", "-"], b"0 2 0 ff\n")
+    expect(done.status == 0 and len(records_of(done.output)) == 1, f"more writes than there are: {done}")
 
 
 BAD_LINES = [
