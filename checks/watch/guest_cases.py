@@ -232,7 +232,8 @@ def guests_of_one_name(program, folder):
             run.end_well()
     expect(all(run.records_of(name) for name in ("x-m", "y-m", "z-m", "n")), f"{os.listdir(run.output)}")
     expect(f"x-m: the guest of {place}/x/m.qmp" in run.told and "n: the guest" not in run.told, run.told)
-    expect(not run.faults, run.faults)
+    # The last guest may go while a record of it begins.
+    expect(run.faults in ("", "watch: z-m: the process ended\n"), run.faults)
 
 
 def names_of_sockets(_, folder):
