@@ -10,7 +10,22 @@ from fractions import Fraction
 
 from checks.lib.harness import drawn
 from checks.lib.tally import expect
-from checks.page import forecasts, kept, late, limits, links, looking, map, records, saves, shapes, sure, told, worker
+from checks.page import (
+    focus,
+    forecasts,
+    kept,
+    late,
+    limits,
+    links,
+    looking,
+    map,
+    records,
+    saves,
+    shapes,
+    sure,
+    told,
+    worker,
+)
 from checks.page.acts import asked, guest_with_record, spelled, typed
 from checks.page.cases import example
 from checks.page.manners import MANNERS
@@ -380,6 +395,7 @@ USES = {
     "names": check_names,
     "looking": looking.check_looking,
     "looking together": looking.check_together,
+    "the link past the settings": focus.check_link_past,
     "the map": map.check_map,
     "the rounds on the map": map.check_map_rounds,
     "pages of the map": map.check_map_pages,

@@ -108,7 +108,15 @@ export class PlanView {
     }));
     this.kept = [];
     byId("headline").addEventListener("click", ({ target }) => this.press(target));
+    byId("past-settings").addEventListener("click", (event) => this.goTo(event));
     watchWidths([this.figures[0].plot, byId("limit-bar")], changed);
+  }
+
+  /** Leads to the prediction. The link's own address has no settings, and is not gone to. */
+  goTo(event) {
+    event.preventDefault();
+    byId("outcome").scrollIntoView();
+    byId("outcome").focus({ preventScroll: true });
   }
 
   /** Forgets the last plan, which was of another trace. */
