@@ -1,7 +1,7 @@
 """Looking at the pictures of the planner's page with a mouse or a finger, at one and at all together."""
 
 from checks.lib.tally import expect
-from checks.page.acts import asked
+from checks.page.acts import asked, plan_starts
 
 
 def check_looking(page):
@@ -40,6 +40,41 @@ def check_looking(page):
     )
     said = page.browser.value("textOf('plan-this')")
     expect("Round 0, 0.000 s to " in said, f"a finger on a round reads nothing: {said}")
+    page.click("zoom-out")
+
+
+# Taps a picture at a share of its width, and tells what is offered then.
+TAPPED = """((name, share) => {
+  const plot = document.getElementById(`${name}-plot`);
+  const { left, top, width } = plot.getBoundingClientRect();
+  plot.dispatchEvent(new PointerEvent("click", { pointerType: "touch", bubbles: true, clientX: left + share * width,
+    clientY: top + 60 }));
+  return textOf(`${name}-take`);
+})"""
+ZOOM = "document.getElementById('zoom-plan').click()"
+SLOWER = """(() => {
+  const field = document.getElementById("control-link");
+  field.value = "32";
+  field.dispatchEvent(new Event("input"));
+})()"""
+
+
+def check_offers(page):
+    """What a button offers to a finger is of the picture that is seen: another picture has other items."""
+    for name, act in (("windows", ZOOM), ("starts", ZOOM), ("links", SLOWER)):
+        page.ask("trace=sqlite&link=64MiB&first=50&downtime=300ms&start=1000&window=500")
+        page.click("zoom-out")
+        plan_starts(page)
+        page.rest()
+        offered = page.browser.value(f"{TAPPED}('{name}', 0.8)")
+        page.browser.value(act)
+        page.rest()
+        is_hidden = page.browser.value(f"document.getElementById('{name}-take').hidden")
+        if not is_hidden:
+            page.click(f"{name}-take")
+            page.rest()
+        taken = page.browser.value("['start', 'link'].map((name) => document.getElementById(`control-${name}`).value)")
+        expect(is_hidden, f"{name}: {offered!r} is still offered, and takes the start and the link {taken}")
     page.click("zoom-out")
 
 

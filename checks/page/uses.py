@@ -395,6 +395,7 @@ USES = {
     "names": check_names,
     "looking": looking.check_looking,
     "looking together": looking.check_together,
+    "what a finger is offered": looking.check_offers,
     "the link past the settings": focus.check_link_past,
     "the map": map.check_map,
     "the rounds on the map": map.check_map_rounds,

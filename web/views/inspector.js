@@ -61,9 +61,10 @@ export class Inspector {
     return this.look?.count === 0 && Boolean(this.look.none);
   }
 
-  /** Takes the items of a picture that has just been drawn, or none. */
+  /** Takes the items of a picture that has just been drawn, or none. What is offered was of the one before. */
   hold(look) {
     this.look = look;
+    this.withdraw();
     this.plot.setAttribute("aria-valuemax", String(Math.max(0, (look?.count ?? 0) - 1)));
     this.show(this.at !== null && this.at < (look?.count ?? 0) ? this.at : null);
   }
@@ -100,8 +101,14 @@ export class Inspector {
     }
   }
 
+  withdraw() {
+    if (this.offer?.hidden === false) {
+      keepFocus(() => { this.offer.hidden = true; }, () => this.plot);
+    }
+  }
+
   take(at) {
-    keepFocus(() => { this.offer.hidden = true; }, () => this.plot);
+    this.withdraw();
     if (this.look && at < this.look.count) {
       this.look.choose(at);
     }
