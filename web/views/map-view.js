@@ -313,6 +313,8 @@ export class MapView {
   drawRounds() {
     const { axis, turnGrid } = this.held;
     const isDrawn = this.areRoundsDrawn();
+    // What was painted for a file would lie over other turns.
+    this.images.forEach((image) => image.removeAttribute("href"));
     const cells = isDrawn ? this.rounds.found.cells : new Uint8Array(turnGrid.columns * turnGrid.rows);
     paintTurns(this.turns, turnGrid, cells, { width: axis.room, height: MAP_HEIGHT });
     this.tellLegend();
