@@ -2,7 +2,7 @@
 another trace is open."""
 
 from checks.lib.tally import expect
-from checks.page.acts import example_named
+from checks.page.acts import example_named, guest_with_record
 
 # How long a message to a worker is on its way here, in milliseconds.
 DELAY = 300
@@ -73,8 +73,23 @@ def check_other_map(page):
     expect(over_gzip in said and said <= {over_mid, over_gzip}, f"the map said {said - {over_mid, over_gzip}}")
 
 
+def check_record_meanwhile(page):
+    """A record that comes while its trace is still being read is that of this trace, and not of the one before."""
+    page.open_planned("#trace=gzip")
+    page.browser.value(f"window.delay = {DELAY}; 0")
+    for file in guest_with_record("a"):
+        page.let_fall(file)
+    page.browser.wait(f"textOf('trace-state').startsWith('a.pcwt: ') && {IS_OPEN} && isDrawn()", 20)
+    page.browser.value("window.delay = 0")
+    page.becomes("textOf('trace-state').includes(', as a.json says')", True, "after a record that came meanwhile")
+    notes = page.browser.value("textOf('trace-notes')")
+    expect(not notes, f"of a record that came while its trace was read is said {notes!r}")
+    page.rest()
+
+
 LATE = {
     "an address that was left": check_left_address,
     "undo pressed twice": check_two_presses,
     "the map of another trace": check_other_map,
+    "a record of a trace that is being read": check_record_meanwhile,
 }

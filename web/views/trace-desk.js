@@ -131,6 +131,8 @@ export class TraceDesk {
     if (sources.length > 0) {
       await this.openFirst(sources, others, wish);
     } else if (record) {
+      // It may be of a trace that is still being read.
+      await this.turn;
       this.takeRecord(record, unopenedNotes(others));
     }
   }
