@@ -57,6 +57,18 @@ def check_records(page):
         expect(page.browser.value(VALUES) == wanted, f"{name} has changed {page.browser.value(VALUES)}")
 
 
+def check_unreadable(page):
+    """A record that cannot be read is refused in a sentence, and leaves the trace beside it to be opened."""
+    trace, record = guest_with_record("a")
+    for files in ([trace, record], [record]):
+        page.open_planned("#trace=gzip")
+        page.browser.value("File.prototype.text = async () => { throw new Error('gone'); }; 0")
+        said = page.drop(*files)
+        expect("a.json is not used: It could not be read." in said, f"{len(files)} files: {said}")
+        name = "a.pcwt" if len(files) == 2 else "gzip.light.pcwt"
+        expect(f"| {name}: " in said, f"of {len(files)} files: {said}")
+
+
 def suggestion(page, name):
     return page.browser.value(f"document.querySelector('[data-control={name}] .suggestion')?.textContent ?? ''")
 
@@ -194,6 +206,7 @@ RECORDS = {
     "a record and an address of its trace": check_own_address,
     "limits that were fitted": check_fitted,
     "doubts of a record": check_doubts,
+    "a record that cannot be read": check_unreadable,
     "a guest that stood still": check_still,
 }
 

@@ -138,7 +138,8 @@ export class TraceDesk {
   }
 
   async textOf(file) {
-    return { name: file.name, text: file.size > MOST_RECORD_BYTES ? null : await file.text() };
+    const text = file.size > MOST_RECORD_BYTES ? null : await file.text().catch(() => undefined);
+    return { name: file.name, text };
   }
 
   async takeExample(example, wish) {
