@@ -181,3 +181,20 @@ def check_hosts(page):
         for name in ("qemu", "libvirt"):
             said = found["notes"][name]
             expect(notes.get(name, "") in said and bool(said) == (name in notes), f"{fragment}: {name}: {said!r}")
+
+
+def check_copied(page):
+    """A button that copies says for a while that it did, and then again what it does, also if it is pressed twice."""
+    page.ask("trace=gzip&first=100&start=400")
+    page.rest()
+    said = page.browser.value(
+        """(async () => {
+      const button = document.querySelector("[data-copies=command-predict]");
+      const after = (millis) => new Promise((resume) => setTimeout(() => resume(button.textContent), millis));
+      button.click();
+      const told = await after(300);
+      button.click();
+      return [told, await after(2_000)];
+    })()"""
+    )
+    expect(said[0] in ("Copied", "Selected") and said[1] == "Copy", f"a button that was pressed twice says {said}")

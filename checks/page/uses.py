@@ -390,6 +390,7 @@ USES = {
     "a second trace": kept.check_second_trace,
     "a trace that is undone": kept.check_undone_trace,
     "hypervisors": kept.check_hosts,
+    "commands that are copied": kept.check_copied,
     "saved files": saves.check_files_saved,
     "a refusal out of sight": check_refused_below,
     "names": check_names,

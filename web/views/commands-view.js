@@ -5,7 +5,8 @@ import { byId, html, tellIn } from "./elements.js";
 import { commandsOf } from "../model/predictions.js";
 import { firstStartOf } from "../model/starts.js";
 
-/** For how long a button says that something was copied, in milliseconds. */
+/** What a button says, and for how long it says that something was copied, in milliseconds. */
+const COPY = "Copy";
 const TOLD = 1_500;
 
 /** The parts of a text. Words are not broken at their hyphens, nor what is read after its sign. */
@@ -63,7 +64,6 @@ export class CommandsView {
   async copy(button) {
     const { copies } = button.dataset;
     const words = copies === "address" ? location.href : byId(copies).textContent;
-    const before = button.textContent;
     try {
       await navigator.clipboard.writeText(words);
       button.textContent = "Copied";
@@ -71,6 +71,6 @@ export class CommandsView {
       getSelection().selectAllChildren(byId(copies));
       button.textContent = "Selected";
     }
-    setTimeout(() => { button.textContent = before; }, TOLD);
+    setTimeout(() => { button.textContent = COPY; }, TOLD);
   }
 }
