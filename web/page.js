@@ -101,12 +101,12 @@ class Page {
 
   async takeExample(example) {
     await this.ready;
-    await this.desk.takeExample(example, {});
+    await this.desk.takeExample(example, { followed: this.followed });
   }
 
   async takeFiles(files) {
     await this.ready;
-    await this.desk.takeFiles(files, { isGiven: this.isGiven && this.desk.trace === null });
+    await this.desk.takeFiles(files, { isGiven: this.isGiven && this.desk.trace === null, followed: this.followed });
   }
 
   async open() {
@@ -114,7 +114,7 @@ class Page {
     await this.ready;
     const example = this.state.example ?? (this.isGiven ? null : FIRST_EXAMPLE);
     if (example) {
-      await this.desk.takeExample(example, { isGiven: this.isGiven });
+      await this.desk.takeExample(example, { isGiven: this.isGiven, followed: this.followed });
     } else {
       const { print } = this.state;
       const whose = print ? `the trace whose SHA-256 begins with ${print}` : "a trace";
@@ -122,11 +122,13 @@ class Page {
     }
   }
 
-  /** Takes a trace that is open now, with settings for it; unless it is of an address that was left meanwhile. */
-  take(trace, { isGiven = false, isRecordOnly = false, followed = this.followed }) {
-    if (followed !== this.followed && this.opensAddressed()) {
+  /** Takes a trace that is open now, with settings for it; unless an address of another was gone to meanwhile. */
+  take(trace, { isGiven: isOfAddress = false, isRecordOnly = false, followed = this.followed }) {
+    const isLeft = followed !== this.followed;
+    if (isLeft && this.opensAddressed()) {
       return;
     }
+    const isGiven = isOfAddress || isLeft;
     this.taken = trace;
     const { example } = trace.source;
     this.isAddressed = isRecordOnly ? this.isAddressed : isGiven;

@@ -2,7 +2,7 @@
 another trace is open."""
 
 from checks.lib.tally import expect
-from checks.page.acts import example_named, guest_with_record
+from checks.page.acts import example_named, guest_with_record, typed
 
 # How long a message to a worker is on its way here, in milliseconds.
 DELAY = 300
@@ -87,9 +87,39 @@ def check_record_meanwhile(page):
     page.rest()
 
 
+OVER_ADDRESS = """[textOf("trace-state").split(":")[0], document.getElementById("control-link").value,
+  document.getElementById("trace-other").hidden, location.hash.includes("link=64MiB"),
+  document.getElementById("redo").getAttribute("aria-disabled")]"""
+
+
+def check_left_file(page):
+    """A file that is still being read when the user goes to another address changes nothing there: that came later."""
+    open_two(page)
+    page.browser.value(f"window.delay = {DELAY}; 0")
+    page.let_fall(example_named("gzip.pcwt", "gzip.pcwt"))
+    pressed(page, "undo", "true")
+    page.browser.wait(f"textOf('trace-state').startsWith('sqlite.light.pcwt: ') && {IS_OPEN} && isDrawn()", 20)
+    page.browser.value("window.delay = 0")
+    page.rest()
+    wanted = ["sqlite.light.pcwt", "64", True, True, "false"]
+    page.becomes(OVER_ADDRESS, wanted, "after a file that was still being read")
+    page.browser.forget_pages()
+    page.open_planned("#trace=gzip&link=2MB&downtime=4ms")
+    page.browser.wait("location.hash.includes('window=')", 5)
+    typed(page, "link", "4")
+    page.browser.wait("location.hash.includes('link=4MB')", 5)
+    page.browser.value(f"window.delay = {DELAY}; document.querySelector('[data-example=gzip]').click()")
+    page.click("undo")
+    page.browser.wait(f"location.hash.includes('link=2MB') && opened > 1 && {IS_OPEN} && isDrawn()", 20)
+    page.browser.value("window.delay = 0")
+    page.rest()
+    page.becomes("document.getElementById('control-link').value", "2", "after an example that was still being read")
+
+
 LATE = {
     "an address that was left": check_left_address,
     "undo pressed twice": check_two_presses,
     "the map of another trace": check_other_map,
     "a record of a trace that is being read": check_record_meanwhile,
+    "a file that was left": check_left_file,
 }
