@@ -11,6 +11,7 @@ from fractions import Fraction
 from checks.lib.harness import drawn
 from checks.lib.tally import expect
 from checks.page import (
+    another,
     focus,
     forecasts,
     kept,
@@ -389,6 +390,7 @@ USES = {
     "shared axes": kept.check_axes,
     "a second trace": kept.check_second_trace,
     "a trace that is undone": kept.check_undone_trace,
+    "a trace after another": another.check_another,
     "hypervisors": kept.check_hosts,
     "commands that are copied": kept.check_copied,
     "saved files": saves.check_files_saved,

@@ -26,7 +26,10 @@ export class CommandsView {
     copyButtons().forEach((button) => button.addEventListener("click", () => this.copy(button)));
   }
 
-  /** Shows the commands of a prediction over a trace that begins at a tick. Without one the last ones stay, grey. */
+  /**
+   * Shows the commands of a prediction over a trace that begins at a tick. Without one the last ones stay, grey, unless
+   * they are of another trace.
+   */
   draw(prediction, sizes, begin) {
     byId("commands").classList.toggle("stale", !prediction);
     if (prediction) {
@@ -34,7 +37,11 @@ export class CommandsView {
       const commands = commandsOf(prediction.state, sizes, prediction, first);
       Object.entries(commands).forEach(([name, command]) => this.show(name, command));
       byId("warm-note").hidden = prediction.settings.base === null;
+    } else if (sizes !== this.sizes) {
+      Object.keys(this.shown).forEach((name) => this.show(name, { words: "" }));
+      byId("warm-note").hidden = true;
     }
+    this.sizes = sizes;
     copyButtons().forEach((button) => {
       const { copies } = button.dataset;
       button.disabled = copies !== "address" && (!prediction || byId(copies).textContent === "");

@@ -170,6 +170,8 @@ export class PlanView {
     if (this.last) {
       this.drawComparison(settings, kept);
       this.drawRounds(this.last, kept);
+    } else {
+      this.drawBar();
     }
   }
 
