@@ -47,10 +47,10 @@ export class KeptPlans {
     return this.left.filter(({ digest }) => digest === this.digest).map(({ settings }) => settings);
   }
 
-  /** Makes room for one more beside those over the open trace. */
-  makeRoom(kept) {
+  /** Makes room for some more beside those over the open trace. */
+  makeRoom(kept, more = 1) {
     const { others } = this;
-    const dropped = others.slice(0, Math.max(0, others.length + kept.length + 1 - MOST_KEPT));
+    const dropped = others.slice(0, Math.max(0, others.length + kept.length + more - MOST_KEPT));
     this.left = this.left.filter((plan) => !dropped.includes(plan));
   }
 
@@ -61,8 +61,9 @@ export class KeptPlans {
     return kept.filter((_, at) => at + others.length !== place);
   }
 
-  /** All plans, with the length of windows that is shown. */
+  /** All plans, with the length of windows that is shown. An address may bring as many as there may be. */
   async all(trace, { kept, settings: { window } }) {
+    this.makeRoom(kept, 0);
     const { others, found } = this;
     const plans = [...others];
     for (const some of kept) {

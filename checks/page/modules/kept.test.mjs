@@ -62,6 +62,15 @@ test("places count what is shown", async () => {
   assert.deepEqual(plans.others.map(({ settings: { link } }) => link), [3]);
 });
 
+test("an address that has as many plans as there may be leaves no room for those over another trace", async () => {
+  const { plans, shows } = kept();
+  await shows(A, [1, 2, 3]);
+  assert.deepEqual(await shows(B, [4]), ["2 of a.pcwt", "3 of a.pcwt", "4"]);
+  assert.deepEqual(await shows(B, [4, 5, 6]), ["4", "5", "6"]);
+  assert.deepEqual(plans.others, []);
+  assert.deepEqual(await shows(A, [1, 2, 3]), ["1", "2", "3"]);
+});
+
 test("a plan that comes after another trace was opened is not of that", async () => {
   const late = [];
   const plans = new KeptPlans((trace) => new Promise((come) => { late.push(() => come({ value: trace.digest })); }));
