@@ -43,6 +43,33 @@ def check_looking(page):
     page.click("zoom-out")
 
 
+# Begins to draw over the working set. The browser takes the mouse over then, and the user comes back without a button.
+TAKEN_OVER = """(() => {
+  const plot = document.getElementById("windows-plot");
+  const { left, top, width } = plot.getBoundingClientRect();
+  const send = (to, kind, share) => to.dispatchEvent(new PointerEvent(kind, { pointerType: "mouse", bubbles: true,
+    clientX: left + share * width, clientY: top + 60 }));
+  send(plot, "pointerdown", 0.3);
+  send(window, "pointermove", 0.4);
+  send(window, "pointercancel", 0.4);
+  send(window, "pointermove", 0.6);
+  const isDrawn = plot.querySelector(".brush") !== null;
+  send(window, "pointerup", 0.6);
+  return isDrawn;
+})()"""
+
+
+def check_taken_over(page):
+    """A mouse that the browser takes over while it draws over a picture draws and takes nothing more."""
+    asked(page)
+    page.click("zoom-out")
+    page.rest()
+    is_drawn = page.browser.value(TAKEN_OVER)
+    page.rest()
+    is_whole = page.browser.value("document.getElementById('zoom-out').disabled")
+    expect(not is_drawn and is_whole, f"it goes on to draw: {is_drawn}; it takes nothing: {is_whole}")
+
+
 # Taps a picture at a share of its width, and tells what is offered then.
 TAPPED = """((name, share) => {
   const plot = document.getElementById(`${name}-plot`);
