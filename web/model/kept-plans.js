@@ -1,6 +1,7 @@
 // The plans that are kept to compare: those over the open trace, whose settings are in the address, and before them
 // those over traces that were open before, each with the name of its trace.
 
+import { WorkerEnded } from "../engine/planner-client.js";
 import { MOST_KEPT } from "./state.js";
 
 /** What is told later of a prediction; nothing if it is still to come. */
@@ -68,10 +69,12 @@ export class KeptPlans {
     const plans = [...others];
     for (const some of kept) {
       const key = JSON.stringify(some);
-      if (!found.has(key)) {
-        found.set(key, await this.find(trace, { ...some, window: trace.sizes.last + 1 }));
+      const plan = found.get(key) ?? await this.find(trace, { ...some, window: trace.sizes.last + 1 });
+      // A planner that has ended refuses no plan for good.
+      if (!(plan.refusal instanceof WorkerEnded)) {
+        found.set(key, plan);
       }
-      plans.push({ settings: { ...some, window }, found: found.get(key) });
+      plans.push({ settings: { ...some, window }, found: plan });
     }
     return plans;
   }
