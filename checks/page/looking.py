@@ -43,6 +43,27 @@ def check_looking(page):
     page.click("zoom-out")
 
 
+# What a screen reader is told of the working set, and what is told below it; of no item an item's name is not told.
+SPELLED = """[document.getElementById("windows-plot").getAttribute("aria-valuetext"), textOf("windows-readout")]
+  .map((words) => words.startsWith("Window ") ? words : "none")"""
+
+
+def check_spelled(page):
+    """A screen reader is told the item that is looked at, and none once that is not drawn any more."""
+    page.ask("trace=sqlite&link=64MiB&first=50&downtime=300ms&start=1000&window=500")
+    page.click("zoom-out")
+    page.rest()
+    end = "new KeyboardEvent('keydown', { key: 'End', bubbles: true })"
+    page.browser.value(f"document.getElementById('windows-plot').dispatchEvent({end})")
+    said, told = page.browser.value(SPELLED)
+    expect(said == told and said.startswith("Window 74, "), f"at the last window {said!r} is said, and {told!r} told")
+    page.click("zoom-plan")
+    page.rest()
+    found = page.browser.value(SPELLED)
+    expect(found == ["none", "none"], f"of a window that is not drawn is said and told {found}")
+    page.click("zoom-out")
+
+
 # Begins to draw over the working set. The browser takes the mouse over then, and the user comes back without a button.
 TAKEN_OVER = """(() => {
   const plot = document.getElementById("windows-plot");

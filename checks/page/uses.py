@@ -399,6 +399,7 @@ USES = {
     "looking": looking.check_looking,
     "looking together": looking.check_together,
     "what a finger is offered": looking.check_offers,
+    "what a screen reader is told": looking.check_spelled,
     "a mouse that is taken over": looking.check_taken_over,
     "the link past the settings": focus.check_link_past,
     "the map": map.check_map,

@@ -21,9 +21,9 @@ export class Inspector {
     this.tellMoment = () => {};
     this.finger = matchMedia("(pointer: coarse)");
     this.tip = html("div", { class: "tip", "aria-hidden": "true" });
-    const values = { "aria-valuemin": "0", "aria-valuenow": "0", "aria-valuetext": "none" };
-    const attributes = { tabindex: "0", role: "slider", "aria-label": name, ...values };
+    const attributes = { tabindex: "0", role: "slider", "aria-label": name, "aria-valuemin": "0" };
     Object.entries(attributes).forEach(([key, value]) => plot.setAttribute(key, value));
+    this.spell(null, "");
     plot.addEventListener("pointermove", (event) => this.point(event));
     plot.addEventListener("pointerleave", () => this.show(null));
     plot.addEventListener("click", (event) => this.click(event));
@@ -136,6 +136,12 @@ export class Inspector {
     }
   }
 
+  /** Says an item to a screen reader, or that none is looked at. */
+  spell(at, words) {
+    this.plot.setAttribute("aria-valuenow", String(at ?? 0));
+    this.plot.setAttribute("aria-valuetext", words || "none");
+  }
+
   /** Marks an item, and announces it. */
   show(at, event = null) {
     this.at = at;
@@ -143,6 +149,7 @@ export class Inspector {
     const words = at === null ? "" : this.look.words(at);
     this.readout.textContent = words || this.hint();
     this.readout.classList.toggle("idle", words === "" && !this.isEmpty());
+    this.spell(at, words);
     this.tip.remove();
     const [left, right] = at === null ? [0, 0] : this.look.span(at);
     this.tellMoment(at === null ? null : event ? this.placeOf(event) : (left + right) / 2);
@@ -150,8 +157,6 @@ export class Inspector {
       const picture = this.plot.querySelector("svg");
       picture.prepend(...this.look.panels.map(({ top, height }) =>
         area("looked", left, top, Math.max(2, right - left), height)), ...(this.look.beside?.() ?? []));
-      this.plot.setAttribute("aria-valuenow", String(at));
-      this.plot.setAttribute("aria-valuetext", words);
       if (event?.pointerType === "mouse") {
         this.showTip(words, event, Number(picture.getAttribute("width")));
       }
