@@ -132,7 +132,7 @@ class Page {
     this.taken = trace;
     const { example } = trace.source;
     this.isAddressed = isRecordOnly ? this.isAddressed : isGiven;
-    this.fitted = new Set();
+    this.fitted = isGiven ? this.fitted : new Set();
     this.state.settings = this.settingsBeside(this.settingsFor(trace), trace, isRecordOnly);
     this.keptPlans.open(trace, isRecordOnly ? null : this.shown);
     const kept = isGiven || isRecordOnly ? this.state.kept : this.keptPlans.settings();
@@ -273,6 +273,7 @@ class Page {
     this.isAddressed = true;
     this.addressed = this.state.print;
     this.fitted = new Set(this.past.follow().fitted ?? []);
+    this.fitted.forEach((name) => this.chosen.delete(name));
     this.keptPlans.forget();
     byId("moved").hidden = true;
     this.followed += 1;
