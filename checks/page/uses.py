@@ -121,6 +121,31 @@ def check_files(page):
     expect("chosen.pcwt: " in said and "sqlite.light.json is not used: " in said, said)
 
 
+# Drags over a field, and drops there, a file and words: whether the page takes them from the field, and marks its line.
+DRAGGED = """["a file", "words"].map((what) => {
+  const holder = new DataTransfer();
+  if (what === "a file") {
+    holder.items.add(new File(["no trace"], "a.txt"));
+  } else {
+    holder.setData("text/plain", "7");
+  }
+  const field = document.getElementById("control-link");
+  const [over, marked, dropped] = ["dragover", null, "drop"].map((kind) => kind === null
+    ? document.getElementById("trace").classList.contains("over")
+    : !field.dispatchEvent(new DragEvent(kind, { dataTransfer: holder, bubbles: true, cancelable: true })));
+  return [over, marked, dropped];
+})"""
+
+
+def check_dragged(page):
+    """Files are taken wherever they are dropped. Words that are dragged into a field are the field's."""
+    page.open_planned("#trace=gzip")
+    found = page.browser.value(DRAGGED)
+    expect(found == [[True] * 3, [False] * 3], f"of a file and of words the page takes {found}")
+    page.browser.wait("textOf('trace-notes').startsWith('a.txt is refused: ')", 5)
+    page.rest()
+
+
 # ---- Settings that make no plan.
 
 # What is typed into a control, its unit, and by how much what is taken then is further from what was typed than the
@@ -373,6 +398,7 @@ def check_uses(tally, page):
 
 USES = {
     "files": check_files,
+    "what is dragged": check_dragged,
     "what is no number": check_unread,
     "what is typed": check_typed,
     "units": check_units,

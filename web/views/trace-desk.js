@@ -84,18 +84,18 @@ class OpenTrace {
   }
 }
 
-/** Has files that are dropped anywhere taken. The trace's line shows that they may be. */
+/** Has files that are dropped anywhere taken. The trace's line shows that they may be. Words are for fields. */
 export function listenToDrops(take) {
-  const over = (isOver) => (event) => {
-    event.preventDefault();
-    byId("trace").classList.toggle("over", isOver);
-  };
-  addEventListener("dragover", over(true));
-  addEventListener("dragleave", over(false));
-  addEventListener("drop", (event) => {
-    over(false)(event);
-    take([...event.dataTransfer.files]);
+  const listen = (kind, isOver, act) => addEventListener(kind, (event) => {
+    if (event.dataTransfer.types.includes("Files")) {
+      event.preventDefault();
+      byId("trace").classList.toggle("over", isOver);
+      act(event.dataTransfer);
+    }
   });
+  listen("dragover", true, () => {});
+  listen("dragleave", false, () => {});
+  listen("drop", false, ({ files }) => take([...files]));
 }
 
 /** `taken` is called with each trace that was opened, and with one whose record came later. */
