@@ -6,10 +6,10 @@ import { Controls } from "./views/controls.js";
 import { derivedWords } from "./model/derived.js";
 import { announce, byId, keepFocus, oncePerFrame } from "./views/elements.js";
 import { fittedSettings, withLimitsOf, withRecord } from "./model/fitting.js";
+import { foundBy } from "./model/found.js";
 import { KeptPlans } from "./model/kept-plans.js";
 import { nearestSettings } from "./model/nearest.js";
 import { momentText, unbroken } from "./model/numbers.js";
-import { WorkerEnded } from "./engine/planner-client.js";
 import { LateAnswers } from "./engine/late-answers.js";
 import { LimitsView } from "./views/limits-view.js";
 import { LinksView } from "./views/links-view.js";
@@ -19,7 +19,7 @@ import { MapView } from "./views/map-view.js";
 import { listenToPrinting } from "./views/paper.js";
 import { Past } from "./views/past.js";
 import { watchWidths } from "./views/plot.js";
-import { hasWideMemory, Planner, Refusal } from "./engine/planner.js";
+import { hasWideMemory, Planner } from "./engine/planner.js";
 import { predictionOf } from "./model/predictions.js";
 import { StartsView } from "./views/starts-view.js";
 import { fragmentOf, MOST_KEPT, presetOf, stateIn, withoutPreset } from "./model/state.js";
@@ -35,18 +35,6 @@ const SETTLED = 400;
 
 /** The example that is shown if the address asks for nothing. */
 const FIRST_EXAMPLE = "sqlite";
-
-/** Runs something, and has its value, or the refusal that it throws. */
-async function foundBy(act) {
-  try {
-    return { value: await act() };
-  } catch (error) {
-    if (error instanceof Refusal || error instanceof ControlRefusal || error instanceof WorkerEnded) {
-      return { refusal: error };
-    }
-    throw error;
-  }
-}
 
 class Page {
   /** `ready` is kept once the module makes settings: no trace is taken before. */
@@ -277,9 +265,13 @@ class Page {
     this.keptPlans.forget();
     byId("moved").hidden = true;
     this.followed += 1;
-    if (this.opensAddressed()) {
-      return;
+    if (!this.opensAddressed()) {
+      this.showAddressed();
     }
+  }
+
+  /** Shows the settings of the address over the trace that is open. */
+  showAddressed() {
     if (this.desk.trace) {
       this.state.settings = this.addressedSettings(this.desk.trace);
     }
@@ -305,7 +297,10 @@ class Page {
     return false;
   }
 
-  /** Waits for the trace of an address. If it is refused, one that was opened before it may still have to be taken. */
+  /**
+   * Waits for the trace of an address. If it is refused, one that was opened before it may still have to be taken, and
+   * else the settings are shown over that which is open still.
+   */
   async openAddressed(opening) {
     this.openings += 1;
     try {
@@ -315,6 +310,8 @@ class Page {
     }
     if (this.openings === 0 && this.desk.trace !== this.taken) {
       this.take(this.desk.trace, { isGiven: true });
+    } else if (this.openings === 0 && this.otherTrace() !== "") {
+      this.showAddressed();
     }
   }
 

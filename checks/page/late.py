@@ -1,8 +1,12 @@
 """What the planner's page does with answers of its worker that come late: when something else is asked meanwhile, or
 another trace is open."""
 
+import tempfile
+
 from checks.lib.tally import expect
 from checks.page.acts import example_named, guest_with_record, typed
+from checks.page.cases import example
+from precopy_dev.files import read_bytes, write_file
 
 # How long a message to a worker is on its way here, in milliseconds.
 DELAY = 300
@@ -116,10 +120,34 @@ def check_left_file(page):
     page.becomes("document.getElementById('control-link').value", "2", "after an example that was still being read")
 
 
+OVER_ANOTHER = """[textOf("trace-state").split(":")[0], document.getElementById("control-link").value,
+  textOf("command-predict").includes("--link 48MiB "),
+  textOf("trace-other").startsWith("This address has the settings of another trace")]"""
+
+
+def check_gone_file(page):
+    """An address of a trace whose file is gone since shows its settings over the trace that is open, and says so."""
+    page.browser.forget_pages()
+    page.open_planned(OVER_SQLITE)
+    with tempfile.TemporaryDirectory() as folder:
+        page.load(write_file(read_bytes(example("gzip.pcwt")), folder, "gone.pcwt"))
+        page.with_unit("link", "MiB")
+        typed(page, "link", "48")
+        page.browser.wait("location.hash.includes('link=48MiB')", 5)
+    page.drop(example_named("other.pcwt", "guests/mid.light.pcwt"))
+    typed(page, "link", "96")
+    page.browser.wait("location.hash.includes('link=96MiB')", 5)
+    page.browser.value("history.go(-2)")
+    page.browser.wait("textOf('trace-notes').startsWith('gone.pcwt is refused: E17 ')", 20)
+    page.rest()
+    page.becomes(OVER_ANOTHER, ["other.pcwt", "48", True, True], "after an address whose file is gone")
+
+
 LATE = {
     "an address that was left": check_left_address,
     "undo pressed twice": check_two_presses,
     "the map of another trace": check_other_map,
     "a record of a trace that is being read": check_record_meanwhile,
     "a file that was left": check_left_file,
+    "a file that is gone": check_gone_file,
 }
