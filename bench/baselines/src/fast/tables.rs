@@ -1,7 +1,7 @@
 //! The windows and the hot pages of a report, over the columns of ticks and pages.
 //!
-//! Workers count parts of the touches, which may be cut anywhere. First each notes in which row of its part a page stands
-//! last. From the notes of the parts before, a worker knows how each page stands where its own part begins.
+//! Workers count parts of the touches, which may be cut anywhere. First each notes in which row of its part a page
+//! stands last. From the notes of the parts before, a worker knows how each page stands where its own part begins.
 
 use crate::memory::zeros;
 use crate::plan::Touches;
