@@ -6,10 +6,10 @@ import { Controls } from "./views/controls.js";
 import { derivedWords } from "./model/derived.js";
 import { announce, byId, keepFocus, oncePerFrame } from "./views/elements.js";
 import { fittedSettings, withLimitsOf, withRecord } from "./model/fitting.js";
+import { foundBy } from "./model/found.js";
 import { KeptPlans } from "./model/kept-plans.js";
 import { nearestSettings } from "./model/nearest.js";
 import { momentText, unbroken } from "./model/numbers.js";
-import { WorkerEnded } from "./engine/planner-client.js";
 import { LateAnswers } from "./engine/late-answers.js";
 import { LimitsView } from "./views/limits-view.js";
 import { LinksView } from "./views/links-view.js";
@@ -19,7 +19,7 @@ import { MapView } from "./views/map-view.js";
 import { listenToPrinting } from "./views/paper.js";
 import { Past } from "./views/past.js";
 import { watchWidths } from "./views/plot.js";
-import { hasWideMemory, Planner, Refusal } from "./engine/planner.js";
+import { hasWideMemory, Planner } from "./engine/planner.js";
 import { predictionOf } from "./model/predictions.js";
 import { StartsView } from "./views/starts-view.js";
 import { fragmentOf, MOST_KEPT, presetOf, stateIn, withoutPreset } from "./model/state.js";
@@ -35,18 +35,6 @@ const SETTLED = 400;
 
 /** The example that is shown if the address asks for nothing. */
 const FIRST_EXAMPLE = "sqlite";
-
-/** Runs something, and has its value, or the refusal that it throws. */
-async function foundBy(act) {
-  try {
-    return { value: await act() };
-  } catch (error) {
-    if (error instanceof Refusal || error instanceof ControlRefusal || error instanceof WorkerEnded) {
-      return { refusal: error };
-    }
-    throw error;
-  }
-}
 
 class Page {
   /** `ready` is kept once the module makes settings: no trace is taken before. */
@@ -101,12 +89,12 @@ class Page {
 
   async takeExample(example) {
     await this.ready;
-    await this.desk.takeExample(example, {});
+    await this.desk.takeExample(example, { followed: this.followed });
   }
 
   async takeFiles(files) {
     await this.ready;
-    await this.desk.takeFiles(files, { isGiven: this.isGiven && this.desk.trace === null });
+    await this.desk.takeFiles(files, { isGiven: this.isGiven && this.desk.trace === null, followed: this.followed });
   }
 
   async open() {
@@ -114,7 +102,7 @@ class Page {
     await this.ready;
     const example = this.state.example ?? (this.isGiven ? null : FIRST_EXAMPLE);
     if (example) {
-      await this.desk.takeExample(example, { isGiven: this.isGiven });
+      await this.desk.takeExample(example, { isGiven: this.isGiven, followed: this.followed });
     } else {
       const { print } = this.state;
       const whose = print ? `the trace whose SHA-256 begins with ${print}` : "a trace";
@@ -122,15 +110,17 @@ class Page {
     }
   }
 
-  /** Takes a trace that is open now, with settings for it; unless it is of an address that was left meanwhile. */
-  take(trace, { isGiven = false, isRecordOnly = false, followed = this.followed }) {
-    if (followed !== this.followed && this.opensAddressed()) {
+  /** Takes a trace that is open now, with settings for it; unless an address of another was gone to meanwhile. */
+  take(trace, { isGiven: isOfAddress = false, isRecordOnly = false, followed = this.followed }) {
+    const isLeft = followed !== this.followed;
+    if (isLeft && this.opensAddressed()) {
       return;
     }
+    const isGiven = isOfAddress || isLeft;
     this.taken = trace;
     const { example } = trace.source;
     this.isAddressed = isRecordOnly ? this.isAddressed : isGiven;
-    this.fitted = new Set();
+    this.fitted = isGiven ? this.fitted : new Set();
     this.state.settings = this.settingsBeside(this.settingsFor(trace), trace, isRecordOnly);
     this.keptPlans.open(trace, isRecordOnly ? null : this.shown);
     const kept = isGiven || isRecordOnly ? this.state.kept : this.keptPlans.settings();
@@ -271,12 +261,17 @@ class Page {
     this.isAddressed = true;
     this.addressed = this.state.print;
     this.fitted = new Set(this.past.follow().fitted ?? []);
+    this.fitted.forEach((name) => this.chosen.delete(name));
     this.keptPlans.forget();
     byId("moved").hidden = true;
     this.followed += 1;
-    if (this.opensAddressed()) {
-      return;
+    if (!this.opensAddressed()) {
+      this.showAddressed();
     }
+  }
+
+  /** Shows the settings of the address over the trace that is open. */
+  showAddressed() {
     if (this.desk.trace) {
       this.state.settings = this.addressedSettings(this.desk.trace);
     }
@@ -302,7 +297,10 @@ class Page {
     return false;
   }
 
-  /** Waits for the trace of an address. If it is refused, one that was opened before it may still have to be taken. */
+  /**
+   * Waits for the trace of an address. If it is refused, one that was opened before it may still have to be taken, and
+   * else the settings are shown over that which is open still.
+   */
   async openAddressed(opening) {
     this.openings += 1;
     try {
@@ -312,6 +310,8 @@ class Page {
     }
     if (this.openings === 0 && this.desk.trace !== this.taken) {
       this.take(this.desk.trace, { isGiven: true });
+    } else if (this.openings === 0 && this.otherTrace() !== "") {
+      this.showAddressed();
     }
   }
 

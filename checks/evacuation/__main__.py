@@ -10,13 +10,14 @@ by what happens one after the other. Records and settings that it must refuse ha
 others are planned. 100 guests have their answer within 5 seconds.
 """
 
-from checks.evacuation import calm_cases, cases, ending_cases, fluid_cases, moving_cases
+from checks.evacuation import calm_cases, cases, ending_cases, fluid_cases, moving_cases, silent_cases
 from checks.lib.harness import run_cases, run_main
 
 
 def check(tally, given):
     programs = cases.Programs(given.precopy_schedule, given.precopy_view)
-    found = (*cases.CASES, *moving_cases.CASES, *calm_cases.CASES, *ending_cases.CASES, *fluid_cases.CASES)
+    modules = (cases, moving_cases, silent_cases, calm_cases, ending_cases, fluid_cases)
+    found = [case for module in modules for case in module.CASES]
     run_cases(tally, found, programs, only=given.only)
 
 

@@ -380,6 +380,7 @@ def held_in_runs(_: Programs, folder: str) -> None:
         states = [move.state for move in outcome.moves]
         if is_stopped:
             expect(states == ["not begun"] * 2 and not log, f"{states}, {log}")
+            expect(outcome.time == 0 and ", in 0 s; " in outcome.title(), outcome.title())
             continue
         expect(states == ["moved"] * 2, f"{states}")
         expect_begun({event.guest: event.time for event in log if event.what == "begins"}, opens, 2)

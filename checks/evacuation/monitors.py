@@ -57,6 +57,7 @@ class Monitor(threading.Thread):
         self.fails, self.state, self.migration = how.get("fails"), how.get("state", "running"), how.get("migration")
         self.begun, self.ended, self.asked, self.parameters = 0.0, 0.0, [], []
         self.loses = how.get("loses")  # at the command to migrate: this, its answer, or all from then on
+        self.hangs = how.get("hangs", 0.0)  # so many seconds before it takes the command to migrate
         self.refuses = 0  # so many times it closes in place of taking parameters of a migration under way
         self.server = socket.socket(socket.AF_UNIX)
         self.server.bind(self.path)
@@ -76,6 +77,8 @@ class Monitor(threading.Thread):
                     if self.loses and asked["execute"] == "migrate":
                         self.lose()
                         break
+                    if asked["execute"] == "migrate":
+                        time.sleep(self.hangs)
                     self.say(stream, {"event": "RTC_CHANGE"})
                     self.say(stream, self.answer(asked["execute"], asked.get("arguments", {})))
 

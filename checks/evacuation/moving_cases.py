@@ -298,10 +298,11 @@ def lost_answers(programs: Programs, folder: str) -> None:
         os.makedirs(place)
         log, guests = four_monitors(place, idle=how)
         words = [*by_qmp(place), "--json", f"{folder}/told.json"]
-        _, fault = run_of(programs, *records, *words, status=0 if state == "moved" else 5)
+        text, fault = run_of(programs, *records, *words, status=0 if state == "moved" else 5)
         told = {each["guest"]: each["state"] for each in document_of(folder)["run"]["guests"]}
         expect(told["idle"] == state and said in fault, f"{how}: {told}, {fault}")
         expect(state != "lost" or "it runs here" not in fault and ": look at both hosts" in fault, fault)
+        expect(state != "lost" or "idle has not moved" not in text + fault, f"{text}, {fault}")
         begun = [event.guest for event in log if event.what == "begins"].count("idle")
         expect(begun == (how["loses"] != "command"), f"{how}: {log}")
 

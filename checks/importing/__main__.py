@@ -8,6 +8,7 @@ valgrind reports about a process is imported too, if valgrind can be had.
 
 import glob
 import os
+import stat
 import subprocess
 
 from checks.lib import harness
@@ -48,8 +49,8 @@ I  0400100c,2
 LACKEY_STORES = [(0, 0, 0xFE8, 8), (1, 1, 0xFFE, 2), (1, 2, 0, 2), (2, 0, 0xF00, 16)]
 
 
-def run(command, text=b""):
-    return harness.run(command, text, SECONDS)
+def run(command, text=b"", **how):
+    return harness.run(command, text, SECONDS, **how)
 
 
 def records_of(trace):
@@ -72,6 +73,31 @@ def round_trips(_, folder):
         trace = read_bytes(path)
         through = run(["sh", "-c", '"$0" - - | "$1" - -', EXPORT, IMPORT], trace)
         expect(through.output == trace, f"{path} is another trace after a pipe: {through.faults!r}")
+
+
+def what_is_no_file(_, folder):
+    """What is there and is no file gets what is written to it, and stays what it is; a link leads where it did."""
+    trace, wanted = os.path.join(TOP, "examples", "a.pcwt"), A_TEXT.encode()
+    pipe, link, output, null = (os.path.join(folder, name) for name in ("pipe", "link", "output", "null"))
+    os.mkfifo(pipe)
+    with open(os.open(pipe, os.O_RDONLY | os.O_NONBLOCK), "rb", buffering=0) as reader:
+        done = run([EXPORT, trace, pipe])
+        expect(done.status == 0 and stat.S_ISFIFO(os.stat(pipe).st_mode), f"{done}, {os.stat(pipe)}")
+        expect(reader.read(1 << 16) == wanted, "another text comes through a pipe")
+    target = write_file("before", folder, "target")
+    os.symlink(target, link)
+    done = run([EXPORT, trace, link])
+    expect(done.status == 0 and os.path.islink(link) and read_bytes(target) == wanted, f"{done}")
+    os.symlink("/proc/self/fd/1", output)
+    expect(run([EXPORT, trace, output]).output == wanted and os.path.islink(output), "another output")
+    with open(target, "wb") as file:
+        done = run([EXPORT, trace, output], stdout=file)
+    expect(done.status == 0 and os.path.islink(output) and read_bytes(target) == wanted, f"{done}")
+    if os.geteuid() == 0:
+        os.mknod(null, 0o666 | stat.S_IFCHR, os.makedev(1, 3))
+        done = run([EXPORT, trace, null])
+        expect(done.status == 0 and stat.S_ISCHR(os.stat(null).st_mode), f"{done}, {os.stat(null)}")
+    expect(not [name for name in os.listdir(folder) if name.endswith(".part")], f"{os.listdir(folder)}")
 
 
 def known_text(_, folder):
@@ -134,6 +160,8 @@ def derived_shape(_, folder):
         expect(done.status == 0, done)
         expect(done.output[:12] == header(pages, 0, shift)[:12], f"{text!r} gives {done.output[:16]!r}")
         expect([write[:2] for write in records_of(done.output)] == wanted, f"{text!r} gives {done.output!r}")
+    done = run([IMPORT, "--first", "9" * 20, "-", "-"], b"0 2 0 ff\n")
+    expect(done.status == 0 and len(records_of(done.output)) == 1, f"more writes than there are: {done}")
 
 
 BAD_LINES = [

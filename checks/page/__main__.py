@@ -243,11 +243,12 @@ def check_damages(tally, page, folder):
 
 def check_no_memory(page):
     """No memory to lend, and a file that cannot be read, are refused in a sentence."""
-    codes = {
-        "E16": "WebAssembly.Memory.prototype.grow = () => { throw new RangeError('no'); };",
-        "E17": "Blob.prototype.stream = () => { throw new Error('gone'); };",
-    }
-    for name, code in codes.items():
+    codes = [
+        ("E16", "WebAssembly.Memory.prototype.grow = () => { throw new RangeError('no'); };"),
+        ("E16", "WebAssembly.instantiate = async () => { throw new RangeError('no'); };"),
+        ("E17", "Blob.prototype.stream = () => { throw new Error('gone'); };"),
+    ]
+    for name, code in codes:
         page.open_planned()
         # The next worker begins with this.
         page.browser.value(
@@ -261,7 +262,7 @@ def check_no_memory(page):
         worker.end_worker(page)
         said = page.load(cases.example("guests/mid.light.pcwt"))
         if f"is refused: {name} " not in said:
-            raise Failure(f"{said!r} in place of {name}")
+            raise Failure(f"{said!r} in place of {name}, by {code}")
 
 
 # ---- All of it.

@@ -87,6 +87,19 @@ def check_focus(page):
     expect(page.browser.value("document.activeElement.id") == "file", "a notice that is closed takes the focus along")
 
 
+def check_link_past(page):
+    """The link past the settings leads to the prediction, and leaves the settings and the address as they are."""
+    before = asked(page, link="64MiB", first="50")
+    address = page.browser.value("location.hash")
+    page.click("past-settings")
+    page.becomes("document.activeElement.id", "outcome", "after the link past the settings")
+    page.browser.value("new Promise((resume) => setTimeout(resume, 600))")
+    page.rest()
+    found = page.browser.value("location.hash")
+    expect(found == address, f"the link past the settings leads to {found}, away from {address}")
+    expect(page.shown() == before, "the link past the settings changes the plan")
+
+
 def check_commands(page):
     """A key with Ctrl is the browser's: it zooms the page, and no picture with it."""
     asked(page)

@@ -46,6 +46,21 @@ DIFFERENCES = """[...document.querySelectorAll("#comparison .difference")].map((
 TOPS = """["this", "kept-1"].map((name) => document.querySelector(`#rounds-plot-${name} text.end`).textContent)"""
 
 
+# Draws over the picture of a kept plan, and tells whether its moments are marked in the working set.
+SHARED = """(() => {
+  const plot = document.getElementById("rounds-plot-kept-1");
+  const { left, top, width } = plot.getBoundingClientRect();
+  const send = (to, kind, share) => to.dispatchEvent(new PointerEvent(kind, { pointerType: "mouse", bubbles: true,
+    clientX: left + 68 + (width - 80) * share, clientY: top + 60 }));
+  send(plot, "pointermove", 0.1);
+  const isMarked = document.querySelector("#windows-plot .moment") !== null;
+  send(plot, "pointerdown", 0.1);
+  send(window, "pointermove", 0.4);
+  send(window, "pointerup", 0.4);
+  return isMarked;
+})()"""
+
+
 def check_second_trace(page):
     """A kept plan stays when another trace is opened, with the name of its own, beside a plan with the same limits. Its
     sample of 4,154 pages stands for 129,819: its pages and its moments are no numbers of another trace's."""
@@ -68,6 +83,10 @@ def check_second_trace(page):
     differing = page.browser.value(DIFFERENCES)
     expect(differing == ["downtime", "time", "sent", "rounds"], f"compared over two traces: {differing}")
     typed(page, "link", "64")
+    shared = page.browser.value(SHARED)
+    page.rest()
+    is_whole = page.browser.value("document.getElementById('zoom-out').disabled")
+    expect(not shared and is_whole, f"time of another trace is marked: {shared}; it takes nothing nearer: {is_whole}")
     tops = page.browser.value(TOPS)
     expect(tops == ["129,819", "4,154"], f"as much memory is not as high: {tops} pages are at the top")
     page.clicked("keep")
@@ -181,3 +200,20 @@ def check_hosts(page):
         for name in ("qemu", "libvirt"):
             said = found["notes"][name]
             expect(notes.get(name, "") in said and bool(said) == (name in notes), f"{fragment}: {name}: {said!r}")
+
+
+def check_copied(page):
+    """A button that copies says for a while that it did, and then again what it does, also if it is pressed twice."""
+    page.ask("trace=gzip&first=100&start=400")
+    page.rest()
+    said = page.browser.value(
+        """(async () => {
+      const button = document.querySelector("[data-copies=command-predict]");
+      const after = (millis) => new Promise((resume) => setTimeout(() => resume(button.textContent), millis));
+      button.click();
+      const told = await after(300);
+      button.click();
+      return [told, await after(2_000)];
+    })()"""
+    )
+    expect(said[0] in ("Copied", "Selected") and said[1] == "Copy", f"a button that was pressed twice says {said}")

@@ -1,7 +1,7 @@
 """Looking at the pictures of the planner's page with a mouse or a finger, at one and at all together."""
 
 from checks.lib.tally import expect
-from checks.page.acts import asked
+from checks.page.acts import asked, plan_starts
 
 
 def check_looking(page):
@@ -40,6 +40,89 @@ def check_looking(page):
     )
     said = page.browser.value("textOf('plan-this')")
     expect("Round 0, 0.000 s to " in said, f"a finger on a round reads nothing: {said}")
+    page.click("zoom-out")
+
+
+# What a screen reader is told of the working set, and what is told below it; of no item an item's name is not told.
+SPELLED = """[document.getElementById("windows-plot").getAttribute("aria-valuetext"), textOf("windows-readout")]
+  .map((words) => words.startsWith("Window ") ? words : "none")"""
+
+
+def check_spelled(page):
+    """A screen reader is told the item that is looked at, and none once that is not drawn any more."""
+    page.ask("trace=sqlite&link=64MiB&first=50&downtime=300ms&start=1000&window=500")
+    page.click("zoom-out")
+    page.rest()
+    end = "new KeyboardEvent('keydown', { key: 'End', bubbles: true })"
+    page.browser.value(f"document.getElementById('windows-plot').dispatchEvent({end})")
+    said, told = page.browser.value(SPELLED)
+    expect(said == told and said.startswith("Window 74, "), f"at the last window {said!r} is said, and {told!r} told")
+    page.click("zoom-plan")
+    page.rest()
+    found = page.browser.value(SPELLED)
+    expect(found == ["none", "none"], f"of a window that is not drawn is said and told {found}")
+    page.click("zoom-out")
+
+
+# Begins to draw over the working set. The browser takes the mouse over then, and the user comes back without a button.
+TAKEN_OVER = """(() => {
+  const plot = document.getElementById("windows-plot");
+  const { left, top, width } = plot.getBoundingClientRect();
+  const send = (to, kind, share) => to.dispatchEvent(new PointerEvent(kind, { pointerType: "mouse", bubbles: true,
+    clientX: left + share * width, clientY: top + 60 }));
+  send(plot, "pointerdown", 0.3);
+  send(window, "pointermove", 0.4);
+  send(window, "pointercancel", 0.4);
+  send(window, "pointermove", 0.6);
+  const isDrawn = plot.querySelector(".brush") !== null;
+  send(window, "pointerup", 0.6);
+  return isDrawn;
+})()"""
+
+
+def check_taken_over(page):
+    """A mouse that the browser takes over while it draws over a picture draws and takes nothing more."""
+    asked(page)
+    page.click("zoom-out")
+    page.rest()
+    is_drawn = page.browser.value(TAKEN_OVER)
+    page.rest()
+    is_whole = page.browser.value("document.getElementById('zoom-out').disabled")
+    expect(not is_drawn and is_whole, f"it goes on to draw: {is_drawn}; it takes nothing: {is_whole}")
+
+
+# Taps a picture at a share of its width, and tells what is offered then.
+TAPPED = """((name, share) => {
+  const plot = document.getElementById(`${name}-plot`);
+  const { left, top, width } = plot.getBoundingClientRect();
+  plot.dispatchEvent(new PointerEvent("click", { pointerType: "touch", bubbles: true, clientX: left + share * width,
+    clientY: top + 60 }));
+  return textOf(`${name}-take`);
+})"""
+ZOOM = "document.getElementById('zoom-plan').click()"
+SLOWER = """(() => {
+  const field = document.getElementById("control-link");
+  field.value = "32";
+  field.dispatchEvent(new Event("input"));
+})()"""
+
+
+def check_offers(page):
+    """What a button offers to a finger is of the picture that is seen: another picture has other items."""
+    for name, act in (("windows", ZOOM), ("starts", ZOOM), ("links", SLOWER)):
+        page.ask("trace=sqlite&link=64MiB&first=50&downtime=300ms&start=1000&window=500")
+        page.click("zoom-out")
+        plan_starts(page)
+        page.rest()
+        offered = page.browser.value(f"{TAPPED}('{name}', 0.8)")
+        page.browser.value(act)
+        page.rest()
+        is_hidden = page.browser.value(f"document.getElementById('{name}-take').hidden")
+        if not is_hidden:
+            page.click(f"{name}-take")
+            page.rest()
+        taken = page.browser.value("['start', 'link'].map((name) => document.getElementById(`control-${name}`).value)")
+        expect(is_hidden, f"{name}: {offered!r} is still offered, and takes the start and the link {taken}")
     page.click("zoom-out")
 
 

@@ -131,10 +131,17 @@ def rounds_in(files):
     return [tuple(int(line.split(",")[place]) for place in places) for line in lines]
 
 
+# How many layers that were painted for a file lie over the map, and differ from what is below them.
+OLD_LAYERS = """[...document.querySelectorAll("#map-plot image")].filter((image, place) => image.hasAttribute("href")
+  && image.getAttribute("href") !== document.querySelectorAll("#map-plot canvas")[place].toDataURL()).length"""
+
+
 def seen_plan(page, guest, asked):
     page.ask(fragment_of(asked))
     page.browser.value("unfold()")
     page.rest()
+    count = page.browser.value(OLD_LAYERS)
+    expect(count == 0, f"{fragment_of(asked)}: {count} layers of the map that was saved before lie over this one")
     files, shown = saved_files(page, None), page.shown()
     rounds, base = rounds_in(files), asked.get("base")
     greatest = int(re.search(r"--max (\d+)", shown["commands"]["live"])[1])

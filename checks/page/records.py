@@ -5,7 +5,7 @@ import json
 
 from checks.lib.tally import expect
 from checks.page import shapes
-from checks.page.acts import example_named, guest_with_record
+from checks.page.acts import example_named, guest_with_record, typed
 from checks.page.first import MOST_WORDS, WORDS
 from checks.page.limits import ALSO
 from checks.page.shown import tried
@@ -55,6 +55,18 @@ def check_records(page):
         said = page.drop(("b.json", json.dumps({**json.loads(record), name: value}).encode()))
         expect("b.json is not used: " in said and name in said, said)
         expect(page.browser.value(VALUES) == wanted, f"{name} has changed {page.browser.value(VALUES)}")
+
+
+def check_unreadable(page):
+    """A record that cannot be read is refused in a sentence, and leaves the trace beside it to be opened."""
+    trace, record = guest_with_record("a")
+    for files in ([trace, record], [record]):
+        page.open_planned("#trace=gzip")
+        page.browser.value("File.prototype.text = async () => { throw new Error('gone'); }; 0")
+        said = page.drop(*files)
+        expect("a.json is not used: It could not be read." in said, f"{len(files)} files: {said}")
+        name = "a.pcwt" if len(files) == 2 else "gzip.light.pcwt"
+        expect(f"| {name}: " in said, f"of {len(files)} files: {said}")
 
 
 def suggestion(page, name):
@@ -126,6 +138,29 @@ def check_fitted(page):
     expect(not suggestion(page, "link"), f"a link of the address: {suggestion(page, 'link')!r}")
 
 
+def check_fitted_again(page):
+    """Limits that were fitted to a trace are told as such where Undo leads back to them, too. Then nobody has chosen
+    them: they are fitted to the next trace."""
+    page.browser.forget_pages()
+    page.open_planned("#trace=gzip")
+    page.drop(example_named("own.pcwt", "gzip.pcwt"))
+    page.browser.wait("location.hash.includes('of=')", 5)
+    before = limits(page)
+    typed(page, "link", "64")
+    page.browser.wait("location.hash.includes('link=64')", 5)
+    page.clicked("undo")
+    expect(limits(page) == before and suggestion(page, "link").startswith("Fitted"), f"after Undo: {limits(page)}")
+    page.drop(example_named("other.pcwt", "guests/mid.light.pcwt"))
+    page.rest()
+    said = [suggestion(page, name) for name in ("link", "downtime")]
+    expect(said[0].startswith("Fitted to this trace.") and limits(page) != before, f"over another trace: {said}")
+    page.clicked("undo")
+    page.becomes("textOf('trace-state').split(':')[0]", "own.pcwt", "after Undo of another trace")
+    page.rest()
+    said = [suggestion(page, name) for name in ("link", "downtime")]
+    expect(said[0].startswith("Fitted to this trace.") and said[1] == "Fitted, too.", f"over the trace before: {said}")
+
+
 def check_doubts(page):
     """Counts of a record that go badly together are told, and make no guest that is larger than it is; a record that is
     too long is refused as such."""
@@ -193,7 +228,9 @@ RECORDS = {
     "a record and an address": check_addressed,
     "a record and an address of its trace": check_own_address,
     "limits that were fitted": check_fitted,
+    "limits that were fitted, and Undo": check_fitted_again,
     "doubts of a record": check_doubts,
+    "a record that cannot be read": check_unreadable,
     "a guest that stood still": check_still,
 }
 

@@ -151,11 +151,15 @@ class Page:
         self.browser.wait(f"opened > {before} && isDrawn()", 120)
         return self.browser.value("textOf('trace-notes') + ' | ' + textOf('trace-state')")
 
+    def let_fall(self, *files):
+        """Drops files, given by name and bytes, and waits for nothing."""
+        texts = json.dumps([[name, base64.b64encode(text).decode()] for name, text in files])
+        self.browser.value(f"drop({texts})")
+
     def drop(self, *files):
         """Drops files, given by name and bytes, and returns what is said of them."""
         before = self.browser.value("opened")
-        texts = json.dumps([[name, base64.b64encode(text).decode()] for name, text in files])
-        self.browser.value(f"drop({texts})")
+        self.let_fall(*files)
         self.browser.wait(f"opened > {before} && isDrawn()", 20)
         return self.browser.value("textOf('trace-notes') + ' | ' + textOf('trace-state')")
 

@@ -10,7 +10,23 @@ from fractions import Fraction
 
 from checks.lib.harness import drawn
 from checks.lib.tally import expect
-from checks.page import forecasts, kept, late, limits, links, looking, map, records, saves, shapes, sure, told, worker
+from checks.page import (
+    another,
+    focus,
+    forecasts,
+    kept,
+    late,
+    limits,
+    links,
+    looking,
+    map,
+    records,
+    saves,
+    shapes,
+    sure,
+    told,
+    worker,
+)
 from checks.page.acts import asked, guest_with_record, spelled, typed
 from checks.page.cases import example
 from checks.page.manners import MANNERS
@@ -103,6 +119,31 @@ def check_files(page):
         path = write_file(good, folder, "chosen.pcwt")
         said = page.load(path, example("guests/sqlite.light.json"))
     expect("chosen.pcwt: " in said and "sqlite.light.json is not used: " in said, said)
+
+
+# Drags over a field, and drops there, a file and words: whether the page takes them from the field, and marks its line.
+DRAGGED = """["a file", "words"].map((what) => {
+  const holder = new DataTransfer();
+  if (what === "a file") {
+    holder.items.add(new File(["no trace"], "a.txt"));
+  } else {
+    holder.setData("text/plain", "7");
+  }
+  const field = document.getElementById("control-link");
+  const [over, marked, dropped] = ["dragover", null, "drop"].map((kind) => kind === null
+    ? document.getElementById("trace").classList.contains("over")
+    : !field.dispatchEvent(new DragEvent(kind, { dataTransfer: holder, bubbles: true, cancelable: true })));
+  return [over, marked, dropped];
+})"""
+
+
+def check_dragged(page):
+    """Files are taken wherever they are dropped. Words that are dragged into a field are the field's."""
+    page.open_planned("#trace=gzip")
+    found = page.browser.value(DRAGGED)
+    expect(found == [[True] * 3, [False] * 3], f"of a file and of words the page takes {found}")
+    page.browser.wait("textOf('trace-notes').startsWith('a.txt is refused: ')", 5)
+    page.rest()
 
 
 # ---- Settings that make no plan.
@@ -357,6 +398,7 @@ def check_uses(tally, page):
 
 USES = {
     "files": check_files,
+    "what is dragged": check_dragged,
     "what is no number": check_unread,
     "what is typed": check_typed,
     "units": check_units,
@@ -374,12 +416,18 @@ USES = {
     "shared axes": kept.check_axes,
     "a second trace": kept.check_second_trace,
     "a trace that is undone": kept.check_undone_trace,
+    "a trace after another": another.check_another,
     "hypervisors": kept.check_hosts,
+    "commands that are copied": kept.check_copied,
     "saved files": saves.check_files_saved,
     "a refusal out of sight": check_refused_below,
     "names": check_names,
     "looking": looking.check_looking,
     "looking together": looking.check_together,
+    "what a finger is offered": looking.check_offers,
+    "what a screen reader is told": looking.check_spelled,
+    "a mouse that is taken over": looking.check_taken_over,
+    "the link past the settings": focus.check_link_past,
     "the map": map.check_map,
     "the rounds on the map": map.check_map_rounds,
     "pages of the map": map.check_map_pages,

@@ -12,6 +12,17 @@ def end_worker(page):
     page.browser.value("workers.at(-1).terminate(); workers.at(-1).onerror(); 0")
 
 
+# Takes a stretch of time nearer, which no planner counts any more, and looks at the map that is left.
+LOOKED = """(async () => {
+  const press = (id, key) => document.getElementById(id).dispatchEvent(
+    new KeyboardEvent("keydown", { key, bubbles: true }));
+  press("windows-plot", "+");
+  await atRest();
+  press("map-plot", "Home");
+  return textOf("map-readout");
+})()"""
+
+
 def check_worker(page):
     """A worker that ends is started again, whether the page hears of it or not; starts can be cancelled."""
     page.open_planned("#trace=sqlite&link=1Gbit&rounds=30")
@@ -24,7 +35,10 @@ def check_worker(page):
     end_worker(page)
     found = typed(page, "rounds", "7")
     expect("the planner ended" in found["verdict"] and found["stale"], f"after three ends: {found['verdict']}")
-    page.browser.value("window.isDeadly = false; 0")
+    said = page.browser.value(LOOKED)
+    faults = page.browser.value("faults")
+    expect(said.startswith("Window") and not faults, f"after three ends the map says {said!r}: {faults}")
+    page.browser.value("window.isDeadly = false; document.getElementById('zoom-out').click()")
     found = page.clicked("try-again")
     expect(found["refused"] is None and not found["stale"], f"tried again: {found['verdict']}")
     expect(typed(page, "rounds", "30") == before, "no plan after three ends")

@@ -19,9 +19,14 @@ from checks.recording.memory_cases import Known
 from checks.recording.recorder_runs import RECORD, SECONDS, TOP, Writing, expect, read_until_recording
 from checks.recording.sample_runs import Drawn, Pages
 from precopy_dev.files import read_json, read_text, write_file
+from precopy_tools.evacuate import settings
 from precopy_tools.formats import samples
 from precopy_tools.qemu import qmp
-from precopy_tools.record import series
+from precopy_tools.record import command as record_command
+from precopy_tools.record import sampled, series, sources
+from precopy_tools.record.pagemap import Unavailable
+from precopy_tools.refusals import Refused
+from precopy_tools.watch import limits
 
 LAYOUT = {"nodes": [["a", "private", 600], ["b", "memfd", 500]], "code": 5000}
 # A record of drawn pages, with its NAME.json.
@@ -287,6 +292,86 @@ def told_as_json(_, folder):
             expect(told["format"] == name and wanted.items() <= told.items(), f"{tool}: {told}")
     told, _ = forecast_cases.run_predict(thin, "--link", "64MiB", "--json", status=None)
     expect(json.loads(told)["record"]["trace_pages"] > 0, told)
+
+
+def statuses_of_several(_, folder):
+    """Of several records the status is 3 if one does not keep its limit, also if nothing is known of another one."""
+    paths = [os.path.join(folder, f"{name}.light.pcwt") for name in ("runs", "still")]
+    for path, more in zip(paths, ({}, {"ran_share": 0.5})):
+        shutil.copy(RECORDED, path)
+        write_file(json.dumps({**sample_in(RECORDED), **more}), samples.path_beside(path))
+    words = ["--link", "32MiB", "--downtime", "10ms", "--clark"]
+    for given, status in ((paths[:1] * 2, 3), (paths[1:] * 2, 4), (paths, 3), (paths[::-1], 3)):
+        forecast_cases.run_predict(*given, *words, status=status)
+
+
+def files_without_end(_, __):
+    """A file of settings, and what stands beside a record, is read no further than the most that it may have."""
+    told = "/dev/zero has more than 16 MiB\n"
+    _, fault = forecast_cases.run_predict(RECORDED, "--link", "64MiB", "--record", "/dev/zero", status=1)
+    expect(fault == f"predict: {told}", fault)
+    for read in (limits.File, settings.read):
+        try:
+            read("/dev/zero")
+        except Refused as refused:
+            expect(f"{refused}\n" == told, f"{refused}")
+        else:
+            raise AssertionError(f"{read}: it ends")
+
+
+def odd_names_and_streams(_, folder):
+    """A name that an encoding does not have is printed all the same, and a tool whose standard output is closed says
+    so."""
+    odd = os.path.join(os.fsencode(folder), b"a\xff\xc3\xa9.light.pcwt")
+    closed = ["sh", "-c", 'exec "$@" >&-', "sh"]
+    with Pages("private") as pages:
+        for encoding, how, more, said, fault in (
+            ("utf-8", [], [], odd, b""),
+            ("ascii", [], [], b"a\xff\\xe9.light.pcwt", b""),
+            ("utf-8", [], ["--json"], b"a\\udcff\\u00e9.light.pcwt", b""),
+            ("utf-8", closed, [], b"", b"record: what it prints could not be written: Bad file descriptor\n"),
+        ):
+            environment = {**os.environ, "PYTHONIOENCODING": f"{encoding}:strict", "PYTHONUTF8": "1"}
+            command = [*how, RECORD, *pages.source, "--for", "300ms", *more, odd]
+            done = subprocess.run(command, env=environment, capture_output=True, timeout=12 * SECONDS)
+            expect(done.returncode == 0 and said in done.stdout and done.stderr == fault, f"{encoding}, {more}: {done}")
+            expect(os.path.exists(odd), f"{os.listdir(folder)}")
+            os.unlink(odd)
+
+
+class Untracked(sampled.SampledGuest):
+    """A guest whose writes cannot be followed."""
+
+    def tracker(self):
+        raise Unavailable("it is tried")
+
+
+def nothing_left_open(_, folder):
+    """A recorder that cannot begin leaves nothing open, however often it is tried."""
+    with Pages("private") as pages:
+        for words, kind, fault in (
+            (["--by", "writes"], Untracked, Unavailable),
+            (["--one-in", "1"], sampled.SampledGuest, ValueError),
+        ):
+            options = record_command.options_of([*pages.source, *words, os.path.join(folder, "a.light.pcwt")])
+            source = sources.source_of(options)
+            source = source._replace(ranges=[(0, 1 << 48)] if fault is ValueError else source.ranges)
+            for _ in range(3):
+                try:
+                    sampled.SampleRecorder(kind(options, source), None, options)
+                except fault:
+                    continue
+                raise AssertionError(f"{words}: it begins")
+        left = [path for path in map(path_of, os.listdir("/proc/self/fd")) if f"/{pages.process.pid}/" in path]
+    expect(not left, f"{left}")
+
+
+def path_of(descriptor):
+    """The file of a descriptor; of one that another case has closed meanwhile there is none."""
+    try:
+        return os.readlink(f"/proc/self/fd/{descriptor}")
+    except OSError:
+        return ""
 
 
 CASES = cases_of(__name__)

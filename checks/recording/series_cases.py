@@ -195,6 +195,19 @@ def kept_segments(_, folder):
     expect(set(os.listdir(folder)) == wanted, f"{sorted(os.listdir(folder))}")
 
 
+def clocks_that_were_ahead(_, folder):
+    """Of segments that are kept the newest is one, also beside others that were named by a clock that was ahead."""
+    ahead = [f"guest.2099010{day}T000000Z.light.pcwt" for day in (1, 2, 3)]
+    for name in ahead:
+        write_file(name, folder, name)
+    with Pages("private") as pages:
+        run = Segments(folder, pages.source, "--keep", "2", "--for", "1200ms")
+        run.end()
+    expect(run.status == 0 and run.told(), f"{run.status}, {run.faults!r}")
+    kept = {name for name in os.listdir(folder) if name.endswith(".pcwt")}
+    expect(kept == {*ahead[2:], *run.told()} if len(run.told()) == 1 else kept == {*run.told()[-2:]}, f"{kept}")
+
+
 def guest_of_a_series_ends(_, folder):
     with Pages("private") as pages:
         run = Segments(folder, pages.source)

@@ -1,12 +1,14 @@
 """Cases of checks/watch: words and limits that are refused, and limits that change."""
 
+import errno
 import os
 import signal
 import subprocess
 
 from checks.lib.harness import cases_of, expect
-from checks.watch.watch_runs import LIMITS, SECONDS, WATCH, Watching, known, of_guest
-from precopy_dev.files import write_file
+from checks.watch.watch_runs import LIMITS, SECONDS, WATCH, WRITTEN, Watching, known, metrics_in, of_guest
+from precopy_dev.files import read_text, write_file
+from precopy_tools.watch import limits, service
 
 # Limits, and what is said of them.
 REFUSED = (
@@ -83,6 +85,60 @@ def limits_that_change(program, folder):
         run.wait_for(lambda found: not any(("guest", "a") in key for key in found), "a is left alone")
         run.end_well()
     expect(run.faults.count("the limits stay as they were: ") == 1, run.faults)
+
+
+class Once(limits.File):
+    """Limits that cannot be read once. `said` is what is told of that."""
+
+    is_readable, said = True, ()
+
+    def _read(self):
+        if not self.is_readable:
+            self.is_readable = True
+            raise PermissionError(errno.EACCES, os.strerror(errno.EACCES), self.path)
+        return super()._read()
+
+    def _complain(self, told):
+        self.said = (*self.said, told)
+
+
+def limits_that_cannot_be_read_once(_, folder):
+    """Limits that have changed, and cannot be read then, count as soon as they can be."""
+    path = write_file(LIMITS, folder, "limits.toml")
+    file = Once(path)
+    write_file(LIMITS.replace("64MiB", "32768KiB"), path)
+    file.is_readable = False
+    expect([file.now().default.link for _ in range(3)] == [64 << 20, 32 << 20, 32 << 20], f"{file.host}")
+    write_file("[default", path)
+    expect([file.now().default.link for _ in range(3)] == [32 << 20] * 3, f"{file.host}")
+    expect(file.said[0] == f"{path}: Permission denied" and len(file.said) == 2, f"{file.said}")
+
+
+class Looked:
+    """A host without guests, that ends the service with its first look. `text` is what was told then."""
+
+    def __init__(self, textfile):
+        self.textfile, self.by, self.text = textfile, None, None
+
+    def look(self):
+        self.by, self.text = "a look", read_text(self.textfile)
+        return {}
+
+    def sleep(self, _):
+        """It is over."""
+
+
+def texts_of_killed_ones(program, folder):
+    """What a service told that was killed ends when the next one begins, and not only after its first look."""
+    textfile = write_file('precopy_guest_verdict{guest="a",verdict="kept"} 1\n', folder, "a.prom")
+    host, file = Looked(textfile), limits.File(write_file(LIMITS, folder, "limits.toml"))
+    asked = service.Asked(program, folder, textfile, [], 4096, 0.2, 600.0, 10.0, 0.5)
+    service.Service(host, file, asked, host).run()
+    found = metrics_in(host.text)
+    expect(WRITTEN in found and not any(("guest", "a") in key for key in found), host.text)
+    expect(("precopy_watch_host_up",) not in found and ("precopy_watch_guests",) not in found, host.text)
+    found = metrics_in(read_text(textfile))
+    expect(found[("precopy_watch_host_up",)] == 1 and found[("precopy_watch_guests",)] == 0, f"{found}")
 
 
 def nobody_reads_its_text(program, folder):

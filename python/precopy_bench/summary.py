@@ -161,11 +161,16 @@ def add_run(bars, tables, warm):
     def ratios(job, names, figure="least"):
         return {it: tables.quotient(it, job, *work.BOTH, figure) for it in names if tables.has(it, job)}
 
+    def beside_one(trace, program):
+        """A report by four workers of a program, beside that of fast by one."""
+        return tables.figure(trace, work.REPORT_4.name, program) / tables.figure(trace, "report", "fast")
+
     bars.add("`image`, processor / fast", MOST_IMAGE, ratios("image", TRACES, "processor"))
     bars.add("`image`, wall / fast", MOST_IMAGE_WALL, ratios("image", TRACES))
     bars.add("`report`, wall / fast", MOST_PLAN, ratios("report", MAIN))
     bars.add("`report`, wall / fast", MOST_RECORDED, ratios("report", RECORDED))
-    bars.add("`report`, four workers / fast", MOST_SHARED, ratios(work.REPORT_4.name, SHARED))
+    fours = [{it: beside_one(it, name) for it in SHARED if tables.has(it, work.REPORT_4.name)} for name in work.BOTH]
+    bars.add("`report`, four workers / fast with one", MOST_SHARED, *fours)
     for (cases, workers), job in work.SWEEPS.items():
         bars.add(f"`sweep`, {cases} cases, {workers} / fast", MOST_PLAN, ratios(job.name, SWEPT))
     mine, theirs = ({name: it[at] for name, it in warm.items()} for at in (0, 1))

@@ -1,6 +1,8 @@
 """What a tool prints, if nobody reads it any more: the tool goes on, drops the rest, and says so in the end."""
 
+import codecs
 import contextlib
+import errno
 import json
 import os
 import sys
@@ -9,11 +11,26 @@ from collections.abc import Callable, Iterator
 from precopy_tools import version
 
 
+def spelled(fault: UnicodeEncodeError) -> tuple[str | bytes, int]:
+    """What an encoding does not have: the bytes of a file's name as they are, and other letters by their numbers."""
+    first = UnicodeEncodeError(fault.encoding, fault.object, fault.start, fault.start + 1, fault.reason)
+    try:
+        return codecs.lookup_error("surrogateescape")(first)
+    except UnicodeError:
+        return codecs.lookup_error("backslashreplace")(first)
+
+
+codecs.register_error("precopy", spelled)
+
+
 class Stream:
-    """A standard stream that can fail, as one whose reader has gone. What is written after that goes nowhere."""
+    """A standard stream that can fail, as one whose reader has gone, or one that is closed. What is written after that
+    goes nowhere."""
 
     def __init__(self, stream):
-        self.stream, self.fault = stream, None
+        self.stream, self.fault = stream or open(os.devnull, "w", encoding="utf-8"), None
+        if stream is None:
+            self.fault = OSError(errno.EBADF, os.strerror(errno.EBADF))
 
     def _try(self, call: Callable, *words):
         if self.fault is None:
@@ -56,13 +73,14 @@ def silent(is_silent: bool) -> Iterator[Callable[..., None]]:
         with contextlib.redirect_stdout(stream):
             document(format, **fields)
 
-    with open(os.devnull, "w", encoding="utf-8") as nowhere, contextlib.redirect_stdout(nowhere):
+    with open(os.devnull, "w", encoding="utf-8", errors="precopy") as nowhere, contextlib.redirect_stdout(nowhere):
         yield told
 
 
 def run(name: str, main: Callable[[list[str]], int], loses: bool) -> int:
     """The status of a tool. If `loses`, then what it prints is all that it makes, and losing it is a failure."""
     sys.stdout, sys.stderr = Stream(sys.stdout), Stream(sys.stderr)
+    sys.stdout.reconfigure(errors="precopy")
     status = main(sys.argv[1:])
     sys.stdout.flush()
     if sys.stdout.fault is not None:

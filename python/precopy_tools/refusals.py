@@ -4,6 +4,9 @@ import argparse
 import json
 from collections.abc import Callable, Collection
 
+# Files of JSON and TOML that people write, and NAME.json, have a few KiB.
+MOST_BYTES = 16 << 20
+
 
 class Refused(Exception):
     """A file is refused; the text says which and why. Of a trace it is the name of the cause, as the program prints
@@ -46,7 +49,15 @@ def expect_word(where: str, value: object, parse: Callable):
         raise Refused(f"{where}: {fault}") from fault
 
 
+def read(path: str) -> bytes:
+    """A file of settings or of what was recorded, of which no more is read than a byte beyond the most."""
+    with open(path, "rb") as file:
+        text = file.read(MOST_BYTES + 1)
+    if len(text) > MOST_BYTES:
+        raise Refused(f"{path} has more than {MOST_BYTES >> 20} MiB")
+    return text
+
+
 def object_in(path: str, names: Collection[str], kind: str) -> dict:
     """The JSON object in a file, with fields of these names and no others."""
-    with open(path, "rb") as file:
-        return expect_object(path, json_of(path, file.read()), names, kind)
+    return expect_object(path, json_of(path, read(path)), names, kind)

@@ -53,6 +53,20 @@ function alignedUp(address) {
   return Math.ceil(address / 8) * 8;
 }
 
+/** What is thrown in place of an error of the engine: a Refusal if memory ran out. */
+function refusedFor(error) {
+  return error instanceof RangeError ? new Refusal(NO_MEMORY) : error;
+}
+
+/** An instance of a module. Its first memory may be more than there is. */
+async function instanceOf(module) {
+  try {
+    return await WebAssembly.instantiate(module, {});
+  } catch (error) {
+    throw refusedFor(error);
+  }
+}
+
 /** Makes a memory longer by this many of its pages. Node 20 takes a number where others take a BigInt. */
 function grow(memory, pages) {
   try {
@@ -100,7 +114,7 @@ export class Planner {
     if (size > MOST_TRACE_BYTES) {
       throw new Refusal(TOO_LONG);
     }
-    const planner = new Planner(await WebAssembly.instantiate(module, {}));
+    const planner = new Planner(await instanceOf(module));
     planner.reserve(planner.places.trace + size);
     await planner.read(size, pieces);
     planner.check();
@@ -124,7 +138,7 @@ export class Planner {
     try {
       grow(this.calls.memory, Math.ceil(missing / MEMORY_PAGE));
     } catch (error) {
-      throw error instanceof RangeError ? new Refusal(NO_MEMORY) : error;
+      throw refusedFor(error);
     }
   }
 

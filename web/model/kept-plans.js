@@ -1,6 +1,7 @@
 // The plans that are kept to compare: those over the open trace, whose settings are in the address, and before them
 // those over traces that were open before, each with the name of its trace.
 
+import { WorkerEnded } from "../engine/planner-client.js";
 import { MOST_KEPT } from "./state.js";
 
 /** What is told later of a prediction; nothing if it is still to come. */
@@ -47,10 +48,10 @@ export class KeptPlans {
     return this.left.filter(({ digest }) => digest === this.digest).map(({ settings }) => settings);
   }
 
-  /** Makes room for one more beside those over the open trace. */
-  makeRoom(kept) {
+  /** Makes room for some more beside those over the open trace. */
+  makeRoom(kept, more = 1) {
     const { others } = this;
-    const dropped = others.slice(0, Math.max(0, others.length + kept.length + 1 - MOST_KEPT));
+    const dropped = others.slice(0, Math.max(0, others.length + kept.length + more - MOST_KEPT));
     this.left = this.left.filter((plan) => !dropped.includes(plan));
   }
 
@@ -61,16 +62,19 @@ export class KeptPlans {
     return kept.filter((_, at) => at + others.length !== place);
   }
 
-  /** All plans, with the length of windows that is shown. */
+  /** All plans, with the length of windows that is shown. An address may bring as many as there may be. */
   async all(trace, { kept, settings: { window } }) {
+    this.makeRoom(kept, 0);
     const { others, found } = this;
     const plans = [...others];
     for (const some of kept) {
       const key = JSON.stringify(some);
-      if (!found.has(key)) {
-        found.set(key, await this.find(trace, { ...some, window: trace.sizes.last + 1 }));
+      const plan = found.get(key) ?? await this.find(trace, { ...some, window: trace.sizes.last + 1 });
+      // A planner that has ended refuses no plan for good.
+      if (!(plan.refusal instanceof WorkerEnded)) {
+        found.set(key, plan);
       }
-      plans.push({ settings: { ...some, window }, found: found.get(key) });
+      plans.push({ settings: { ...some, window }, found: plan });
     }
     return plans;
   }

@@ -68,6 +68,9 @@ function requireFits(fields, { sizes, digest }) {
 }
 
 function fieldsOf(text) {
+  if (text === undefined) {
+    throw new RecordRefusal("file", "It could not be read.");
+  }
   if (text === null) {
     throw new RecordRefusal("size", `It is too long: a record has at most ${counted(MOST_RECORD_BYTES)} bytes.`);
   }
@@ -138,7 +141,10 @@ export function differencesFrom(record, settings) {
   return Object.keys(differs).filter((name) => differs[name]);
 }
 
-/** What a record says of a trace. Throws a RecordRefusal by the name of the field that is not right. */
+/**
+ * What a record says of a trace. Its text is null if it is too long, and undefined if it could not be read. Throws a
+ * RecordRefusal by the name of the field that is not right.
+ */
 export function recordIn(text, trace) {
   const fields = fieldsOf(text);
   requireFits(fields, trace);

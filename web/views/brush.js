@@ -26,6 +26,8 @@ export class Brush {
     });
     addEventListener("pointermove", (event) => this.from && this.show(this.fieldTo(event)));
     addEventListener("pointerup", (event) => this.from && this.end(this.fieldTo(event), taken));
+    // The browser takes the mouse over, as to drag words that are selected.
+    addEventListener("pointercancel", () => this.from && this.end({ across: null, down: null }, taken));
   }
 
   placeOf({ clientX, clientY }) {

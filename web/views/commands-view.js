@@ -5,7 +5,8 @@ import { byId, html, tellIn } from "./elements.js";
 import { commandsOf } from "../model/predictions.js";
 import { firstStartOf } from "../model/starts.js";
 
-/** For how long a button says that something was copied, in milliseconds. */
+/** What a button says, and for how long it says that something was copied, in milliseconds. */
+const COPY = "Copy";
 const TOLD = 1_500;
 
 /** The parts of a text. Words are not broken at their hyphens, nor what is read after its sign. */
@@ -25,7 +26,10 @@ export class CommandsView {
     copyButtons().forEach((button) => button.addEventListener("click", () => this.copy(button)));
   }
 
-  /** Shows the commands of a prediction over a trace that begins at a tick. Without one the last ones stay, grey. */
+  /**
+   * Shows the commands of a prediction over a trace that begins at a tick. Without one the last ones stay, grey, unless
+   * they are of another trace.
+   */
   draw(prediction, sizes, begin) {
     byId("commands").classList.toggle("stale", !prediction);
     if (prediction) {
@@ -33,7 +37,11 @@ export class CommandsView {
       const commands = commandsOf(prediction.state, sizes, prediction, first);
       Object.entries(commands).forEach(([name, command]) => this.show(name, command));
       byId("warm-note").hidden = prediction.settings.base === null;
+    } else if (sizes !== this.sizes) {
+      Object.keys(this.shown).forEach((name) => this.show(name, { words: "" }));
+      byId("warm-note").hidden = true;
     }
+    this.sizes = sizes;
     copyButtons().forEach((button) => {
       const { copies } = button.dataset;
       button.disabled = copies !== "address" && (!prediction || byId(copies).textContent === "");
@@ -63,7 +71,6 @@ export class CommandsView {
   async copy(button) {
     const { copies } = button.dataset;
     const words = copies === "address" ? location.href : byId(copies).textContent;
-    const before = button.textContent;
     try {
       await navigator.clipboard.writeText(words);
       button.textContent = "Copied";
@@ -71,6 +78,6 @@ export class CommandsView {
       getSelection().selectAllChildren(byId(copies));
       button.textContent = "Selected";
     }
-    setTimeout(() => { button.textContent = before; }, TOLD);
+    setTimeout(() => { button.textContent = COPY; }, TOLD);
   }
 }

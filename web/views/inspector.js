@@ -21,9 +21,9 @@ export class Inspector {
     this.tellMoment = () => {};
     this.finger = matchMedia("(pointer: coarse)");
     this.tip = html("div", { class: "tip", "aria-hidden": "true" });
-    const values = { "aria-valuemin": "0", "aria-valuenow": "0", "aria-valuetext": "none" };
-    const attributes = { tabindex: "0", role: "slider", "aria-label": name, ...values };
+    const attributes = { tabindex: "0", role: "slider", "aria-label": name, "aria-valuemin": "0" };
     Object.entries(attributes).forEach(([key, value]) => plot.setAttribute(key, value));
+    this.spell(null, "");
     plot.addEventListener("pointermove", (event) => this.point(event));
     plot.addEventListener("pointerleave", () => this.show(null));
     plot.addEventListener("click", (event) => this.click(event));
@@ -61,9 +61,10 @@ export class Inspector {
     return this.look?.count === 0 && Boolean(this.look.none);
   }
 
-  /** Takes the items of a picture that has just been drawn, or none. */
+  /** Takes the items of a picture that has just been drawn, or none. What is offered was of the one before. */
   hold(look) {
     this.look = look;
+    this.withdraw();
     this.plot.setAttribute("aria-valuemax", String(Math.max(0, (look?.count ?? 0) - 1)));
     this.show(this.at !== null && this.at < (look?.count ?? 0) ? this.at : null);
   }
@@ -100,8 +101,14 @@ export class Inspector {
     }
   }
 
+  withdraw() {
+    if (this.offer?.hidden === false) {
+      keepFocus(() => { this.offer.hidden = true; }, () => this.plot);
+    }
+  }
+
   take(at) {
-    keepFocus(() => { this.offer.hidden = true; }, () => this.plot);
+    this.withdraw();
     if (this.look && at < this.look.count) {
       this.look.choose(at);
     }
@@ -129,6 +136,12 @@ export class Inspector {
     }
   }
 
+  /** Says an item to a screen reader, or that none is looked at. */
+  spell(at, words) {
+    this.plot.setAttribute("aria-valuenow", String(at ?? 0));
+    this.plot.setAttribute("aria-valuetext", words || "none");
+  }
+
   /** Marks an item, and announces it. */
   show(at, event = null) {
     this.at = at;
@@ -136,6 +149,7 @@ export class Inspector {
     const words = at === null ? "" : this.look.words(at);
     this.readout.textContent = words || this.hint();
     this.readout.classList.toggle("idle", words === "" && !this.isEmpty());
+    this.spell(at, words);
     this.tip.remove();
     const [left, right] = at === null ? [0, 0] : this.look.span(at);
     this.tellMoment(at === null ? null : event ? this.placeOf(event) : (left + right) / 2);
@@ -143,8 +157,6 @@ export class Inspector {
       const picture = this.plot.querySelector("svg");
       picture.prepend(...this.look.panels.map(({ top, height }) =>
         area("looked", left, top, Math.max(2, right - left), height)), ...(this.look.beside?.() ?? []));
-      this.plot.setAttribute("aria-valuenow", String(at));
-      this.plot.setAttribute("aria-valuetext", words);
       if (event?.pointerType === "mouse") {
         this.showTip(words, event, Number(picture.getAttribute("width")));
       }

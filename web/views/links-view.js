@@ -47,13 +47,28 @@ export class LinksView {
     }));
   }
 
-  /** Learns the prediction that is shown, if there is one: the questions of its curves are to be asked. */
+  /** Forgets the curves of another trace. If there are to be others, they are still seen until then, grey. */
+  forget(isAwaited) {
+    [this.prediction, this.points, this.costs, this.drawnOf] = [null, null, [], null];
+    this.inspector.hold(null);
+    if (!isAwaited) {
+      this.plot.replaceChildren();
+    }
+  }
+
+  /**
+   * Learns the prediction that is shown over a trace of some sizes, if there is one: the questions of its curves are to
+   * be asked.
+   */
   follow(prediction, sizes) {
+    if (sizes !== this.sizes) {
+      this.forget(prediction !== null);
+    }
     if (prediction && prediction !== this.prediction) {
       this.prediction = prediction;
-      this.sizes = sizes;
       this.points = null;
     }
+    this.sizes = sizes;
     this.isStale = !prediction;
     byId("links").classList.toggle("stale", this.isStale);
   }

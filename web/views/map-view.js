@@ -55,6 +55,7 @@ export class MapView {
     this.held = null;
     this.rounds = null;
     this.isAsking = false;
+    this.length = 1;
     [this.restUntil, this.took] = [0, 0];
     ["pointermove", "click"].forEach((kind) => this.plot.addEventListener(kind, (event) => this.point(event)));
     this.plot.addEventListener("pointerleave", () => { this.row = null; });
@@ -76,8 +77,9 @@ export class MapView {
       this.restUntil = performance.now() + Math.min(MOST_REST, REST * this.took);
     }
     this.range = trace === this.wanted?.trace ? this.range : null;
+    this.length = length;
     const shown = { first, last, ...this.pagesOf(trace), width: widthOf(this.plot) };
-    this.wanted = { trace, ...shown, settings, prediction, length };
+    this.wanted = { trace, ...shown, settings, prediction };
     if (this.held?.trace === trace && this.held.width !== shown.width) {
       this.fit(shown.width);
     }
@@ -313,6 +315,8 @@ export class MapView {
   drawRounds() {
     const { axis, turnGrid } = this.held;
     const isDrawn = this.areRoundsDrawn();
+    // What was painted for a file would lie over other turns.
+    this.images.forEach((image) => image.removeAttribute("href"));
     const cells = isDrawn ? this.rounds.found.cells : new Uint8Array(turnGrid.columns * turnGrid.rows);
     paintTurns(this.turns, turnGrid, cells, { width: axis.room, height: MAP_HEIGHT });
     this.tellLegend();
@@ -377,7 +381,7 @@ export class MapView {
     const sum = (column) => Array.from({ length: rows }, (_, row) => cells[row * columns + column])
       .reduce((all, count) => all + count, 0);
     const words = (from, to, column) => {
-      const windows = [from, to - 1].map((tick) => Math.floor(tick / this.wanted.length));
+      const windows = [from, to - 1].map((tick) => Math.floor(tick / this.length));
       const names = windows[0] === windows[1] ? `Window ${windows[0]}` : `Windows ${windows[0]} to ${windows[1]}`;
       const whose = this.row === null ? "all pages" : this.rowWords(this.row);
       return `${names}, ${moment(from)} to ${moment(to)}, ${whose}: `

@@ -77,13 +77,15 @@ class RoundsFigure {
     this.whole = html("figure", { id: `plan-${name}` }, this.title, this.plot, this.readout, this.details);
     this.inspector = new Inspector(this.plot, this.readout, `Course of the plan${title && `, ${title}`}`);
     this.axis = null;
-    times.add(this.plot, this.inspector, () => this.axis && {
+    // The time of another trace is none of this one's.
+    times.add(this.plot, this.inspector, () => this.axis && !this.isOther && {
       axis: this.axis, from: this.prediction.settings.start, ticks: 1 / Number(this.prediction.scale.tick),
     });
   }
 
-  draw(prediction, reach) {
-    this.prediction = prediction;
+  /** Draws a plan within a reach; `isOther` says that it is over another trace. */
+  draw(prediction, reach, isOther = false) {
+    [this.prediction, this.isOther] = [prediction, isOther];
     tellIn(this.summary, `Table of ${nounsOf(prediction.plan).many}${this.whose}`);
     const drawn = roundsPicture(widthOf(this.plot), prediction, reach);
     this.axis = drawn.axis;
@@ -108,7 +110,15 @@ export class PlanView {
     }));
     this.kept = [];
     byId("headline").addEventListener("click", ({ target }) => this.press(target));
+    byId("past-settings").addEventListener("click", (event) => this.goTo(event));
     watchWidths([this.figures[0].plot, byId("limit-bar")], changed);
+  }
+
+  /** Leads to the prediction. The link's own address has no settings, and is not gone to. */
+  goTo(event) {
+    event.preventDefault();
+    byId("outcome").scrollIntoView();
+    byId("outcome").focus({ preventScroll: true });
   }
 
   /** Forgets the last plan, which was of another trace. */
@@ -162,6 +172,8 @@ export class PlanView {
     if (this.last) {
       this.drawComparison(settings, kept);
       this.drawRounds(this.last, kept);
+    } else {
+      this.drawBar();
     }
   }
 
@@ -267,7 +279,7 @@ export class PlanView {
       const figure = this.figureAt(place + 1);
       figure.whole.hidden = other === null;
       if (other) {
-        figure.draw(other, reach);
+        figure.draw(other, reach, Boolean(kept[place].name));
       }
     });
     this.figures.slice(others.length + 1).forEach((figure) => { figure.whole.hidden = true; });

@@ -84,18 +84,18 @@ class OpenTrace {
   }
 }
 
-/** Has files that are dropped anywhere taken. The trace's line shows that they may be. */
+/** Has files that are dropped anywhere taken. The trace's line shows that they may be. Words are for fields. */
 export function listenToDrops(take) {
-  const over = (isOver) => (event) => {
-    event.preventDefault();
-    byId("trace").classList.toggle("over", isOver);
-  };
-  addEventListener("dragover", over(true));
-  addEventListener("dragleave", over(false));
-  addEventListener("drop", (event) => {
-    over(false)(event);
-    take([...event.dataTransfer.files]);
+  const listen = (kind, isOver, act) => addEventListener(kind, (event) => {
+    if (event.dataTransfer.types.includes("Files")) {
+      event.preventDefault();
+      byId("trace").classList.toggle("over", isOver);
+      act(event.dataTransfer);
+    }
   });
+  listen("dragover", true, () => {});
+  listen("dragleave", false, () => {});
+  listen("drop", false, ({ files }) => take([...files]));
 }
 
 /** `taken` is called with each trace that was opened, and with one whose record came later. */
@@ -131,12 +131,15 @@ export class TraceDesk {
     if (sources.length > 0) {
       await this.openFirst(sources, others, wish);
     } else if (record) {
+      // It may be of a trace that is still being read.
+      await this.turn;
       this.takeRecord(record, unopenedNotes(others));
     }
   }
 
   async textOf(file) {
-    return { name: file.name, text: file.size > MOST_RECORD_BYTES ? null : await file.text() };
+    const text = file.size > MOST_RECORD_BYTES ? null : await file.text().catch(() => undefined);
+    return { name: file.name, text };
   }
 
   async takeExample(example, wish) {

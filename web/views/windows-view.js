@@ -5,6 +5,7 @@ import { saveButtons } from "./exports.js";
 import { Inspector } from "./inspector.js";
 import { momentText } from "../model/numbers.js";
 import { endOf } from "../model/predictions.js";
+import { Refusal } from "../engine/planner.js";
 import { nextTask } from "../engine/slices.js";
 import { widthOf } from "./plot.js";
 import { windowsFile, windowsTable } from "./tables.js";
@@ -45,13 +46,29 @@ export class WindowsView {
     const { window: length, sample } = settings;
     const isSample = sample !== null && sample.whole > sample.part;
     if (this.counted.trace !== trace || this.counted.length !== length) {
-      const counted = { trace, length, windows: await trace.windows({ ...PLAIN, window: length }) };
+      const counted = await this.countedBy(trace, length);
       await nextTask();
       this.barsOf(counted, settings, isSample);
       await nextTask();
       this.counted = counted;
     }
     this.isSample = isSample;
+  }
+
+  /**
+   * The windows of a trace by their length. If that is refused, those that are shown of the trace stay; if none are,
+   * the whole trace is one window.
+   */
+  async countedBy(trace, length) {
+    try {
+      return { trace, length, windows: await trace.windows({ ...PLAIN, window: length }) };
+    } catch (error) {
+      if (!(error instanceof Refusal) || this.counted.trace === trace) {
+        throw error;
+      }
+      const whole = trace.sizes.last + 1;
+      return { trace, length: whole, windows: await trace.windows({ ...PLAIN, window: whole }) };
+    }
   }
 
   /** The bars of windows, made again only if something of them has changed. */

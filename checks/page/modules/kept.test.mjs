@@ -1,5 +1,6 @@
 import assert from "node:assert/strict";
 import { test } from "node:test";
+import { WorkerEnded } from "../../../web/engine/planner-client.js";
 import { KeptPlans } from "../../../web/model/kept-plans.js";
 
 const A = { digest: "a", source: { name: "a.pcwt" }, sizes: { last: 9 } };
@@ -60,6 +61,25 @@ test("places count what is shown", async () => {
   assert.deepEqual(plans.others.map(({ settings: { link } }) => link), [1, 3]);
   plans.makeRoom(["2"]);
   assert.deepEqual(plans.others.map(({ settings: { link } }) => link), [3]);
+});
+
+test("an address that has as many plans as there may be leaves no room for those over another trace", async () => {
+  const { plans, shows } = kept();
+  await shows(A, [1, 2, 3]);
+  assert.deepEqual(await shows(B, [4]), ["2 of a.pcwt", "3 of a.pcwt", "4"]);
+  assert.deepEqual(await shows(B, [4, 5, 6]), ["4", "5", "6"]);
+  assert.deepEqual(plans.others, []);
+  assert.deepEqual(await shows(A, [1, 2, 3]), ["1", "2", "3"]);
+});
+
+test("a plan whose planner has ended is planned again, and one that is refused is not", async () => {
+  const [ended, refused] = [new WorkerEnded("ended"), new Error("refused")];
+  const answers = [{ refusal: ended }, { value: 1 }, { refusal: refused }, { value: 2 }];
+  const plans = new KeptPlans(async () => answers.shift());
+  const over = async (link) => (await plans.all(A, { kept: [{ link }], settings: { window: 5 } }))[0].found;
+  assert.equal((await over(1)).refusal, ended);
+  assert.deepEqual([await over(1), await over(1)], [{ value: 1 }, { value: 1 }]);
+  assert.deepEqual([(await over(2)).refusal, (await over(2)).refusal], [refused, refused]);
 });
 
 test("a plan that comes after another trace was opened is not of that", async () => {

@@ -43,6 +43,7 @@ test("fields that do not go together are refused by their names", () => {
     assert.throws(() => read({ ran_share: share }), /\u201cran_share\u201d has a value that it cannot have/);
   }
   assert.throws(() => recordIn(null, TRACE), /too long/);
+  assert.throws(() => recordIn(undefined, TRACE), /could not be read/);
   assert.throws(() => recordIn("{", TRACE), /no JSON/);
 });
 

@@ -67,6 +67,22 @@ fn ran<R: Threads + Wait + Sync>(
     Ok((answer, sink))
 }
 
+/// Whether `run` refuses a job over these for this, and leaves these bytes written.
+fn is_refused<R: Threads + Wait + Sync>(
+    rt: &R,
+    alloc: Global,
+    number: usize,
+    failing_read: Option<u64>,
+    sink: TestSink,
+    why: RunError,
+    written: &[u8],
+) -> Result<bool, Fail>
+    requires { sink.has_failed ≡ false }
+{
+    let (answer, sink) = ran(rt, alloc, number, failing_read, sink)?;
+    Ok(answer == Err(why) && sink.bytes() == written)
+}
+
 /// Returns the whole output of a job.
 fn whole<R: Threads + Wait + Sync>(rt: &R, alloc: Global, number: usize) -> Result<Vec<u8>, Fail> {
     let sink = TestSink::new(Vec::new(alloc), usize::MAX, None, false);
@@ -95,10 +111,9 @@ fn each_read_that_fails_is_told(rt: HostRuntime) -> Result<(), Fail> {
         // 102 calls give the bytes, and one more would report the end.
         for call in 1..=103u64 {
             let sink = TestSink::new(Vec::new(alloc), usize::MAX, None, false);
-            let (answer, sink) = ran(&rt, alloc, number, Some(call), sink)?;
-            let fault = Err(RunError::Trace(TraceError::ReadFault));
-            assert_eq!(rt; answer, fault, "job {number}, read {call}");
-            assert!(rt; sink.bytes().is_empty(), "job {number}, read {call}");
+            let fault = RunError::Trace(TraceError::ReadFault);
+            let told = is_refused(&rt, alloc, number, Some(call), sink, fault, &[])?;
+            assert!(rt; told, "job {number}, read {call}");
         }
     }
     Ok(())
@@ -171,13 +186,9 @@ fn each_write_that_fails_leaves_a_beginning(rt: HostRuntime) -> Result<(), Fail>
         let output = whole(&rt, alloc, number)?;
         for count in 0..output.len() {
             let sink = TestSink::new(Vec::new(alloc), 1, Some(count as u64 + 1), false);
-            let (answer, sink) = ran(&rt, alloc, number, None, sink)?;
-            assert_eq!(rt; answer, Err(RunError::Write), "job {number}, {count} bytes");
-            assert_eq!(rt;
-                sink.bytes(),
-                &output[..count],
-                "job {number}, {count} bytes"
-            );
+            let begun = &output[..count];
+            let told = is_refused(&rt, alloc, number, None, sink, RunError::Write, begun)?;
+            assert!(rt; told, "job {number}, {count} bytes");
         }
     }
     Ok(())
@@ -188,9 +199,8 @@ fn a_writer_that_takes_nothing_has_failed(rt: HostRuntime) -> Result<(), Fail> {
     let alloc = rt.alloc();
     for number in 0..JOBS {
         let sink = TestSink::new(Vec::new(alloc), 0, None, false);
-        let (answer, sink) = ran(&rt, alloc, number, None, sink)?;
-        assert_eq!(rt; answer, Err(RunError::Write), "job {number}");
-        assert!(rt; sink.bytes().is_empty(), "job {number}");
+        let told = is_refused(&rt, alloc, number, None, sink, RunError::Write, &[])?;
+        assert!(rt; told, "job {number}");
     }
     Ok(())
 }
@@ -201,9 +211,8 @@ fn a_flush_that_fails_is_told(rt: HostRuntime) -> Result<(), Fail> {
     for number in 0..JOBS {
         let output = whole(&rt, alloc, number)?;
         let sink = TestSink::new(Vec::new(alloc), 64, None, true);
-        let (answer, sink) = ran(&rt, alloc, number, None, sink)?;
-        assert_eq!(rt; answer, Err(RunError::Write), "job {number}");
-        assert_eq!(rt; sink.bytes(), output.as_slice(), "job {number}");
+        let told = is_refused(&rt, alloc, number, None, sink, RunError::Write, &output)?;
+        assert!(rt; told, "job {number}");
     }
     Ok(())
 }

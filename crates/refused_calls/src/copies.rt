@@ -47,6 +47,24 @@ fn show_copied(rt: &impl Print, copied: Result<Vec<Part>, CopyError>) -> io::Res
     }
 }
 
+/// The caller's thread copies, after a word.
+fn copy<R: Print + Threads + Wait + Sync>(
+    rt: &R,
+    alloc: Global,
+    trace: &Trace,
+    index: &PageIndex,
+    closed: &Closed,
+    word: &str,
+) -> anyhow::Result<()>
+    requires of { IsIndexOf index.now trace.now }
+    requires closed { FitsPages closed.now trace.now.pages (length trace.now.writes) }
+{
+    let parts = two_parts(alloc, &trace.shape())?;
+    println!(rt; "{word}")?;
+    let copied = final_copy(rt, alloc, trace, index, closed, 1, 2, parts);
+    Ok(show_copied(rt, copied)?)
+}
+
 /// Pages 0 and 1 are marked, at versions 1 and 3.
 pub(crate) fn drive_final_copy<R: Print + Threads + Wait + Sync>(
     rt: &R,
@@ -62,14 +80,8 @@ pub(crate) fn drive_final_copy<R: Print + Threads + Wait + Sync>(
     if !closed.fits(shape.pages, shape.writes) {
         bail!("that is not what a table of this guest leaves");
     }
-    let parts = two_parts(alloc, &shape)?;
-    println!(rt; "ready")?;
-    let copied = final_copy(rt, alloc, &trace, &index, &closed, 1, 2, parts);
-    show_copied(rt, copied)?;
-    let parts = two_parts(alloc, &shape)?;
-    let copied = final_copy(rt, alloc, &trace, &index, &closed, 1, 2, parts);
-    println!(rt; "again")?;
-    Ok(show_copied(rt, copied)?)
+    copy(rt, alloc, &trace, &index, &closed, "ready")?;
+    copy(rt, alloc, &trace, &index, &closed, "again")
 }
 
 /// Enough pages for two workers to share them.
@@ -149,6 +161,25 @@ fn copied_by_two<R: Threads + Wait + Sync>(
     Ok(final_copy(rt, alloc, trace, index, closed, 2, 2, parts)?)
 }
 
+/// Two workers copy into empty parts, after a word.
+fn copy_by_two<R: Print + Threads + Wait + Sync>(
+    rt: &R,
+    alloc: Global,
+    trace: &Trace,
+    index: &PageIndex,
+    closed: &Closed,
+    word: &str,
+) -> anyhow::Result<()>
+    requires of { IsIndexOf index.now trace.now }
+    requires closed { FitsPages closed.now trace.now.pages (length trace.now.writes) }
+{
+    let shape = trace.shape();
+    let parts = vec![in alloc; Part::new(alloc, shape), Part::new(alloc, shape)]?;
+    println!(rt; "{word}")?;
+    let copied = copied_by_two(rt, alloc, trace, index, closed, parts);
+    show_many(rt, alloc, trace, copied)
+}
+
 /// Two workers copy a guest whose pages are all marked.
 pub(crate) fn drive_final_copy_by_workers<R: Print + Threads + Wait + Sync>(
     rt: &R,
@@ -161,12 +192,6 @@ pub(crate) fn drive_final_copy_by_workers<R: Print + Threads + Wait + Sync>(
     if !closed.fits(shape.pages, shape.writes) {
         bail!("that is not what a table of this guest leaves");
     }
-    let parts = vec![in alloc; Part::new(alloc, shape), Part::new(alloc, shape)]?;
-    println!(rt; "ready")?;
-    let copied = copied_by_two(rt, alloc, &trace, &index, &closed, parts);
-    show_many(rt, alloc, &trace, copied)?;
-    let parts = vec![in alloc; Part::new(alloc, shape), Part::new(alloc, shape)]?;
-    let copied = copied_by_two(rt, alloc, &trace, &index, &closed, parts);
-    println!(rt; "again")?;
-    show_many(rt, alloc, &trace, copied)
+    copy_by_two(rt, alloc, &trace, &index, &closed, "ready")?;
+    copy_by_two(rt, alloc, &trace, &index, &closed, "again")
 }

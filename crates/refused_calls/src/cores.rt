@@ -55,6 +55,12 @@ fn show_ended(
     }
 }
 
+/// Runs all events, and prints what came of it after a word.
+fn run_all(rt: &impl Print, alloc: Global, opening: &Opening, word: &str) -> anyhow::Result<()> {
+    println!(rt; "{word}")?;
+    Ok(show_ended(rt, opening, run(alloc, opening, &EVENTS))?)
+}
+
 /// Two marked pages, a guest and a copier.
 pub(crate) fn drive_run(rt: &impl Print, alloc: Global) -> anyhow::Result<()> {
     let places = vec![in alloc; 0; 2]?;
@@ -62,10 +68,6 @@ pub(crate) fn drive_run(rt: &impl Print, alloc: Global) -> anyhow::Result<()> {
     let Some(opening) = Opening::new(places, dirty, 1, 1) else {
         bail!("no core opens so");
     };
-    println!(rt; "ready")?;
-    let ended = run(alloc, &opening, &EVENTS);
-    show_ended(rt, &opening, ended)?;
-    let ended = run(alloc, &opening, &EVENTS);
-    println!(rt; "again")?;
-    Ok(show_ended(rt, &opening, ended)?)
+    run_all(rt, alloc, &opening, "ready")?;
+    run_all(rt, alloc, &opening, "again")
 }

@@ -113,6 +113,26 @@ fn show_all(
     Ok(())
 }
 
+/// Asks a cache for pages 0 and 1, and then for other pages and versions.
+fn ask_all(
+    rt: &impl Print,
+    alloc: Global,
+    cache: &mut PageCache<'_, Trace>,
+    trace: &Trace,
+    index: &PageIndex,
+    answers: &mut Vec<Answer>,
+) -> anyhow::Result<()>
+    requires cache { cache.old.trace ≡ trace.now }
+    requires of { IsIndexOf index.now trace.now }
+{
+    ask(cache, trace, &[(0, 1), (1, 2)], answers)?;
+    println!(rt; "ready")?;
+    ask(cache, trace, &ASKED, answers)?;
+    show_answers(rt, answers)?;
+    show_kept(rt, cache, trace.pages)?;
+    show_all(rt, alloc, cache, trace, index)
+}
+
 /// A cache of two pages, which keeps pages 0 and 1, is asked for other pages and versions.
 pub(crate) fn drive_bytes_at<R: Print + Threads + Sync>(
     rt: &R,
@@ -122,10 +142,5 @@ pub(crate) fn drive_bytes_at<R: Print + Threads + Sync>(
     let index = PageIndex::build(rt, alloc, &trace)?;
     let mut cache = PageCache::new(alloc, &trace, &index, 2)?;
     let mut answers = Vec::with_capacity(alloc, 2 + ASKED.len())?;
-    ask(&mut cache, &trace, &[(0, 1), (1, 2)], &mut answers)?;
-    println!(rt; "ready")?;
-    ask(&mut cache, &trace, &ASKED, &mut answers)?;
-    show_answers(rt, &answers)?;
-    show_kept(rt, &cache, trace.pages)?;
-    show_all(rt, alloc, &mut cache, &trace, &index)
+    ask_all(rt, alloc, &mut cache, &trace, &index, &mut answers)
 }

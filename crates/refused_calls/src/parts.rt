@@ -37,6 +37,28 @@ fn accepted(part: &mut Part, frame: Frame) -> Result<Fate, PartError>
     part.accept(frame)
 }
 
+/// A part gets a new frame and an old one, and the new one again.
+fn accept_frames(
+    rt: &impl Print,
+    part: &mut Part,
+    new: Frame,
+    old: Frame,
+    again: Frame,
+) -> Result<()>
+    requires new { IsFrame part.old.shape new }
+    requires old { IsFrame part.old.shape old }
+    requires again { IsFrame part.old.shape again }
+{
+    println!(rt; "ready")?;
+    let fate_of_new = accepted(part, new);
+    let fate_of_old = accepted(part, old);
+    println!(rt; "accept {fate_of_new:?}, of an older frame {fate_of_old:?}")?;
+    show_part(rt, part)?;
+    let again = accepted(part, again);
+    println!(rt; "again {again:?}")?;
+    Ok(show_part(rt, part)?)
+}
+
 /// A part has two pages. It gets a third one far after them, and then an older frame of the first, for which it needs
 /// no memory.
 pub(crate) fn drive_accept(rt: &impl Print, alloc: Global) -> Result<()> {
@@ -44,15 +66,8 @@ pub(crate) fn drive_accept(rt: &impl Print, alloc: Global) -> Result<()> {
     let mut part = part_of(alloc, &shape, &[(1, 2, SECOND), (2, 0, ZEROS)])?;
     let new = frame_at(alloc, &shape, 64, 4, &FOURTH)?;
     let old = frame_at(alloc, &shape, 1, 1, &THIRD)?;
-    let second_new = frame_at(alloc, &shape, 64, 4, &FOURTH)?;
-    println!(rt; "ready")?;
-    let fate_of_new = accepted(&mut part, new);
-    let fate_of_old = accepted(&mut part, old);
-    println!(rt; "accept {fate_of_new:?}, of an older frame {fate_of_old:?}")?;
-    show_part(rt, &part)?;
-    let again = accepted(&mut part, second_new);
-    println!(rt; "again {again:?}")?;
-    Ok(show_part(rt, &part)?)
+    let again = frame_at(alloc, &shape, 64, 4, &FOURTH)?;
+    accept_frames(rt, &mut part, new, old, again)
 }
 
 /// Frames of pages 2, 3, 1, 1, 1 and 0: the first of page 1 has zeros, so that the second needs room for its bytes, and
@@ -66,16 +81,19 @@ static STREAM: [u8; 118] = [
     0, 0, 0, 0, 1, 0, 0, 0, 1, 1, 0, 0, 0, 0, 0, 0, 0, 0, 0, 0, 0, 0, 0, 0, 0,
 ];
 
+/// A part gets the stream, and what it returns is printed after a word.
+fn accept_stream(rt: &impl Print, part: &mut Part, word: &str) -> Result<()> {
+    let taken = part.accept_bytes(&STREAM);
+    println!(rt; "{word} {taken:?}")?;
+    Ok(show_part(rt, part)?)
+}
+
 /// An empty part gets six frames in one stream.
 pub(crate) fn drive_accept_bytes(rt: &impl Print, alloc: Global) -> Result<()> {
     let mut part = Part::new(alloc, shape());
     println!(rt; "ready")?;
-    let taken = part.accept_bytes(&STREAM);
-    println!(rt; "accept_bytes {taken:?}")?;
-    show_part(rt, &part)?;
-    let again = part.accept_bytes(&STREAM);
-    println!(rt; "again {again:?}")?;
-    Ok(show_part(rt, &part)?)
+    accept_stream(rt, &mut part, "accept_bytes")?;
+    accept_stream(rt, &mut part, "again")
 }
 
 /// Two parts that agree: one has pages 1 and 2, the other pages 1, 2 and 64.
@@ -101,15 +119,15 @@ fn show_merged(rt: &impl Print, merged: Result<Part, PartError>) -> io::Result<(
     }
 }
 
+/// Merges two parts after a word.
+fn merge_two(rt: &impl Print, alloc: Global, word: &str) -> Result<()> {
+    let (first, second) = two_parts(alloc, &wide())?;
+    println!(rt; "{word}")?;
+    Ok(show_merged(rt, merge(first, second))?)
+}
+
 /// Two parts are merged, and the table of the first must grow.
 pub(crate) fn drive_merge(rt: &impl Print, alloc: Global) -> Result<()> {
-    let shape = wide();
-    let (first, second) = two_parts(alloc, &shape)?;
-    println!(rt; "ready")?;
-    let merged = merge(first, second);
-    show_merged(rt, merged)?;
-    let (first, second) = two_parts(alloc, &shape)?;
-    let merged = merge(first, second);
-    println!(rt; "again")?;
-    Ok(show_merged(rt, merged)?)
+    merge_two(rt, alloc, "ready")?;
+    merge_two(rt, alloc, "again")
 }

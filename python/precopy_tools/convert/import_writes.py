@@ -172,7 +172,7 @@ def lackey_writes(lines, shape, instructions):
 def write_all(writes, writer, most):
     """Hands writes over in order, up to a number of them if one is given."""
     batch, length = [], 0
-    for write in writes if most is None else itertools.islice(writes, most):
+    for write in writes if most is None else itertools.islice(writes, min(most, sys.maxsize)):
         batch.append(write)
         length += traces.RECORD.size + len(write[3])
         # A write that does not fit is handed over at once, so that its own line is named.

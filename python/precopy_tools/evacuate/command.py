@@ -99,10 +99,21 @@ def expect_known(options: argparse.Namespace, settings: Settings, found: Gathere
         version.complain("evacuate", fault)
 
 
-def write(path: str, text: str) -> None:
+def write(path: str, text: str, status: int = 0) -> int:
     with traces.Pending(path) as file:
         file.write(text.encode())
         file.finish()
+    return status
+
+
+def keep(path: str, text: str, status: int) -> int:
+    """Writes what a run did, and returns its status. If that cannot be written, a guest that has not moved counts more,
+    and nothing else is lost."""
+    try:
+        return write(path, text, status)
+    except OSError as fault:
+        version.complain("evacuate", traces.told(fault))
+        return status or 1
 
 
 def rounds_of(options: argparse.Namespace, found: Gathered, moves: list[Placed]) -> dict[str, list[int]]:
@@ -188,9 +199,9 @@ def show(
         outcome = run.performed(options, steps, found_ways, hour.opens, shared)
         told["run"], status = outcome.document(), outcome.status()
         if options.picture:
-            write(options.picture, report_chart.drawn(outcome, outcome.title(), hour.opens))
+            status = keep(options.picture, report_chart.drawn(outcome, outcome.title(), hour.opens), status)
     if options.json:
-        write(options.json, json.dumps(told, indent=1) + "\n")
+        status = (keep if options.run else write)(options.json, json.dumps(told, indent=1) + "\n", status)
     return status
 
 

@@ -12,7 +12,6 @@ from typing import NamedTuple
 
 from precopy_tools.evacuate import records
 from precopy_tools.quantities import micros_of, time_text
-from precopy_tools.record.series import STAMP
 
 UTC = datetime.timezone.utc
 MINUTE, DAY = 60, 86_400
@@ -121,9 +120,8 @@ def hour_of(at: int | None, window: Window | None, now: float) -> Hour:
 
 
 def segment_of(path: str) -> Segment:
-    stamp = records.STAMP.search(os.path.basename(path).removesuffix(records.LIGHT))
-    assert stamp, path
-    begun = datetime.datetime.strptime(stamp[0][1:], STAMP).replace(tzinfo=UTC)
+    begun = records.begun_at(path)
+    assert begun, path
     return Segment(begun.timestamp(), records.seconds_of(path), path)
 
 

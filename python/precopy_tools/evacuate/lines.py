@@ -9,7 +9,7 @@ from typing import NamedTuple
 from precopy_tools.evacuate import hours
 from precopy_tools.evacuate.schedules import Placed
 from precopy_tools.evacuate.ways import Way
-from precopy_tools.quantities import time_text
+from precopy_tools.quantities import micros_of, time_text
 
 QMP_SCRIPT = os.path.join(os.path.dirname(os.path.abspath(__file__)), "qmp_script.py")
 PLAN = "PLAN: list = []"
@@ -59,7 +59,8 @@ class Step(NamedTuple):
 
 
 def milliseconds(limit: float) -> int:
-    return max(1, int(1000 * limit))
+    """A limit of QEMU and of virsh, rounded down."""
+    return max(1, micros_of(limit) // 1000)
 
 
 def mebibytes(rate: float) -> int:
@@ -161,7 +162,7 @@ def qmp_script(steps: list[Step], ways: dict[str, Way]) -> str:
         }
         for step in steps
     ]
-    rows = "".join(f"    {json.dumps(row, ensure_ascii=True)},\n" for row in plan)
+    rows = "".join(f"    {row!a},\n" for row in plan)
     with open(QMP_SCRIPT, encoding="utf-8") as file:
         return file.read().replace(PLAN, f"# {title_of(steps)}\nPLAN: list = [\n{rows}]")
 

@@ -48,7 +48,7 @@ class QmpMover:
         """Why this guest must not be touched; nothing if it may."""
         try:
             with qmp.Client(self.way.monitor, SECONDS) as client:
-                status, told = client.ask("query-status"), client.ask("query-migrate")
+                status, told = client.object_of("query-status"), client.object_of("query-migrate")
         except qmp.Fault as fault:
             return str(fault)
         if status.get("status") not in MOVABLE:
@@ -73,6 +73,8 @@ class QmpMover:
             if self.look().state == "failed":
                 raise
         self.begun = True
+        if self.client:
+            self.client.seconds = SECONDS_TO_ANSWER
 
     def take(self, share: int) -> bool:
         """Goes on with another share of the link, or begins with it. Returns whether the monitor has taken it."""
@@ -90,7 +92,7 @@ class QmpMover:
         """How far it is. A monitor that answers no more is asked again for a while."""
         try:
             self.client = self.client or qmp.Client(self.way.monitor, SECONDS_TO_ANSWER)
-            self.last, self.silent = self._seen(self.client.ask("query-migrate")), 0
+            self.last, self.silent = self._seen(self.client.object_of("query-migrate")), 0
             self.doubt = None
         except qmp.Fault as fault:
             self._close()
@@ -111,7 +113,7 @@ class QmpMover:
 
     def _has_begun(self, status: str) -> bool:
         """Whether QEMU has begun though that was not answered: it moves, or it has moved since, and not earlier."""
-        has_left = status == "completed" and self.client.ask("query-status").get("status") == "postmigrate"
+        has_left = status == "completed" and self.client.object_of("query-status").get("status") == "postmigrate"
         return has_left or status not in IDLE
 
     def cancel(self) -> None:
@@ -128,8 +130,8 @@ class QmpMover:
         self._close()
         try:
             with qmp.Client(self.way.monitor, SECONDS_TO_ANSWER) as client:
-                status = client.ask("query-status").get("status")
-                migration = client.ask("query-migrate").get("status", "none")
+                status = client.object_of("query-status").get("status")
+                migration = client.object_of("query-migrate").get("status", "none")
         except qmp.Fault as fault:
             return f"nothing is known of it ({fault}): look at both hosts"
         if migration not in IDLE:
@@ -161,18 +163,22 @@ class VirshMover:
         limits = step.move.guest.limits
         self.move, self.way, self.process = step.move, way, None
         self.domain = limits.domain or step.move.guest.name
-        self.errors, self.is_told, self.last = tempfile.TemporaryFile(), False, Look("moving")
+        self.errors, self.is_told, self.last = None, False, Look("moving")
+
+    def _state(self) -> tuple[str, bool]:
+        """Its state here, and whether it has no job, as a migration is one."""
+        state = domains.virsh("domstate", "--domain", self.domain).strip()
+        kind = re.search(r"^Job type: +(.+?) *$", domains.virsh("domjobinfo", "--domain", self.domain), re.M)
+        return state, kind is not None and kind[1] == "None"
 
     def why_not(self) -> str:
         try:
-            state = domains.virsh("domstate", "--domain", self.domain).strip()
-            job = domains.virsh("domjobinfo", "--domain", self.domain)
+            state, is_idle = self._state()
         except qmp.Fault as fault:
             return str(fault)
         if state not in MOVABLE:
             return f"domain {self.domain} does not run here: its state is {state}"
-        kind = re.search(r"^Job type: +(.+?) *$", job, re.M)
-        return "" if kind and kind[1] == "None" else f"domain {self.domain} has a job already"
+        return "" if is_idle else f"domain {self.domain} has a job already"
 
     def begin(self) -> None:
         if why := self.why_not():
@@ -180,8 +186,13 @@ class VirshMover:
         downtime, speed = milliseconds(self.move.guest.limits.downtime), mebibytes(self.move.cost.share)
         domains.virsh("migrate-setmaxdowntime", "--domain", self.domain, "--downtime", str(downtime))
         command = ["virsh", "--quiet", "migrate", "--live", "--bandwidth", str(speed), "--domain", self.domain]
-        how = {"stdin": subprocess.DEVNULL, "stdout": subprocess.DEVNULL, "stderr": self.errors}
-        self.process = subprocess.Popen([*command, "--desturi", self.way.to], start_new_session=True, **how)
+        try:
+            self.errors = tempfile.TemporaryFile()
+            how = {"stdin": subprocess.DEVNULL, "stdout": subprocess.DEVNULL, "stderr": self.errors}
+            how["env"] = domains.environment()
+            self.process = subprocess.Popen([*command, "--desturi", self.way.to], start_new_session=True, **how)
+        except OSError as fault:
+            raise qmp.Fault(f"virsh migrate: {fault.strerror}") from fault
 
     def take(self, share: int) -> bool:
         """The same, by virsh."""
@@ -230,13 +241,16 @@ class VirshMover:
 
     def whereabouts(self) -> str:
         try:
-            state = domains.virsh("domstate", "--domain", self.domain).strip()
+            state, is_idle = self._state()
         except qmp.Fault as fault:
             return f"nothing is known of it ({fault}): look at both hosts"
+        if not is_idle:
+            return f"it has a job still, and its state here is {state}: look at both hosts"
         return "it runs here" if state == "running" else f"it is here, and its state is {state}"
 
     def end(self) -> None:
-        self.errors.close()
+        if self.errors:
+            self.errors.close()
 
 
 MOVERS = {"qmp": QmpMover, "virsh": VirshMover}

@@ -6,6 +6,8 @@ from precopy_tools.evacuate.schedules import Placed
 from precopy_tools.quantities import decimal, moment_text, size_text, time_text
 
 NOT_ALL = 5
+LOST = ": not known whether it has moved: "
+FAULTS = {"not begun": " has not begun", "lost": LOST}
 
 
 class Moved(NamedTuple):
@@ -68,9 +70,9 @@ class Outcome(NamedTuple):
         return f"{counted}, in {time_text(self.time)}; planned {time_text(planned)}"
 
     def faults(self) -> list[str]:
-        """A line for each guest that has not moved."""
+        """A line for each guest that has not moved, or of which that is not known."""
         return [
-            f"{move.planned.guest.name} has not {'moved: ' if move.where else 'begun'}"
+            f"{move.planned.guest.name}{FAULTS.get(move.state, ' has not moved: ')}"
             + "; ".join(filter(None, (move.where and move.why, move.where)))
             for move in self.moves
             if not move.is_moved

@@ -2,10 +2,13 @@
 """Moves guests of QEMU by their monitors. The guests of one slot go one after the other, and the slots side by side.
 
 If a guest fails, or at Ctrl-C, no other one begins; those under way are cancelled at Ctrl-C, and stay where they are.
-The status is 1 if a guest has not moved.
+A monitor that does not answer is asked again for a while. The status is 1 if a guest has not moved, or if that is not
+known.
 """
 
+import contextlib
 import json
+import os
 import socket
 import sys
 import threading
@@ -15,19 +18,51 @@ PLAN: list = []
 MOVED = {row["number"]: threading.Event() for row in PLAN}
 NO_MORE, CANCELLED = threading.Event(), threading.Event()
 LOOK, SECONDS = 0.2, 20
+# Looks in a row that may stay without an answer.
+MOST_SILENT = 10
+# A guest in one of these states may move, and in one of those no other migration of it is under way.
+MOVABLE, IDLE = ("running", "paused", "suspended"), ("none", "completed", "failed", "cancelled")
+FAULTS = (OSError, ValueError)
+
+
+class Unknown(Exception):
+    """It is not known whether a guest has moved; the text says why."""
 
 
 class Monitor:
-    """A connection to QEMU's machine protocol."""
+    """A monitor of QEMU by its machine protocol. After a fault the connection is made anew."""
 
     def __init__(self, path):
+        self.path, self.socket, self.lines = path, None, None
+
+    def ask(self, command, **arguments):
+        """What a command returns, or one of FAULTS."""
+        try:
+            if self.socket is None:
+                self._connect()
+            return self._returned({"execute": command, **({"arguments": arguments} if arguments else {})})
+        except FAULTS:
+            self.close()
+            raise
+
+    def _connect(self):
         self.socket = socket.socket(socket.AF_UNIX)
         self.socket.settimeout(SECONDS)
-        self.socket.connect(path)
+        self._queue(time.monotonic() + SECONDS)
         self.lines = self.socket.makefile("r", encoding="utf-8")
-        self.ask({"execute": "qmp_capabilities"})
+        self._returned({"execute": "qmp_capabilities"})
 
-    def ask(self, command):
+    def _queue(self, end):
+        """Has a place in the queue of the socket, before a time."""
+        while True:
+            try:
+                return self.socket.connect(self.path)
+            except BlockingIOError:
+                if time.monotonic() > end:
+                    raise
+            time.sleep(LOOK)
+
+    def _returned(self, command):
         self.socket.sendall(json.dumps(command).encode() + b"\n")
         for line in self.lines:
             answer = json.loads(line)
@@ -37,27 +72,75 @@ class Monitor:
                 return answer["return"]
         raise OSError("the monitor is closed")
 
-    def migration(self):
-        return self.ask({"execute": "query-migrate"})
+    def told(self, command):
+        """What a question is answered, also if that takes several tries; or Unknown."""
+        for number in range(MOST_SILENT + 1):
+            try:
+                return self.ask(command)
+            except FAULTS as fault:
+                if number == MOST_SILENT:
+                    raise Unknown(str(fault)) from fault
+            time.sleep(LOOK)
+
+    def status(self):
+        return self.told("query-migrate").get("status", "none")
+
+    def close(self):
+        if self.socket is not None:
+            self.socket.close()
+        self.socket = None
+
+
+def tell(text, file):
+    """Says something, if anybody reads it."""
+    try:
+        print(text, file=file, flush=True)
+    except OSError:
+        os.dup2(os.open(os.devnull, os.O_WRONLY), file.fileno())
+
+
+def expect_movable(monitor):
+    state = monitor.ask("query-status").get("status")
+    status = monitor.ask("query-migrate").get("status", "none")
+    if state not in MOVABLE or status not in IDLE:
+        raise OSError(f"it has moved, or moves already: its state is {state}, and its migration {status}")
+
+
+def begin(monitor, commands):
+    """Begins. If QEMU does not say so, it is asked whether it has: it moves, or it has moved since."""
+    *parameters, migrate = commands
+    for command in parameters:
+        monitor.ask(command["execute"], **command["arguments"])
+    try:
+        monitor.ask(migrate["execute"], **migrate["arguments"])
+    except FAULTS as fault:
+        status = monitor.status()
+        has_left = status == "completed" and monitor.told("query-status").get("status") == "postmigrate"
+        if status in IDLE and not has_left:
+            raise OSError(str(fault)) from fault
+
+
+def watch(monitor):
+    """Until the guest has moved; returns its downtime in milliseconds. At Ctrl-C it is told to stay."""
+    is_told = False
+    while (told := monitor.told("query-migrate")).get("status") != "completed":
+        if told.get("status", "none") in IDLE:
+            raise OSError(told.get("error-desc", f"its migration is {told.get('status', 'none')}"))
+        if CANCELLED.is_set() and not is_told:
+            with contextlib.suppress(*FAULTS):
+                monitor.ask("migrate_cancel")
+                is_told = True
+        time.sleep(LOOK)
+    return told.get("downtime", 0)
 
 
 def move(row):
-    """Moves one guest, or raises an OSError or a ValueError."""
-    monitor = Monitor(row["monitor"])
-    if monitor.migration().get("status") not in (None, "none", "failed", "cancelled"):
-        raise OSError("it has moved, or moves already")
-    for command in row["commands"]:
-        monitor.ask(command)
-    print(f"{row['guest']} begins", flush=True)
-    is_told = False
-    while (told := monitor.migration()).get("status") != "completed":
-        if told.get("status") in ("failed", "cancelled"):
-            raise OSError(told.get("error-desc", told["status"]))
-        if CANCELLED.is_set() and not is_told:
-            monitor.ask({"execute": "migrate_cancel"})
-            is_told = True
-        time.sleep(LOOK)
-    print(f"{row['guest']} has moved, with a downtime of {told.get('downtime', 0)} ms", flush=True)
+    """Moves one guest, or raises one of FAULTS if it has not moved, or Unknown."""
+    with contextlib.closing(Monitor(row["monitor"])) as monitor:
+        expect_movable(monitor)
+        begin(monitor, row["commands"])
+        tell(f"{row['guest']} begins", sys.stdout)
+        tell(f"{row['guest']} has moved, with a downtime of {watch(monitor)} ms", sys.stdout)
 
 
 def move_slot(rows):
@@ -72,9 +155,13 @@ def move_slot(rows):
         try:
             move(row)
             MOVED[row["number"]].set()
-        except (OSError, ValueError, KeyError) as fault:
-            print(f"{row['guest']} has not moved: {fault}", file=sys.stderr, flush=True)
-            NO_MORE.set()
+        except FAULTS as fault:
+            tell(f"{row['guest']} has not moved: {fault}", sys.stderr)
+        except Unknown as fault:
+            tell(f"{row['guest']}: not known whether it has moved: {fault}: look at both hosts", sys.stderr)
+        finally:
+            if not MOVED[row["number"]].is_set():
+                NO_MORE.set()
 
 
 def main():

@@ -4,6 +4,7 @@ A guest whose recording goes on has many segments. The last of them stands for i
 as the longest: a recorder that has just begun, or was ended, leaves such a one.
 """
 
+import datetime
 import json
 import os
 import re
@@ -20,8 +21,17 @@ def name_of(path: str) -> str:
     return STAMP.sub("", os.path.basename(path).removesuffix(".pcwt").removesuffix(".light"))
 
 
+def begun_at(path: str) -> datetime.datetime | None:
+    """When a segment began, as its name says; None of a file that is no segment."""
+    stamp = STAMP.search(path.removesuffix(LIGHT)) if path.endswith(LIGHT) else None
+    try:
+        return datetime.datetime.strptime(stamp[0][1:] + "+0000", series.STAMP + "%z") if stamp else None
+    except ValueError:
+        return None
+
+
 def is_segment(path: str) -> bool:
-    return path.endswith(LIGHT) and STAMP.search(path.removesuffix(LIGHT)) is not None
+    return begun_at(path) is not None
 
 
 def seconds_of(path: str) -> float:

@@ -1,19 +1,21 @@
 """Performs a schedule: begins each guest when its slot and its group are free, and watches all that move.
 
 After a failure no other guest begins, and those under way end as they do. After SIGINT or SIGTERM they are told to
-stay. All is done by one thread, which looks at each guest in turn.
+stay. One thread decides. Others ask the monitors, one for each guest, so that one that hangs holds up nobody for long.
 """
 
 import argparse
+import concurrent.futures
 import sys
 import time
+from collections.abc import Callable
 
 from precopy_tools import version
 from precopy_tools.evacuate import movers as host_movers
 from precopy_tools.evacuate import sharing
 from precopy_tools.evacuate.lines import Step
 from precopy_tools.evacuate.movers import Look
-from precopy_tools.evacuate.outcome import Moved, Outcome
+from precopy_tools.evacuate.outcome import LOST, Moved, Outcome
 from precopy_tools.evacuate.texts import gigabits
 from precopy_tools.evacuate.ways import Way
 from precopy_tools.qemu import qmp
@@ -21,6 +23,8 @@ from precopy_tools.quantities import micros_of, moment_text, size_text, time_tex
 from precopy_tools.record.looking import Stopping
 
 LOOK = 0.2
+# So long all monitors together are waited for. What one answers later is taken with a later look.
+SOON = 0.5
 # Where nobody looks at a terminal, a line for each guest comes this often.
 EVERY = 5.0
 # A guest is cancelled after so many times what was planned, and so many seconds more.
@@ -45,37 +49,88 @@ class Moving:
         self.patience = patience or TIMES * step.move.cost.time / 1e6 + MORE
         self.seen, self.begun, self.ended = Look("waiting"), 0.0, 0.0
         self.sent: list[tuple[float, int]] = []
-        self.is_late = False
-        self.share = self.told = int(step.move.cost.share)  # what it is to have, and what it was told
+        self.is_late = self.is_to_stay = self.is_told = False
+        self.share = self.told = self.said = int(step.move.cost.share)  # what it is to have, was told, and is said
+        self.threads = concurrent.futures.ThreadPoolExecutor(1)
+        self.asked: concurrent.futures.Future | None = None
 
     @property
     def is_under_way(self) -> bool:
         return self.seen.state == "moving"
 
+    @property
+    def is_watched(self) -> bool:
+        """Whether it has begun, and its end is not told yet."""
+        return self.seen.state != "waiting" and not self.is_told
+
     def begin(self) -> None:
-        self.begun = time.monotonic()
+        self.begun, self.seen = time.monotonic(), Look("moving")
+        self._ask(self._begin)
+        self.wait()
+
+    def _begin(self) -> Look:
         try:
             self.mover.begin()
-            self.seen = Look("moving")
         except qmp.Fault as fault:
-            self.seen, self.ended = Look("failed", why=str(fault)), time.monotonic()
+            return Look("failed", why=str(fault))
+        return Look("moving")
 
     def take(self) -> bool:
         """Has it go on with the share that it is to have, or begin with it. Returns whether it does."""
-        is_taken = self.mover.take(self.share)
-        self.told = self.share if is_taken else self.told
-        return is_taken
+        if not self.is_under_way:
+            self._take(self.share)
+        elif self.is_free() and self.is_under_way:
+            self._ask(self._take, self.share)
+            self.wait()
+        return self.told == self.share
 
-    def look(self) -> None:
-        """Looks once. What takes too long is told to stay."""
-        self.seen, now = self.mover.look(), time.monotonic()
+    def _take(self, share: int) -> None:
+        if self.mover.take(share):
+            self.told = share
+
+    def look(self) -> bool:
+        """Has a thread look once, if the look before is over. What takes too long is told to stay. Returns whether it
+        looks anew."""
+        is_asked = self.is_free() and self.is_under_way
+        if is_asked:
+            self.is_late = self.is_late or time.monotonic() - self.begun > self.patience
+            self._ask(self._look, self.is_late or self.is_to_stay)
+        return is_asked
+
+    def _look(self, is_to_stay: bool) -> Look:
+        seen = self.mover.look()
+        if is_to_stay and seen.state == "moving":
+            self.mover.cancel()
+        return seen
+
+    def _ask(self, question: Callable, *words) -> None:
+        """Has a thread ask the monitor. There is one question at a time."""
+        self.asked = self.threads.submit(question, *words)
+
+    def wait(self) -> None:
+        """Until the question is answered, but not long."""
+        concurrent.futures.wait([self.asked] if self.asked else [], SOON)
+        self.is_free()
+
+    def is_free(self) -> bool:
+        """Whether no question is open. What one has shown is taken."""
+        if self.asked is None:
+            return True
+        if not self.asked.done():
+            return False
+        seen, self.asked = self.asked.result(), None
+        if seen is not None:
+            self._take_in(seen)
+        return True
+
+    def _take_in(self, seen: Look) -> None:
+        self.seen, now = seen, time.monotonic()
         recent = [each for each in self.sent if each[0] > now - WINDOW]
-        self.sent = (recent or self.sent[-1:]) + [(now, self.seen.sent)]
+        self.sent = (recent or self.sent[-1:]) + [(now, seen.sent)]
         if not self.is_under_way:
             self.ended = now
-        elif now - self.begun > self.patience:
-            self.is_late = True
-            self.mover.cancel()
+            self.threads.shutdown(wait=False)
+            self.mover.end()  # Others may want its monitor.
 
     def rate(self) -> int:
         """Bytes a second, of the last seconds."""
@@ -102,7 +157,7 @@ class Moving:
         elif state == "cancelled":
             why = "it was cancelled"
         where = "" if state == "moved" else self.mover.whereabouts()
-        times = (micros_of(each - begun) for each in (self.begun, self.ended))
+        times = (micros_of(max(0.0, each - begun)) for each in (self.begun, self.ended))
         return Moved(self.step.move, state, *times, self.seen.sent, self.seen.downtime, why, where)
 
 
@@ -119,25 +174,30 @@ class Run:
         self.is_stopped = False
 
     def perform(self) -> None:
-        while self._begin_due() or any(move.is_under_way for move in self.moves) or self._holds():
+        while self._begin_due() or any(move.is_watched for move in self.moves) or self._holds():
             self.stopping.sleep(time.monotonic() + LOOK)
             if self.stopping.by:
                 self._cancel()
                 time.sleep(LOOK)
-            for move in self.moves:
-                if move.is_under_way:
-                    move.look()
-                    self._tell_end(move)
+            self._look()
             self._show()
 
+    def _look(self) -> None:
+        """Looks at all that move, and takes what is answered soon."""
+        watched = [move for move in self.moves if move.is_watched]
+        asked = [move for move in watched if move.look()]
+        concurrent.futures.wait([move.asked for move in asked], SOON)
+        for move in watched:
+            move.is_free()
+            self._tell_end(move)
+
     def _cancel(self) -> None:
-        """Tells all that move to stay."""
+        """Has all that move be told to stay, with the next look."""
         if not self.is_stopped:
             self.is_stopped = True
             self._print(f"{self.stopping.by}: no other guest begins, and those that move are told to stay")
         for move in self.moves:
-            if move.is_under_way:
-                move.mover.cancel()
+            move.is_to_stay = True
 
     def _is_next(self, move: Moving) -> bool:
         """Whether a guest waits for no other one."""
@@ -158,15 +218,17 @@ class Run:
         most = [move.step.move.cost.most_share for move in (*moving, *due)]
         for move, share in zip((*moving, *due), sharing.fair(self.link, most)):
             move.share = share if move in due else sharing.following(move.share, share)
-        are_lower = all([self._has_taken(move) for move in moving if move.share < move.told])
+        are_lower = all([move.take() for move in moving if move.share < move.told])
         for move in (*due, *(each for each in moving if are_lower and each.share > each.told)):
-            self._has_taken(move)
+            move.take()
+        for move in moving:
+            self._tell_share(move)
+            self._tell_end(move)
 
-    def _has_taken(self, move: Moving) -> bool:
-        is_taken = move.take()
-        if is_taken and move.is_under_way:
-            self._print(f"{move.name} goes on with {gigabits(move.share)} Gbit/s")
-        return is_taken
+    def _tell_share(self, move: Moving) -> None:
+        if move.said != move.told:
+            move.said = move.told
+            self._print(f"{move.name} goes on with {gigabits(move.said)} Gbit/s")
 
     def _begin_due(self) -> bool:
         """Begins what is due, and shares the link if it is shared. Returns whether something was begun."""
@@ -178,19 +240,22 @@ class Run:
         for move in due:
             if not self.is_stopped and not self.stopping.by:
                 self._print(f"{move.name} begins")
+                move.said = move.told
                 move.begin()
                 self._tell_end(move)
                 is_begun = True
         return is_begun
 
     def _tell_end(self, move: Moving) -> None:
-        if move.is_under_way:
+        if move.is_under_way or move.is_told:
             return
+        move.is_told = True
         if move.seen.state == "moved":
             self._print(f"{move.name} has moved")
             return
-        why = f": {move.seen.why}" if move.seen.why else ""
-        self._print(f"{move.name} has not moved, {move.seen.state}{why}")
+        state, why = move.seen.state, move.seen.why
+        told = LOST if state == "lost" else f" has not moved, {state}{': ' if why else ''}"
+        self._print(f"{move.name}{told}{why}")
         if not self.is_stopped:
             self.is_stopped = True
             self._print("no other guest begins")
@@ -216,7 +281,9 @@ class Run:
         self.lines = len(lines) if is_terminal else 0
 
     def outcome(self) -> Outcome:
-        return Outcome([move.moved(self.begun) for move in self.moves], micros_of(time.monotonic() - self.begun))
+        """What came of it. A run that is stopped before it opens has taken no time."""
+        taken = max(0.0, time.monotonic() - self.begun)
+        return Outcome([move.moved(self.begun) for move in self.moves], micros_of(taken))
 
 
 def expect_ready(options: argparse.Namespace, steps: list[Step], ways: dict[str, Way], status: int) -> None:

@@ -151,14 +151,16 @@ def is_locked(path):
 class Pending:
     """A file that is written under another name, only for its owner, and takes its own name when it is whole.
 
-    The path - is standard output, to which all is copied when it is whole.
+    The path - is standard output, to which all is copied when it is whole. So it is to what is there and is no file, as
+    a pipe or /dev/null: a file with its name would be in its place. A link stays one.
     """
 
     def __init__(self, path):
         if os.path.isdir(path):
             raise IsADirectoryError(errno.EISDIR, os.strerror(errno.EISDIR), path)
         self.path = path
-        folder, name = os.path.split(os.path.abspath(path)) if path != "-" else (None, "trace")
+        self.is_copied = path == "-" or os.path.exists(path) and not os.path.isfile(path)
+        folder, name = (None, "trace") if self.is_copied else os.path.split(os.path.realpath(path))
         try:
             self.descriptor, self.hidden = tempfile.mkstemp(prefix=f".{name}.", suffix=".part", dir=folder)
         except OSError as fault:
@@ -180,14 +182,16 @@ class Pending:
             left = left[os.write(self.descriptor, left) :]
 
     def finish(self):
-        if self.path == "-":
-            with open(self.hidden, "rb") as file:
-                shutil.copyfileobj(file, sys.stdout.buffer)
-            sys.stdout.buffer.flush()
+        if self.is_copied:
+            is_output = self.path == "-"
+            to = contextlib.nullcontext(sys.stdout.buffer) if is_output else open(self.path, "wb", buffering=0)
+            with open(self.hidden, "rb") as file, to as stream:
+                shutil.copyfileobj(file, stream)
+                stream.flush()
         else:
             os.close(self.descriptor)
             self.descriptor = None
-            os.rename(self.hidden, self.path)
+            os.rename(self.hidden, os.path.realpath(self.path))
 
     def discard(self):
         """Takes the unfinished file away. After finish() it does nothing."""

@@ -42,6 +42,8 @@ from precopy_tools.refusals import Refused
 PROGRAM = places.program("precopy-view")
 UNKNOWN = 4
 STATUSES = {"yes": 0, "no": 3, "unknown": UNKNOWN, "uncertain": 5}
+# Of several plans the first of these counts.
+IN_ORDER = (1, 3, UNKNOWN, 5, 0)
 
 
 def options_of(given: list[str]) -> argparse.Namespace:
@@ -180,7 +182,7 @@ def predict_each(options: argparse.Namespace, paths: list[str]) -> int:
         statuses.add(status)
     if options.picture:
         write_picture(options, found)
-    return 1 if 1 in statuses else max(statuses)
+    return next(status for status in IN_ORDER if status in statuses)
 
 
 def write_picture(options: argparse.Namespace, starts: list[day_chart.Start]) -> None:

@@ -6,7 +6,7 @@ import socket
 import struct
 import time
 
-SECONDS = 20
+SECONDS, REST = 20, 0.05
 # An answer is one line, and no answer that is asked for here is nearly as long.
 MOST_BYTES = 16 << 20
 
@@ -47,12 +47,13 @@ class Client:
     """One connection. QEMU serves one client at a time, so keep it no longer than it is needed."""
 
     def __init__(self, path, seconds=SECONDS):
-        self.path, self.seconds, self.rest, self.maker = path, seconds, bytearray(), None
-        self.socket = socket.socket(socket.AF_UNIX)
+        self.path, self.seconds, self.rest, self.maker, self.socket = path, seconds, bytearray(), None, None
         try:
+            self.socket = socket.socket(socket.AF_UNIX)
             self._greet()
         except (OSError, ValueError, Fault) as fault:
-            self.socket.close()
+            if self.socket:
+                self.socket.close()
             raise self._no_monitor(fault) from fault
 
     def _no_monitor(self, fault):
@@ -75,9 +76,20 @@ class Client:
             f"nobody else has this socket: QEMU{f', process {maker},' if maker else ''} does not answer; is it stopped?"
         )
 
-    def _greet(self):
+    def _connect(self):
+        """Has a place in the queue of the socket. The system does not wait for one, and so it is tried again."""
+        end = time.monotonic() + self.seconds
         self.socket.settimeout(self.seconds)
-        self.socket.connect(self.path)
+        while True:
+            try:
+                return self.socket.connect(self.path)
+            except BlockingIOError as fault:
+                if time.monotonic() > end:
+                    raise TimeoutError(f"no answer within {self.seconds:g} s") from fault
+            time.sleep(REST)
+
+    def _greet(self):
+        self._connect()
         self.maker = self.process()
         self._next("QMP")
         self.ask("qmp_capabilities")
@@ -126,6 +138,12 @@ class Client:
         except (OSError, ValueError) as fault:
             raise Fault(f"{self.path}: {command}: {getattr(fault, 'strerror', None) or fault}") from fault
         return returned(self.path, command, answer)
+
+    def object_of(self, command):
+        """What a question is answered that QEMU answers with an object."""
+        if not is_object(told := self.ask(command)):
+            raise Fault(f"{self.path}: {command}: an answer that is no object")
+        return told
 
     def process(self):
         """The process that made the socket: QEMU, if it was not handed to it. None if it is in another namespace."""

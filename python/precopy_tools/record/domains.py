@@ -15,17 +15,23 @@ from precopy_tools.qemu import qmp
 SECONDS = 60
 
 
-def virsh(*words: str) -> str:
+def environment() -> dict[str, str]:
+    """That of virsh: its words are read here, so it says them in English, whatever the user's language is."""
+    return {**os.environ, "LC_ALL": "C.UTF-8", "LANGUAGE": "C"}
+
+
+def virsh(*words: str, seconds: float = SECONDS) -> str:
     """What virsh prints, or its complaint."""
     command = ["virsh", "--quiet", *words]
+    how = {"stdin": subprocess.DEVNULL, "capture_output": True, "text": True, "errors": "replace"}
     try:
-        done = subprocess.run(
-            command, stdin=subprocess.DEVNULL, capture_output=True, text=True, errors="replace", timeout=SECONDS
-        )
+        done = subprocess.run(command, env=environment(), timeout=seconds, **how)
     except FileNotFoundError as fault:
         raise qmp.Fault("there is no virsh on the path: the package libvirt-clients has it") from fault
+    except OSError as fault:
+        raise qmp.Fault(f"virsh {words[0]}: {fault.strerror}") from fault
     except subprocess.TimeoutExpired as fault:
-        raise qmp.Fault(f"virsh {words[0]}: no answer within {SECONDS} s") from fault
+        raise qmp.Fault(f"virsh {words[0]}: no answer within {seconds:g} s") from fault
     if done.returncode:
         told = done.stderr.strip().removeprefix("error: ").replace("\nerror: ", ": ") or f"status {done.returncode}"
         raise qmp.Fault(f"virsh {words[0]}: {told}")

@@ -5,6 +5,7 @@ is gone, while a look through the mapping itself would end this process. A page 
 would give it some.
 """
 
+import contextlib
 import ctypes
 import errno
 import mmap
@@ -71,10 +72,15 @@ class ProcessPages:
 
     def __init__(self, process: int):
         self.process = process
-        self.descriptor, self.pagemap, self.stat = (
-            os.open(f"/proc/{process}/{name}", os.O_RDONLY | os.O_CLOEXEC) for name in ("mem", "pagemap", "stat")
-        )
+        with contextlib.ExitStack() as opened:
+            self.descriptor, self.pagemap, self.stat = (self._open(name, opened) for name in ("mem", "pagemap", "stat"))
+            self.opened = opened.pop_all()
         self.faults: tuple[bytes, ...] = ()
+
+    def _open(self, name: str, opened: contextlib.ExitStack) -> int:
+        descriptor = os.open(f"/proc/{self.process}/{name}", os.O_RDONLY | os.O_CLOEXEC)
+        opened.callback(os.close, descriptor)
+        return descriptor
 
     def page(self, place: int) -> bytes:
         try:
@@ -102,8 +108,7 @@ class ProcessPages:
         return bool(entry[7] & PRESENT_OR_SWAPPED)
 
     def close(self) -> None:
-        for descriptor in (self.descriptor, self.pagemap, self.stat):
-            os.close(descriptor)
+        self.opened.close()
 
 
 class Block:

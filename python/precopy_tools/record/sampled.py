@@ -1,5 +1,6 @@
 """Recordings of a sample of a guest's pages: which pages were written in each interval, and none of their bytes."""
 
+import contextlib
 import os
 import time
 
@@ -23,8 +24,11 @@ class SampledGuest:
         else:
             self.ranges = source.ranges or mappings.chosen(source.process, ["all"])
             self.pages = page_values.ProcessPages(source.process)
-        self.numbers = samples.draw(self.count, self._wanted(), self.seed)
-        self.places = mappings.places_of(self.ranges, self.numbers)
+        with contextlib.ExitStack() as opened:
+            opened.callback(self.pages.close)
+            self.numbers = samples.draw(self.count, self._wanted(), self.seed)
+            self.places = mappings.places_of(self.ranges, self.numbers)
+            opened.pop_all()
 
     def _open_file(self, path):
         descriptor = os.open(path, os.O_RDONLY | os.O_CLOEXEC)
@@ -76,12 +80,12 @@ class SampleRecorder:
     def __init__(self, guest, writer, options, watch=None):
         """`watch` says whether the guest runs, if that is asked elsewhere."""
         self.guest, self.options = guest, options
-        self.tracker, self.method, self.cause = guest.tracker()
-        try:
+        with contextlib.ExitStack() as opened:
+            opened.callback(guest.pages.close)
+            self.tracker, self.method, self.cause = guest.tracker()
+            opened.callback(self.tracker.close)
             self.nonzero, self.counted = guest.nonzero()
-        except BaseException:
-            self.tracker.close()
-            raise
+            self.opened = opened.pop_all()
         self.first_nonzero, self.is_later = 0, False
         self.unwritten, self.carried = [], []
         self.looked_at = time.monotonic()
@@ -192,5 +196,4 @@ class SampleRecorder:
 
     def close(self):
         self.watch.end()
-        self.tracker.close()
-        self.guest.pages.close()
+        self.opened.close()

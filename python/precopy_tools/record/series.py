@@ -56,8 +56,10 @@ class Series:
         return self.path(self.last.strftime(STAMP))
 
     def prune(self) -> None:
-        """Removes the earliest segments, so that the number that is kept is left."""
-        stamps = self.stamps()
+        """Removes the earliest segments, so that the number that is kept is left. One with a later name than the newest
+        one was named by a clock that was ahead, and goes first."""
+        newest = self.last.strftime(STAMP)
+        stamps = sorted(self.stamps(), key=lambda stamp: (stamp <= newest, stamp))
         for stamp in stamps[: -self.keep] if self.keep else []:
             for path in (self.path(stamp), samples.path_beside(self.path(stamp))):
                 with contextlib.suppress(FileNotFoundError):

@@ -13,7 +13,7 @@ from precopy_tools.qemu import qmp
 from precopy_tools.quantities import micros_of, time_text
 from precopy_tools.record import domains
 
-EVERY, SECONDS, LAST_SECONDS = 1.0, 1.0, 3.0
+EVERY, SECONDS, VIRSH_SECONDS, LAST_SECONDS = 1.0, 1.0, 5.0, 3.0
 STOPPED, ENDED = frozenset("Tt"), frozenset("ZX")
 
 
@@ -36,7 +36,7 @@ def told_by(socket: str | None, domain: str | None) -> bool | None:
     """Whether QEMU or libvirt says that the guest runs; None if neither is asked or answers."""
     with contextlib.suppress(qmp.Fault):
         if domain:
-            return domains.virsh("domstate", "--domain", domain).strip() == "running"
+            return domains.virsh("domstate", "--domain", domain, seconds=VIRSH_SECONDS).strip() == "running"
         if socket:
             with qmp.Client(socket, SECONDS) as client:
                 return runs_by(client)

@@ -7,19 +7,28 @@ import stat
 
 from precopy_tools.qemu import qmp
 from precopy_tools.record import domains, watching
-from precopy_tools.watch.names import Names, is_name, name_of
+from precopy_tools.watch.names import Names, Odd, is_name, name_of
 
 # How many monitors are asked at once, so that some that hang do not hold up all.
 AT_ONCE = 8
 SECONDS = 1.0
+# How long virsh may take. A service that is ended waits for it, and is killed if that takes too long.
+LIST_SECONDS = 10.0
 
 
 class Libvirt:
     """The guests of libvirt, by two calls of virsh for all of them."""
 
+    def __init__(self):
+        self.odd = Odd()
+
     def look(self) -> dict[str, bool | None]:
         """Each guest that is not shut off, and whether it runs; or a Fault."""
-        active, running = (domains.virsh("list", "--name", *words).splitlines() for words in ([], ["--state-running"]))
+        active, running = (
+            domains.virsh("list", "--name", *words, seconds=LIST_SECONDS).splitlines()
+            for words in ([], ["--state-running"])
+        )
+        self.odd.tell([name for name in active if name and not is_name(name)])
         return {name: name in running for name in active if is_name(name)}
 
     def words(self, name: str) -> list[str]:
@@ -32,7 +41,7 @@ class Monitors:
     are several of that name, by folders of its path too."""
 
     def __init__(self, pattern: str):
-        self.pattern, self.names, self.sockets = pattern, Names(), {}
+        self.pattern, self.names, self.odd, self.sockets = pattern, Names(), Odd(), {}
 
     def look(self) -> dict[str, bool | None]:
         """Each guest whose monitor answers, and whether it runs. One that hangs is there, and nothing is known."""
@@ -45,7 +54,9 @@ class Monitors:
 
     def _paths(self) -> list[str]:
         """The sockets, each once, by whichever of its paths comes first."""
-        paths = [path for path in sorted(glob.glob(self.pattern)) if is_socket(path) and is_name(name_of(path))]
+        sockets = [path for path in sorted(glob.glob(self.pattern)) if is_socket(path)]
+        self.odd.tell([path for path in sockets if not is_name(name_of(path))])
+        paths = [path for path in sockets if is_name(name_of(path))]
         return [*{(name_of(path), os.path.realpath(path)): path for path in reversed(paths)}.values()][::-1]
 
     @staticmethod

@@ -83,20 +83,27 @@ class File:
         return found.st_mtime_ns, found.st_ino, found.st_size
 
     def _read(self) -> Host:
-        with open(self.path, "rb") as file:
-            return parsed(self.path, file.read())
+        return parsed(self.path, refusals.read(self.path))
 
     def now(self) -> Host:
         try:
             state = self._state()
             if state != self.seen:
-                self.seen = state
-                self.host = self._read()
-                print(f"limits: {self.path} is read again", flush=True)
+                self._read_again(state)
             self.fault = ""
         except (OSError, Refused) as fault:
             self._complain(traces.told(fault))
         return self.host
+
+    def _read_again(self, state: tuple[int, int, int]) -> None:
+        """What is refused is not read twice; what could not be read is tried again."""
+        try:
+            self.host = self._read()
+        except Refused:
+            self.seen = state
+            raise
+        self.seen = state
+        print(f"limits: {self.path} is read again", flush=True)
 
     def _complain(self, told: str) -> None:
         if told != self.fault:

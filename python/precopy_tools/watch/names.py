@@ -26,6 +26,19 @@ def names_of(path: str, depth: int) -> list[str]:
     return ["-".join([*each, part]) for part in (name_of(path), last) for each in in_front]
 
 
+class Odd:
+    """Guests that are not watched, since they are called as no file can be. Each is told once while it is there."""
+
+    def __init__(self):
+        self.told: set[str] = set()
+
+    def tell(self, there: list[str]) -> None:
+        for each in there:
+            if each not in self.told:
+                version.complain("watch", f"{each!r}: not watched: a record cannot have this name")
+        self.told = set(there)
+
+
 class Names:
     """The names of guests that are there. One keeps its name until it has gone, whoever else comes."""
 

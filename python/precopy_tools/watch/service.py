@@ -47,12 +47,14 @@ class Service:
         self.guests: dict[str, Guest] = {}
         self.running: dict[str, bool | None] = {}
         self.count, self.begun, self.fault, self.unwritten = 0, time.time(), None, None
+        self.is_asked = False  # whether the host was asked for its guests
         self.predictor = Predictor(asked.program, lambda name: limits.now().of(name), OF_PREDICTIONS * asked.processor)
         self.pacing = Pacing(asked.recorder_words, asked.segment, asked.look, self.interval)
 
     def run(self) -> None:
-        """Until a signal comes."""
+        """Until a signal comes. A look may take long, so what an earlier service told ends before the first."""
         try:
+            self.write()
             while self.stopping.by is None:
                 begun = time.monotonic()
                 self.look()
@@ -70,7 +72,7 @@ class Service:
 
     def look(self) -> None:
         """Looks for guests once: begins those that have come, and ends those that have gone."""
-        host = self.limits.now()
+        host, self.is_asked = self.limits.now(), True
         try:
             found = self.host.look()
         except qmp.Fault as fault:
@@ -112,9 +114,9 @@ class Service:
         found = [
             line for guest in self.guests.values() for line in metrics.of_guest(guest, self.predictor.of(guest.name))
         ]
+        of_host = {"precopy_watch_guests": len(self.guests), "precopy_watch_host_up": float(self.fault is None)}
         values = {
-            "precopy_watch_guests": len(self.guests),
-            "precopy_watch_host_up": float(self.fault is None),
+            **(of_host if self.is_asked else {}),
             "precopy_watch_look_interval_seconds": self.interval(),
             "precopy_watch_predictions_total": self.predictor.count,
             "precopy_watch_failed_predictions_total": self.predictor.failures,

@@ -25,10 +25,20 @@ fn put(bytes: &[u8]) -> Result<(), Refused> {
     file(1).write_all(bytes).map_err(|fault| fault.to_string())
 }
 
+/// With two workers and more, one makes the plan while the others count.
 fn report(settings: &Settings) -> Result<(), Refused> {
     let (sizes, touches) = Touches::read()?;
-    let mut text = tables::tables(sizes, &touches, settings);
-    Planner::new(&touches, None).plan(settings).lines(&mut text);
+    let plan = || Planner::new(&touches, None).plan(settings);
+    let (mut text, plan) = if settings.workers == 1 {
+        (tables::tables(sizes, &touches, settings, 1), plan())
+    } else {
+        std::thread::scope(|scope| {
+            let plan = scope.spawn(plan);
+            let text = tables::tables(sizes, &touches, settings, settings.workers - 1);
+            (text, plan.join().expect("a plan ends"))
+        })
+    };
+    plan.lines(&mut text);
     put(&text.0)
 }
 

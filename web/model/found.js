@@ -1,0 +1,17 @@
+// What is found of what was asked: its value, or why there is none.
+
+import { ControlRefusal } from "./asking.js";
+import { WorkerEnded } from "../engine/planner-client.js";
+import { Refusal } from "../engine/planner.js";
+
+/** Runs something, and has its value, or the refusal that it throws. */
+export async function foundBy(act) {
+  try {
+    return { value: await act() };
+  } catch (error) {
+    if (error instanceof Refusal || error instanceof ControlRefusal || error instanceof WorkerEnded) {
+      return { refusal: error };
+    }
+    throw error;
+  }
+}
