@@ -30,11 +30,11 @@ BUILT = {
     "library": "out/library",
     "page": "out/browser_planner.wasm",
 }
-GUESTS = "examples/guests/mid.light.pcwt examples/guests/sqlite.light.pcwt"
 BUG = "examples/left_out.py examples/gzip.pcwt --mended"
-PLAN = "-Iinclude examples/c/plan.c out/library/libprecopy.a"
+PLAN = "cc -Iinclude examples/c/plan.c out/library/libprecopy.a -o plan && ./plan 500 4000 10 < examples/gzip.pcwt"
 RUST = "cargo run --offline --manifest-path examples/rust/Cargo.toml < examples/gzip.pcwt"
 THIN = "tools/thin examples/guests/mid.light.pcwt quarter.light.pcwt --one-in 4 --start 1000"
+EVACUATE = "tools/evacuate examples/guests/sqlite.light.pcwt --link 10Gbit"
 CHECK = "tools/check examples/a.pcwt examples/a.stream --tick 2000"
 
 # The tools that some of a command's words need.
@@ -62,7 +62,7 @@ COMMANDS = (
     FirstRun("make page", ("page",), "out/precopy.html"),
     FirstRun("make js", ("page",), "out/js/planner.wasm"),
     FirstRun("make docs", (), "docs/INDEX.md"),
-    FirstRun(f"make lib && cc {PLAN} -o plan && ./plan examples/gzip.pcwt > said", ("library",), "said"),
+    FirstRun(f"make lib && {PLAN} > said", ("library",), "said"),
     FirstRun("make lib && cargo test --offline --manifest-path bindings/rust/Cargo.toml && touch done", (), "done"),
     FirstRun("make lib && python3 -m venv of && of/bin/pip install ./bindings/python && touch done", (), "done"),
     FirstRun(f"make lib && PYTHONPATH=bindings/python {BUG} > said", ("library",), "said"),
@@ -74,7 +74,7 @@ COMMANDS = (
     FirstRun("tools/release --after 100 examples/gzip.pcwt released.pcwt", (), "released.pcwt"),
     FirstRun(THIN, (), "quarter.light.pcwt"),
     FirstRun("make && tools/predict examples/guests/mid.light.pcwt --link 1Gbit > said; [ $? -le 3 ]", (), "said"),
-    FirstRun(f"make && tools/evacuate {GUESTS} --link 10Gbit > said", ("precopy_schedule",), "said"),
+    FirstRun(f"make && {EVACUATE} > said", ("precopy_schedule",), "said"),
 )
 
 
