@@ -99,7 +99,7 @@ fn count_part(pages: usize, touches: &Touches, part: &[Piece], before: &[&[u32]]
     (part.iter().map(of_piece).collect(), seen)
 }
 
-/// Does a work for each number below a limit, all but the last beside the calling thread.
+/// Does some work for each number below a limit: the last on this thread, and the others beside it.
 fn beside<T: Send>(limit: usize, work: impl Fn(usize) -> T + Sync) -> Vec<T> {
     scope(|scope| {
         let work = &work;
