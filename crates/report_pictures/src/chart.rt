@@ -170,7 +170,8 @@ fn push_chart(
     rounds_axis.push_labels(text, scale, rates.bottom())?;
     push_stop(text, plan)?;
     push_units_if(text, scale, plan)?;
-    end_picture(text)
+    end_picture(text)?;
+    Ok(())
 }
 
 /// Returns a report as a picture, an SVG document: the pages of each window, and below them, on an axis of their own,

@@ -347,7 +347,8 @@ fn push_chart(
     axis.push_labels(text, &known, 670)?;
     push_chosen(text, scale, "Best start at ", 746, &chosen.best)?;
     push_chosen(text, scale, "Worst start at ", 768, &chosen.worst)?;
-    end_picture(text)
+    end_picture(text)?;
+    Ok(())
 }
 
 /// Returns what a migration costs from each start as a picture, an SVG document: the pages of each window, and below
