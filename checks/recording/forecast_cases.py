@@ -345,6 +345,18 @@ def converted(_, folder):
         expect(warm.text(5) == asked.text(5), f"{base}: {list(traces.read(warm.text(5)).records())}")
 
 
+def limits_in_pages(_, __):
+    """Below the threshold are as many pages as the link sends within the limit, and the rate is the nearest one."""
+    for draw in harness.drawn("limits in pages", range(2000)):
+        tick, downtime = draw.choice([100, 1000, draw.randrange(1, 5000)]), 1000 * draw.randrange(1, 3000)
+        bandwidth = draw.randrange(1, 300) * draw.choice([4_096_000, 1 << 20, 125_000])
+        rate, threshold = plans.settings_of(bandwidth, downtime / 1e6, tick / 1e6)
+        expect(2 * abs(4_096_000 * rate - bandwidth * tick) <= 4_096_000, f"{bandwidth} by {tick} us: rate {rate}")
+        sent, fits = downtime * rate, 1000 * tick * (threshold - 1)
+        good = fits <= sent < fits + 1000 * tick or threshold == plans.MOST_THRESHOLD and fits <= sent
+        expect(good, f"{threshold} is not what {bandwidth} bytes a second send in {downtime} us, by {tick} us, and one")
+
+
 def bias_over_seeds(program, folder):
     """The mean of the plans of 200 samples is that of the whole trace, within two of its standard errors."""
     path = os.path.join(folder, "whole.pcwt")
