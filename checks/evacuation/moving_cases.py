@@ -234,7 +234,7 @@ def expect_report(path: str, told: dict) -> str:
     for group, move in zip(groups, moves):
         was, bars = runs[move["guest"]], bars_in(group, scale)
         kinds = [bar[0] for bar in bars]
-        real = {"moved": ["moving", "down"], "not begun": []}.get(was["state"], ["missed"])
+        real = {"moved": ["moving", "down"], "not begun": [], "lost": ["lost"]}.get(was["state"], ["missed"])
         expect(kinds == ["planned", "down", *real], f"{was}: {bars}")
         pairs = [(bars[0], move)] + ([(bars[2], was)] if real else [])
         for (_, begin, end, _), wanted in pairs:
@@ -297,8 +297,10 @@ def lost_answers(programs: Programs, folder: str) -> None:
         place = os.path.join(folder, str(number))
         os.makedirs(place)
         log, guests = four_monitors(place, idle=how)
-        words = [*by_qmp(place), "--json", f"{folder}/told.json"]
+        words = [*by_qmp(place), "--json", f"{folder}/told.json", "--picture", f"{folder}/run.svg"]
         text, fault = run_of(programs, *records, *words, status=0 if state == "moved" else 5)
+        expect_report(f"{folder}/run.svg", document_of(folder))
+        expect((">not known<" in read_text(folder, "run.svg")) == (state == "lost"), f"{how}: another key")
         told = {each["guest"]: each["state"] for each in document_of(folder)["run"]["guests"]}
         expect(told["idle"] == state and said in fault, f"{how}: {told}, {fault}")
         expect(state != "lost" or "it runs here" not in fault and ": look at both hosts" in fault, fault)
