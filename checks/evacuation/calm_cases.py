@@ -302,8 +302,9 @@ class Waiting:
         time.sleep(max(0.0, until - time.time()) if until > 1e9 else 0.05)
 
 
-def steps_in(seconds: float) -> tuple[list[lines.Step], float]:
-    """The steps of a schedule that opens in a second: two guests in one slot, of which the second one is held back."""
+def steps_in(seconds: float, length: float = 60) -> tuple[list[lines.Step], float]:
+    """The steps of a schedule that opens in a second, for so long: two guests in one slot, of which the second one is
+    held back."""
     opens = time.time() + 1
     cost = Cost(1, float(RATE), 500_000, 1 << 20, 5000, 500_000, 500_000, 1 << 20, "yes", True, "")
     wait = micros(seconds)
@@ -312,10 +313,11 @@ def steps_in(seconds: float) -> tuple[list[lines.Step], float]:
         Placed(Guest(name, "", "", "", Wanted(0.3), {}, {}), cost._replace(hold=hold), start, start + 500_000, 0)
         for name, start, hold in rows
     ]
-    return lines.steps_of(moves, {}, opens), opens
+    return lines.steps_of(moves, {}, opens, opens + length), opens
 
 
-def expect_begun(begun: dict[str, float], opens: float, hold: float) -> None:
+def expect_begun(log: list[monitors.Event], opens: float, hold: float) -> None:
+    begun = {event.guest: event.time for event in log if event.what == "begins"}
     expect(set(begun) == {"web", "db"}, f"{begun}")
     late = begun["web"] - opens, begun["db"] - opens - 0.5 - hold
     expect(min(late) >= 0, f"{begun} after {opens}")
@@ -336,10 +338,16 @@ def held_in_scripts(_: Programs, folder: str) -> None:
         os.chmod(script, 0o700)
         done = subprocess.run([script], env=environment, capture_output=True, text=True, timeout=60)
         expect(done.returncode == 0, f"{done}")
-        events = log if kind == "qmp" else monitors.events_in(path)
-        expect_begun({event.guest: event.time for event in events if event.what == "begins"}, opens, 2)
+        expect_begun(log if kind == "qmp" else monitors.events_in(path), opens, 2)
         text = read_text(script)
         expect_stopped(script, text, steps[0].not_before, environment)
+        for guest in guests:
+            guest.state, guest.migration = "running", None
+        write_file(text.replace(str(steps[0].closes), "1").replace(str(int(steps[0].closes)), "1"), script)
+        done = subprocess.run([script], env=environment, capture_output=True, text=True, timeout=60)
+        expect(
+            done.returncode == 1 and "the window has ended" in done.stderr and "begins" not in done.stdout, f"{done}"
+        )
 
 
 def expect_stopped(script: str, text: str, time_of_first: int, environment: dict) -> None:
@@ -363,27 +371,36 @@ def expect_stopped(script: str, text: str, time_of_first: int, environment: dict
 
 
 def held_in_runs(_: Programs, folder: str) -> None:
-    """A run holds guests back until their times; one that is stopped meanwhile begins none."""
-    for is_stopped in (False, True):
-        place = os.path.join(folder, str(is_stopped))
+    """A run holds guests back until their times; one that is stopped meanwhile begins none, and neither does one from
+    the end of its window on."""
+    for is_stopped, length in ((False, 60), (True, 60), (False, 2.4)):
+        place = os.path.join(folder, f"{is_stopped}{length}")
         os.makedirs(place)
         log: list[monitors.Event] = []
         own = {name: Way(monitors.Monitor(place, name, log, 0.2).path, "tcp:b:4444") for name in ("web", "db")}
-        steps, opens = steps_in(2)
+        steps, opens = steps_in(2, length)
         moves = [run.Moving(step, movers.QmpMover(step, own[step.move.guest.name]), None) for step in steps]
         stopping = Waiting()
         going = run.Run(moves, stopping, opens)
         stopping.by = "SIGTERM" if is_stopped else None
-        with contextlib.redirect_stdout(io.StringIO()):
+        with contextlib.redirect_stdout(io.StringIO()) as told:
             going.perform()
         outcome = going.outcome()
         states = [move.state for move in outcome.moves]
+        if length < 60:
+            expect((states, outcome.status()) == (["moved", "not begun"], 5), f"{states}, {log}")
+            expect("\nthe window has ended: no other guest begins\n" in told.getvalue(), told.getvalue())
+            expect(outcome.moves[1].document()["why"] == "the window had ended", f"{outcome.moves[1]}")
+            # Nor does a guest whose window ends while its monitor is asked.
+            moves[1].begin()
+            expect(moves[1].seen.why == "the window has ended" and len(log) == 2, f"{moves[1].seen}, {log}")
+            continue
         if is_stopped:
             expect(states == ["not begun"] * 2 and not log, f"{states}, {log}")
             expect(outcome.time == 0 and ", in 0 s; " in outcome.title(), outcome.title())
             continue
         expect(states == ["moved"] * 2, f"{states}")
-        expect_begun({event.guest: event.time for event in log if event.what == "begins"}, opens, 2)
+        expect_begun(log, opens, 2)
         starts = [move.start / 1e6 for move in outcome.moves]
         expect(-0.1 < starts[0] and 2.4 < starts[1], f"{starts}: not from the opening on")
         expect_in_time(starts[0] < 3 and starts[1] < 6, f"{starts}: not from the opening on")
