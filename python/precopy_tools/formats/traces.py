@@ -149,7 +149,8 @@ def is_locked(path):
 
 
 class Pending:
-    """A file that is written under another name, only for its owner, and takes its own name when it is whole.
+    """A file that is written under another name, only for its owner, and takes its own name when it is whole and on the
+    disk: not even a crash of the host leaves a part under that name.
 
     The path - is standard output, to which all is copied when it is whole. So it is to what is there and is no file, as
     a pipe or /dev/null: a file with its name would be in its place. A link stays one.
@@ -189,9 +190,17 @@ class Pending:
                 shutil.copyfileobj(file, stream)
                 stream.flush()
         else:
-            os.close(self.descriptor)
-            self.descriptor = None
+            try:
+                os.fsync(self.descriptor)
+            except OSError as fault:
+                raise OSError(fault.errno, fault.strerror, self.path) from fault
             os.rename(self.hidden, os.path.realpath(self.path))
+            with contextlib.suppress(OSError):
+                folder = os.open(os.path.dirname(self.hidden), os.O_RDONLY)
+                try:
+                    os.fsync(folder)
+                finally:
+                    os.close(folder)
 
     def discard(self):
         """Takes the unfinished file away. After finish() it does nothing."""
