@@ -208,6 +208,18 @@ def clocks_that_were_ahead(_, folder):
     expect(kept == {*ahead[2:], *run.told()} if len(run.told()) == 1 else kept == {*run.told()[-2:]}, f"{kept}")
 
 
+def closed_terminals(_, folder):
+    """A terminal that is closed ends a series as SIGTERM does, but for one that nohup has begun."""
+    memory = write_file(bytes(PAGES * PAGE), folder, "memory")
+    for by in signal.SIG_DFL, signal.SIG_IGN:
+        before = {"preexec_fn": lambda by=by: signal.signal(signal.SIGHUP, by)}
+        run = Segments(folder, ["--file", memory], "--for", "2200ms", **before)
+        run.end(signal.SIGHUP)
+        expect(run.status == 0 and not run.faults, f"{by!r}: {run.status}, {run.faults!r}")
+        expect((len(run.told()) > 1) == (by == signal.SIG_IGN), f"{by!r}: {run.output!r}")
+    expect_no_parts(folder)
+
+
 def guest_of_a_series_ends(_, folder):
     with Pages("private") as pages:
         run = Segments(folder, pages.source)
