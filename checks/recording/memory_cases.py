@@ -3,6 +3,7 @@
 import itertools
 import json
 import os
+import re
 import shutil
 import signal
 import socket
@@ -20,11 +21,14 @@ from checks.lib.harness import cases_of, expect
 from checks.lib.tally import expect_in_time
 from checks.recording import known_guest
 from checks.recording.recorder_runs import RECORD, SECONDS, TOP, read_until_recording
-from checks.recording.sample_runs import Drawn
+from checks.recording.sample_runs import Drawn, Pages
 from precopy_dev.files import write_file
+from precopy_tools.evacuate import gathering
+from precopy_tools.evacuate.costs import Guest, Wanted
 from precopy_tools.formats import samples, traces
 from precopy_tools.qemu import qmp
-from precopy_tools.record import guest_memory, mappings, series
+from precopy_tools.record import guest_memory, mappings, series, sources
+from precopy_tools.refusals import Refused
 
 PAGE = 4096
 KINDS = ("private", "memfd", "file")
@@ -173,6 +177,27 @@ def plugged_in_meanwhile(_, folder):
         for each in paths:
             os.unlink(each)
             os.unlink(samples.path_beside(each))
+
+
+def processes_of_one_number(_, __):
+    """A record says when its process began, as after a restart another guest may have its number. Two records that do
+    not are refused as of one guest, or of two."""
+    now = time.clock_gettime(time.CLOCK_BOOTTIME)
+    with Pages("private") as pages:
+        of = sources.of_words(pages.process.pid, [pages.range], True).of
+    begun = re.search(r" since tick (\d+) of boot [0-9a-f]{8}(?=, mapping )", of)
+    expect(begun and -0.02 < int(begun[1]) / os.sysconf("SC_CLK_TCK") - now < SECONDS, f"{of} after {now} s")
+    old, fault = of.replace(begun[0], ""), ""
+    for texts, told in (
+        ((of, of.replace(f" {begun[1]} ", " 1 ")), ""),
+        ((of, of), f"0 and 1 are two records of one guest: {of}"),
+        ((old, old), f"0 and 1 are two records of one guest: {old}; or of two, since they do not say when that began"),
+    ):
+        try:
+            gathering.expect_once(Guest(*f"{n}{n}", text, f"{n}", Wanted(1), {}, {}) for n, text in enumerate(texts))
+        except Refused as refused:
+            fault = str(refused)
+        expect(fault == told, f"{fault!r} in place of {told!r}")
 
 
 def never_the_guest(_, folder):
