@@ -20,6 +20,12 @@ RECORD = os.path.join(TOP, "tools", "record")
 SECONDS = 15
 
 
+def recorder(cause=None):
+    """The words of tools/record, as it is, or as it is on a system that differs from this one."""
+    stand_in = [sys.executable, "-B", "-m", "checks.recording.stand_in", cause, "precopy_tools.record.command"]
+    return stand_in if cause else [RECORD]
+
+
 class Watched:
     """A process of its own that ends with the block that watches it."""
 

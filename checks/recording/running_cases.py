@@ -8,7 +8,6 @@ import shutil
 import signal
 import socket
 import subprocess
-import sys
 import tempfile
 import time
 
@@ -16,7 +15,7 @@ from checks.lib.harness import cases_of
 from checks.lib.tally import LeftOut, expect_in_time, module, need
 from checks.recording import forecast_cases
 from checks.recording.memory_cases import Known
-from checks.recording.recorder_runs import RECORD, SECONDS, TOP, Writing, expect, read_until_recording
+from checks.recording.recorder_runs import RECORD, SECONDS, TOP, Writing, expect, read_until_recording, recorder
 from checks.recording.sample_runs import Drawn, Pages
 from precopy_dev.files import read_json, read_text, write_file
 from precopy_tools.evacuate import settings
@@ -126,16 +125,9 @@ def named_by_their_begin(_, folder):
     with Pages("private") as pages:
         words = ["--segment", "60s", "--for", "1s"]
         Drawn(folder, pages.source, words[2:], cause="slow_count").end()
-        stand_in = [
-            sys.executable,
-            "-B",
-            "-m",
-            "checks.recording.stand_in",
-            "slow_count",
-            "precopy_tools.record.command",
-        ]
         path = os.path.join(folder, "slow.light.pcwt")
-        done = subprocess.run([*stand_in, *pages.source, *words, path], capture_output=True, text=True, timeout=60)
+        command = [*recorder("slow_count"), *pages.source, *words, path]
+        done = subprocess.run(command, capture_output=True, text=True, timeout=60)
     expect(done.returncode == 0, f"{done}")
     (found,) = series.Series(path).paths()
     taken = re.sub(r"[-:]|\+00:00", "", sample_in(found)["taken_at"])

@@ -13,9 +13,10 @@ from checks.lib import harness
 from checks.lib.harness import cases_of, expect, waited
 from checks.lib.tally import LeftOut, expect_in_time
 from checks.recording.memory_cases import Known, virsh_in
-from checks.recording.recorder_runs import RECORD, SECONDS, TOP, Started, read_until_recording
+from checks.recording.recorder_runs import RECORD, SECONDS, TOP, Started, read_until_recording, recorder
 from checks.recording.sample_runs import PAGE, PAGES, Pages
 from precopy_dev.files import read_text, write_file
+from precopy_tools.evacuate import records
 from precopy_tools.formats import samples, traces
 from precopy_tools.record import series
 
@@ -38,8 +39,8 @@ OTHERS = (
 class Segments(Started):
     """A run of tools/record that writes a series into a folder."""
 
-    def __init__(self, folder, source, *words, **more):
-        words = [RECORD, *source, "--every", "50ms", "--segment", "1s", *words]
+    def __init__(self, folder, source, *words, cause=None, **more):
+        words = [*recorder(cause), *source, "--every", "50ms", "--segment", "1s", *words]
         super().__init__(folder, words, os.path.join(folder, NAME), **more)
 
     def bytes(self):
@@ -206,6 +207,25 @@ def clocks_that_were_ahead(_, folder):
     expect(run.status == 0 and run.told(), f"{run.status}, {run.faults!r}")
     kept = {name for name in os.listdir(folder) if name.endswith(".pcwt")}
     expect(kept == {*ahead[2:], *run.told()} if len(run.told()) == 1 else kept == {*run.told()[-2:]}, f"{kept}")
+
+
+def clocks_that_are_set(_, folder):
+    """A segment in which a clock is set that was days ahead has its right name, and so have those after it, in order.
+    The last whole one stands for the guest, and no name is given twice."""
+    memory = write_file(bytes(PAGES * PAGE), folder, "memory")
+    run = Segments(folder, ["--file", memory], "--for", "5200ms", cause="clock_ahead")
+    run.end()
+    told, now = run.told(), f"guest.{time.strftime(series.STAMP, time.gmtime())}.z"
+    ahead = [name for name in told if name > now]
+    expect(told == sorted(ahead) + sorted({*told} - {*ahead}), f"{now}: {run.output}")
+    expect_in_time(len(ahead) == 3 and len(told) > 4, f"{now}: {run.output}")
+    paths = [path for path, *_ in segments_in(folder)]
+    expect(len(paths) == len(told) and records.last_of(paths[::-1]).endswith(told[-2]), f"{paths}")
+    write_file("", folder, "other.20261201T110000Z.light.pcwt")
+    other, moments = series.Series(os.path.join(folder, "other.light.pcwt")), ("09T12", "09T11", "01T11", "01T10")
+    names = [os.path.basename(other.path_for(f"2026-12-{at}:00:00+00:00"))[6:-11] for at in moments]
+    wanted = ["20261209T120000Z", "20261209T120001Z", "20261201T110001Z", "20261201T110002Z"]
+    expect(names == wanted, f"{names}")
 
 
 def closed_terminals(_, folder):

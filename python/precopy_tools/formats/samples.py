@@ -41,8 +41,10 @@ def digest(text: bytes) -> str:
     return hashlib.sha256(text).hexdigest()
 
 
-def now() -> str:
-    return datetime.datetime.now(datetime.timezone.utc).isoformat(timespec="seconds")
+def now(ago: float = 0.0) -> str:
+    """What the clock says now, or so many seconds before."""
+    moment = datetime.datetime.now(datetime.timezone.utc) - datetime.timedelta(seconds=ago)
+    return moment.isoformat(timespec="seconds")
 
 
 @dataclasses.dataclass(frozen=True)
