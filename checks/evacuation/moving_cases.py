@@ -22,6 +22,7 @@ from checks.evacuation.cases import (
     steady_guest,
     write_record,
 )
+from checks.lib.harness import cases_of
 from checks.lib.tally import expect_in_time
 from precopy_dev.files import read_text, write_file
 from precopy_tools.evacuate import movers, ways
@@ -97,9 +98,9 @@ def refused_ways(programs: Programs, records: list[str], folder: str) -> None:
         expect(told in fault, f"{fields}: {fault!r}")
 
 
-def script_of(programs: Programs, folder: str, *words: str, status: int = 0) -> str:
+def script_of(built: Programs, folder: str, *words: str, status: int = 0) -> str:
     """The script of --dry-run, as a file that can be run."""
-    text, _ = run_tool(programs, *words, "--dry-run", status=status)
+    text, _ = run_tool(built, *words, "--dry-run", status=status)
     path = write_file(text, folder, "move")
     os.chmod(path, 0o700)
     return path
@@ -446,20 +447,4 @@ def guests_that_stood_still(programs: Programs, folder: str) -> None:
         expect(told == (status == 4), f"{share}: {text}")
 
 
-CASES = (
-    each_its_own_way,
-    scripts_of_virsh,
-    scripts_of_qmp,
-    runs_that_end_well,
-    runs_that_do_not,
-    stopped_runs,
-    lost_answers,
-    moves_of_which_nothing_is_known,
-    what_it_did_not_begin,
-    runs_of_virsh,
-    series_of_guests,
-    some_refused,
-    small_guests_on_fast_links,
-    old_copies,
-    guests_that_stood_still,
-)
+CASES = cases_of(__name__)

@@ -352,8 +352,8 @@ def limits_in_pages(_, __):
         bandwidth = draw.randrange(1, 300) * draw.choice([4_096_000, 1 << 20, 125_000])
         rate, threshold = plans.settings_of(bandwidth, downtime / 1e6, tick / 1e6)
         expect(2 * abs(4_096_000 * rate - bandwidth * tick) <= 4_096_000, f"{bandwidth} by {tick} us: rate {rate}")
-        sent, fits = downtime * rate, 1000 * tick * (threshold - 1)
-        good = fits <= sent < fits + 1000 * tick or threshold == plans.MOST_THRESHOLD and fits <= sent
+        more = downtime * rate - 1000 * tick * (threshold - 1)
+        good = 0 <= more < 1000 * tick or threshold == plans.MOST_THRESHOLD and more > 0
         expect(good, f"{threshold} is not what {bandwidth} bytes a second send in {downtime} us, by {tick} us, and one")
 
 

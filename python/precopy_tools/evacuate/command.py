@@ -163,7 +163,8 @@ def performing(options: argparse.Namespace, settings: Settings, names: list[str]
     found_ways = ways.ways_of(names, options.way, settings.ways, options.port)
     if options.lines == "qmp":
         ways.expect_apart(found_ways, answer.best.at_once)
-    return lines.steps_of(answer.moves, settings.groups(), hour.opens, hour.closes), found_ways
+    closes = hour.opens + hour.window.length if hour.window else 0.0
+    return lines.steps_of(answer.moves, settings.groups(), hour.opens, closes), found_ways
 
 
 def days_of(options: argparse.Namespace, found: Gathered, chosen: Chosen, answer: Answer, hour: Hour):

@@ -33,11 +33,6 @@ class Hour(NamedTuple):
     opens: float = 0.0
     window: Window | None = None
 
-    @property
-    def closes(self) -> float:
-        """When the window ends, in Unix time; 0 without one."""
-        return self.opens + self.window.length if self.window else 0.0
-
     def of(self, micros: int) -> float:
         """The second of the day of a move so long after the opening. Without a window all are planned by one hour."""
         return (self.opens + (micros / 1e6 if self.window else 0)) % DAY

@@ -1,10 +1,8 @@
 """How one guest is moved and watched: by QEMU's monitor, or by virsh. No mover touches what it did not begin."""
 
-import math
 import re
 import subprocess
 import tempfile
-import time
 from typing import NamedTuple
 
 from precopy_tools.evacuate.lines import Step, mebibytes, milliseconds, qmp_commands
@@ -38,12 +36,6 @@ def with_share(move: Placed, share: int) -> Placed:
     return move._replace(cost=move.cost._replace(share=share))
 
 
-def expect_open(closes: float) -> None:
-    """The window has not ended, or a Fault: what was asked before may have taken long."""
-    if time.time() >= closes:
-        raise qmp.Fault("the window has ended")
-
-
 class QmpMover:
     """A guest of QEMU by its monitor."""
 
@@ -65,16 +57,12 @@ class QmpMover:
             return f"{self.way.monitor}: it moves already: its migration is {told['status']}"
         return ""
 
-    def begin(self, closes: float = math.inf) -> None:
-        """Begins before a time, or raises a Fault. If it is not known whether QEMU has begun, it is watched as if it
-        has."""
-        if why := self.why_not():
-            raise qmp.Fault(why)
+    def begin(self) -> None:
+        """Begins, or raises a Fault. If it is not known whether QEMU has begun, it is watched as if it has."""
         self.client = qmp.Client(self.way.monitor, SECONDS)
         self.client.ask("migrate-set-capabilities", capabilities=[{"capability": "events", "state": True}])
         _, parameters, migrate = qmp_commands(self.move, self.way.to)
         self.client.ask(parameters["execute"], **parameters["arguments"])
-        expect_open(closes)
         try:
             self.client.ask(migrate["execute"], **migrate["arguments"])
         except qmp.Fault as fault:
@@ -190,12 +178,9 @@ class VirshMover:
             return f"domain {self.domain} does not run here: its state is {state}"
         return "" if is_idle else f"domain {self.domain} has a job already"
 
-    def begin(self, closes: float = math.inf) -> None:
-        if why := self.why_not():
-            raise qmp.Fault(why)
+    def begin(self) -> None:
         downtime, speed = milliseconds(self.move.guest.limits.downtime), mebibytes(self.move.cost.share)
         domains.virsh("migrate-setmaxdowntime", "--domain", self.domain, "--downtime", str(downtime))
-        expect_open(closes)
         command = ["virsh", "--quiet", "migrate", "--live", "--bandwidth", str(speed), "--domain", self.domain]
         try:
             self.errors = tempfile.TemporaryFile()

@@ -72,11 +72,14 @@ class Moving:
         self.wait()
 
     def _begin(self) -> Look:
+        """Begins if nothing stands against it; the window may end while that is asked."""
+        why = self.mover.why_not() or ("the window has ended" if time.time() >= self.closes else "")
         try:
-            self.mover.begin(self.closes)
+            if not why:
+                self.mover.begin()
         except qmp.Fault as fault:
-            return Look("failed", why=str(fault))
-        return Look("moving")
+            why = str(fault)
+        return Look("failed" if why else "moving", why=why)
 
     def take(self) -> bool:
         """Has it go on with the share that it is to have, or begin with it. Returns whether it does."""

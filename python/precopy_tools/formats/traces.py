@@ -195,12 +195,10 @@ class Pending:
             except OSError as fault:
                 raise OSError(fault.errno, fault.strerror, self.path) from fault
             os.rename(self.hidden, os.path.realpath(self.path))
-            with contextlib.suppress(OSError):
+            with contextlib.suppress(OSError), contextlib.ExitStack() as opened:
                 folder = os.open(os.path.dirname(self.hidden), os.O_RDONLY)
-                try:
-                    os.fsync(folder)
-                finally:
-                    os.close(folder)
+                opened.callback(os.close, folder)
+                os.fsync(folder)
 
     def discard(self):
         """Takes the unfinished file away. After finish() it does nothing."""

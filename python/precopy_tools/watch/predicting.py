@@ -190,12 +190,7 @@ class Predictor:
                 self.found[name] = found
 
 
-def end_with_service() -> None:
-    """Ends this process, and all that it has begun, as soon as the service has ended, even if that is killed."""
-    os.read(0, 1)
-    os.killpg(0, signal.SIGKILL)
-
-
 if __name__ == "__main__":
-    threading.Thread(target=end_with_service, daemon=True).start()
+    # As soon as the service has ended, even if that is killed, so does this process with all that it has begun.
+    threading.Thread(target=lambda: os.read(0, 1) or os.killpg(0, signal.SIGKILL), daemon=True).start()
     runpy.run_module("precopy_tools.predict.command", run_name="__main__", alter_sys=True)
