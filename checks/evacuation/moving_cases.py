@@ -272,7 +272,6 @@ def stopped_runs(programs: Programs, folder: str) -> None:
     records = four_guests(folder)
     for number in signal.SIGINT, signal.SIGTERM:
         place = os.path.join(folder, number.name)
-        os.makedirs(place)
         log, guests = four_monitors(place, seconds=30)
         text, fault = run_of(programs, *records, *by_qmp(place), kill=number, status=5)
         expect(sorted(event.what for event in log) == ["begins", "begins", "cancelled", "cancelled"], f"{log}")
@@ -296,7 +295,6 @@ def lost_answers(programs: Programs, folder: str) -> None:
         )
     ):
         place = os.path.join(folder, str(number))
-        os.makedirs(place)
         log, guests = four_monitors(place, idle=how)
         words = [*by_qmp(place), "--json", f"{folder}/told.json", "--picture", f"{folder}/run.svg"]
         text, fault = run_of(programs, *records, *words, status=0 if state == "moved" else 5)
@@ -330,7 +328,6 @@ def what_it_did_not_begin(programs: Programs, folder: str) -> None:
         )
     ):
         place = os.path.join(folder, str(number))
-        os.makedirs(place)
         log, guests = four_monitors(place, idle=how)
         _, fault = run_of(programs, *records, *by_qmp(place), status=1)
         expect("nothing was begun" in fault and f"idle: {place}/idle.qmp: " in fault and told in fault, fault)

@@ -11,7 +11,7 @@ import time
 from checks.lib.harness import expect
 from checks.lib.tally import Late
 from checks.recording.known_writes import PAGE, PAGES
-from precopy_dev.files import read_bytes
+from precopy_dev.files import read_bytes, write_file
 from precopy_dev.tree import TOP
 from precopy_tools.formats import traces
 
@@ -41,10 +41,7 @@ class Writing(Watched):
     """The process that writes, in a folder of its own."""
 
     def __init__(self, folder, private):
-        self.path = "-" if private else os.path.join(folder, "memory")
-        if not private:
-            with open(self.path, "wb") as file:
-                file.truncate(PAGES * PAGE)
+        self.path = "-" if private else write_file(bytes(PAGES * PAGE), folder, "memory")
         words = [sys.executable, os.path.join(TOP, "checks", "recording", "known_writes.py"), self.path]
         self.process = subprocess.Popen(words, stdin=subprocess.PIPE, stdout=subprocess.PIPE, text=True)
         self.address = int(self.process.stdout.readline())

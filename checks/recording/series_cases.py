@@ -261,9 +261,7 @@ def guest_of_a_series_ends(_, folder):
 
 def values_of_a_series(_, folder):
     """By values each segment begins with the pages that are not zero then."""
-    path = os.path.join(folder, "memory")
-    with open(path, "wb") as file:
-        file.truncate(PAGES * PAGE)
+    path = write_file(bytes(PAGES * PAGE), folder, "memory")
     run = Segments(folder, ["--file", path])
     for number in range(30):
         with open(path, "r+b") as file:

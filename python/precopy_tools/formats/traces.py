@@ -126,10 +126,15 @@ def read(text):
     return Trace(text[4], text[5], pages, writes, text)
 
 
+def text_of(path, is_input=False):
+    """The bytes of a file, or of standard input, but no more than a byte beyond those of the greatest trace."""
+    with sys.stdin.buffer if is_input else open(path, "rb") as file:
+        return file.read(Limits().bytes + 1)
+
+
 def read_file(path):
     """A trace in a file, and its records. A refusal names the file and the cause."""
-    with open(path, "rb") as file:
-        text = file.read(Limits().bytes + 1)
+    text = text_of(path)
     try:
         trace = read(text)
         return trace, list(trace.records())
