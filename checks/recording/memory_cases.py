@@ -20,7 +20,7 @@ from checks.lib.amount_texts import size_text
 from checks.lib.harness import cases_of, expect
 from checks.lib.tally import expect_in_time
 from checks.recording import known_guest
-from checks.recording.recorder_runs import RECORD, SECONDS, TOP, Watched, read_until_recording
+from checks.recording.recorder_runs import RECORD, SECONDS, TOP, Started, Watched
 from checks.recording.sample_runs import Drawn, Pages
 from precopy_dev.files import write_file
 from precopy_tools.evacuate import gathering
@@ -156,13 +156,11 @@ def plugged_in_meanwhile(_, folder):
             words = ["--pages", "65536", "--every", "50ms", "--qmp", known.socket]
             words += ["--segment", "1s", "--for", "2500ms"] if is_series else ["--for", "900ms"]
             path = os.path.join(folder, "guest.light.pcwt")
-            command = [RECORD, *words, path]
-            process = subprocess.Popen(command, stdout=subprocess.PIPE, stderr=subprocess.PIPE, text=True)
-            read_until_recording(process.stdout)
+            run = Started(folder, [RECORD, *words], path)
             known.ask("plug")
-            output, faults = process.communicate(timeout=2 * SECONDS)
-        expect(process.returncode == 0 and not faults, f"{process.returncode}, {faults!r}")
-        expect_in_time("memory: the guest has other memory now" in output, output)
+            run.end()
+        expect(run.status == 0 and not run.faults, f"{run.status}, {run.faults!r}")
+        expect_in_time("memory: the guest has other memory now" in run.output, run.output)
         paths = series.Series(path).paths() if is_series else [path]
         pages = []
         for each in paths:
@@ -183,18 +181,17 @@ def processes_of_one_number(_, __):
         of = sources.of_words(pages.process.pid, [pages.range], True).of
     begun = re.search(r" since tick (\d+) of boot [0-9a-f]{8}(?=, mapping )", of)
     expect(begun and -0.02 < int(begun[1]) / os.sysconf("SC_CLK_TCK") - now < SECONDS, f"{of} after {now} s")
-    old, other = of.replace(begun[0], ""), of.replace(f" {begun[1]} ", " 1 ")
+    old, head, fault = of.replace(begun[0], ""), "0 and 1 are two records of one guest: ", ""
     for texts, told in (
-        ([of, other], ""),
-        ([of, of], of),
-        ([old, old], f"{old}; or of two, since they do not say when "),
+        ((of, of.replace(f" {begun[1]} ", " 1 ")), ""),
+        ((of, of), f"{head}{of}"),
+        ((old, old), f"{head}{old}; or of two, since they do not say when that began"),
     ):
-        fault = ""
         try:
             gathering.expect_once(Guest(*f"{n}{n}", text, f"{n}", Wanted(1), {}, {}) for n, text in enumerate(texts))
         except Refused as refused:
             fault = str(refused)
-        expect(fault.removesuffix("that began") == "0 and 1 are two records of one guest: " * bool(told) + told, fault)
+        expect(fault == told, f"{fault!r} in place of {told!r}")
 
 
 def never_the_guest(_, folder):

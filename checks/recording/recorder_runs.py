@@ -55,16 +55,6 @@ class Writing(Watched):
         self.later, self.times = json.loads(self.process.stdout.readline())
 
 
-def read_until_recording(lines):
-    """What the recorder prints up to its first sample."""
-    began = ""
-    for line in lines:
-        began += line
-        if line.startswith("recording"):
-            break
-    return began
-
-
 class Started:
     """One run of a recorder into a folder, from its first sample on."""
 
@@ -74,7 +64,11 @@ class Started:
         self.folder = folder
         command = [*words, path]
         self.process = subprocess.Popen(command, stdout=subprocess.PIPE, stderr=errors, text=True, **more)
-        self.began = read_until_recording(self.process.stdout)
+        self.began = ""
+        for line in self.process.stdout:
+            self.began += line
+            if line.startswith("recording"):
+                break
 
     def end(self, number=None, seconds=2 * SECONDS):
         if number:

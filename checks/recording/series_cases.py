@@ -13,7 +13,7 @@ from checks.lib import harness
 from checks.lib.harness import cases_of, expect, waited
 from checks.lib.tally import LeftOut, expect_in_time
 from checks.recording.memory_cases import Known, virsh_in
-from checks.recording.recorder_runs import RECORD, SECONDS, TOP, Started, read_until_recording, recorder
+from checks.recording.recorder_runs import RECORD, SECONDS, TOP, Started, recorder
 from checks.recording.sample_runs import PAGE, PAGES, Pages
 from precopy_dev.files import read_text, write_file
 from precopy_tools.evacuate import records
@@ -354,16 +354,13 @@ def service_of_a_guest(_, folder):
     path = path.replace("known", "guest")
     layout = {"nodes": [["a", "private", 600], ["b", "memfd", 500]], "code": 5000}
     with Known(folder, layout, "-uuid", str(identity)) as known:
-        command = [RECORD, *words, os.path.join(folder, os.path.basename(path))]
-        environment = virsh_in(folder, known, identity)
-        process = subprocess.Popen(command, stdout=subprocess.PIPE, stderr=subprocess.PIPE, text=True, env=environment)
-        read_until_recording(process.stdout)
+        path, environment = os.path.join(folder, os.path.basename(path)), virsh_in(folder, known, identity)
+        run = Started(folder, [RECORD, *words], path, env=environment)
         time.sleep(0.3)
         known.ask("write")
         time.sleep(0.3)
-        process.send_signal(signal.SIGTERM)
-        _, faults = process.communicate(timeout=4 * SECONDS)
-        expect(process.returncode == 0 and not faults, f"{process.returncode}, {faults!r}")
+        run.end(signal.SIGTERM, 4 * SECONDS)
+        expect(run.status == 0 and not run.faults, f"{run.status}, {run.faults!r}")
     found = segments_in(folder)
     expect(len(found) == 1 and found[0][3].guest_pages == 1100, f"{found[0][3] if found else os.listdir(folder)}")
     expect_in_time(sum(tick > 1000 for tick, _ in found[0][2]) == 1100, f"{len(found[0][2])} writes")

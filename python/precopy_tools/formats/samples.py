@@ -253,14 +253,3 @@ class Beside(traces.Pending):
         text = sample.text()
         self.write(text)
         os.ftruncate(self.descriptor, len(text))
-
-
-def pending(trace_path: str, sample: Sample) -> Beside:
-    """The whole text of NAME.json under another name; finish() gives it its own."""
-    file = Beside(trace_path)
-    try:
-        file.put(sample)
-    except OSError:
-        file.discard()
-        raise
-    return file
