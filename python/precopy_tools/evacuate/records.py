@@ -50,7 +50,7 @@ def last_of(paths: list[str]) -> str:
         return paths[0]
     # What was named by a clock that was ahead goes first.
     now = datetime.datetime.now(datetime.timezone.utc)
-    in_order = sorted(paths, key=lambda path: (begun_at(path) <= now, path))
+    in_order = sorted(paths, key=lambda path: ((begun_at(path) or now) <= now, path))
     lengths = [seconds_of(path) for path in in_order]
     return next(
         (path for path, length in reversed([*zip(in_order, lengths)]) if length >= LEAST_PART * max(lengths)), ""
