@@ -43,9 +43,8 @@ def digest(text: bytes) -> str:
 
 def now(ago: float = 0.0) -> str:
     """What the clock says now, or so many seconds before."""
-    return (datetime.datetime.now(datetime.timezone.utc) - datetime.timedelta(seconds=ago)).isoformat(
-        timespec="seconds"
-    )
+    moment = datetime.datetime.now(datetime.timezone.utc) - datetime.timedelta(seconds=ago)
+    return moment.isoformat(timespec="seconds")
 
 
 @dataclasses.dataclass(frozen=True)

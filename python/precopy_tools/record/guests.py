@@ -52,10 +52,8 @@ def name_of(process: int) -> str:
 
 def identity_of(process: int) -> str:
     """A process as no other one is called: its number may be given to another one, so it says when it began."""
-    with open(f"/proc/{process}/stat", encoding="utf-8", errors="replace") as stat, open(
-        BOOT, encoding="ascii"
-    ) as boot:
-        tick = stat.read().rpartition(")")[2].split()[19]
+    with open(f"/proc/{process}/stat", "rb") as stat, open(BOOT, encoding="ascii") as boot:
+        tick = int(stat.read().rpartition(b")")[2].split()[19])
         return f"process {process} {name_of(process)}{SINCE}{tick} of boot {boot.read()[:8]}"
 
 

@@ -47,8 +47,8 @@ class Series:
         return self.path(datetime.datetime.now(datetime.timezone.utc).strftime(STAMP))
 
     def path_for(self, begun: str) -> str:
-        """A name that no segment has, for one that began then. Two segments never begin in the same second, and names
-        rise, but for those that a clock made which was a day ahead or more: they would stay so."""
+        """A name that no segment has, for one that began then. Two segments never begin in the same second. Names rise
+        also if the clock is set back, unless it was a day ahead or more: they would stay so."""
         known = set(self.stamps())
         moment = datetime.datetime.fromisoformat(begun).astimezone(datetime.timezone.utc).replace(tzinfo=None)
         self.last = max(moment, self.last + SECOND) if self.last - moment < DAY else moment
