@@ -5,7 +5,7 @@ import { LABELS } from "../model/control-list.js";
 import { html } from "./elements.js";
 import { briefBytes, briefTime } from "../model/brief.js";
 import {
-  bytesText, counted, countOf, errorTimeText, momentText, pagesText, signed, timeText, unbroken,
+  bytesText, counted, countOf, errorTimeText, lengthText, momentText, pagesText, signed, timeText, unbroken,
 } from "../model/numbers.js";
 import {
   beginsLate, endingOf, isGood, isOfStill, isUnknown, reasonWords, warningsOf,
@@ -138,16 +138,16 @@ export function verdictMark(prediction) {
 /** A pause beside its limit, with so many digits that two which differ look so, and one unit if both have the same. */
 function pauseWords({ cost, limits }) {
   const [down, limit] = [cost.downtime, limits.downtime];
-  const isSame = briefTime(down) === briefTime(limit) && down !== limit;
-  const [pause, most] = [down, limit].map(isSame ? (micros) => unbroken(timeText(micros)) : briefTime);
+  const text = [briefTime, timeText, momentText].find((some) => some(down) !== some(limit)) ?? briefTime;
+  const [pause, most] = [down, limit].map((micros) => unbroken(text(micros)));
   const [, unit] = pause.split("\u00a0");
-  return `Pause ${pause} of ${most.replace(new RegExp(`\u00a0${unit}$`), "")}`;
+  return `Pause ${pause} of ${most.replace(new RegExp(`^(\\S+)\u00a0${unit}$`), "$1")}`;
 }
 
-function headlineWords(prediction) {
+export function headlineWords(prediction) {
   const { cost } = prediction;
   if (isUnknown(prediction)) {
-    return cost.recorded > 0n ? `Longer than the trace: more than ${briefTime(cost.recorded)}`
+    return cost.recorded > 0n ? `Longer than the trace: more than ${lengthText(cost.recorded)}`
       : `The trace ends ${beginsLate(prediction) ? "before" : "at"} the start`;
   }
   return `${pauseWords(prediction)}, ${briefTime(cost.time)}, ${briefBytes(cost.bytes)}:`;
