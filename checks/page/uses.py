@@ -436,5 +436,6 @@ USES = {
     **sure.SURE,
     **late.LATE,
     "the worker": worker.check_worker,
+    "a worker that fails": worker.check_failed,
     "an ended worker": worker.check_ended,
 }

@@ -50,6 +50,34 @@ def check_worker(page):
     expect(typed(page, "rounds", "30") == before, "no plan after a cancel")
 
 
+# Has the worker answer the next plan by an error that it does not expect.
+FAILS = """(() => {
+  const worker = workers.at(-1);
+  worker.postMessage = (message) => {
+    if (message.name === "predict") {
+      delete worker.postMessage;
+      setTimeout(() => worker.onmessage({ data: { number: message.number, failed: "Error: no list" } }));
+    } else {
+      Object.getPrototypeOf(worker).postMessage.call(worker, message);
+    }
+  };
+})()"""
+
+
+def check_failed(page):
+    """An error that the worker does not expect leaves the last plan, grey, says what it was, and can be tried again."""
+    page.open_planned("#trace=sqlite&link=1Gbit&rounds=30")
+    before = page.shown()
+    page.browser.value(FAILS)
+    found = typed(page, "rounds", "7")
+    said = "No plan: the planner failed. It has a defect: Error: no list"
+    expect(said in found["verdict"] and found["stale"], f"after an error: {found['verdict']}")
+    page.becomes("textOf('told')", said, "what is announced of an error")
+    found = page.clicked("try-again")
+    expect(found["refused"] is None and not found["stale"], f"tried again: {found['verdict']}")
+    expect(typed(page, "rounds", "30") == before, "no plan after an error")
+
+
 # Has the next workers end themselves when they are told so.
 MORTAL = """(() => {
   const Made = Blob;

@@ -1,7 +1,7 @@
 // The plans that are kept to compare: those over the open trace, whose settings are in the address, and before them
 // those over traces that were open before, each with the name of its trace.
 
-import { WorkerEnded } from "../engine/planner-client.js";
+import { NoAnswer } from "../engine/planner-client.js";
 import { MOST_KEPT } from "./state.js";
 
 /** What is told later of a prediction; nothing if it is still to come. */
@@ -71,7 +71,7 @@ export class KeptPlans {
       const key = JSON.stringify(some);
       const plan = found.get(key) ?? await this.find(trace, { ...some, window: trace.sizes.last + 1 });
       // A planner that has ended refuses no plan for good.
-      if (!(plan.refusal instanceof WorkerEnded)) {
+      if (!(plan.refusal instanceof NoAnswer)) {
         found.set(key, plan);
       }
       plans.push({ settings: { ...some, window }, found: plan });

@@ -10,7 +10,7 @@ import {
 import {
   beginsLate, endingOf, isGood, isOfStill, isUnknown, reasonWords, warningsOf,
 } from "../model/predictions.js";
-import { WorkerEnded } from "../engine/planner-client.js";
+import { WorkerEnded, WorkerFailed } from "../engine/planner-client.js";
 import { Refusal } from "../engine/planner.js";
 import {
   answerWords, isAwaited, isOfPlan, likelyBeyond, planMark, sureLine, sureWords, verdictsOf,
@@ -282,6 +282,9 @@ export function comparisonRows(prediction, kept) {
 
 /** What was refused, in words: a name, and a sentence. */
 export function refusedWords(error) {
+  if (error instanceof WorkerFailed) {
+    return { name: "the planner failed.", sentence: `It has a defect: ${error.message}` };
+  }
   if (error instanceof WorkerEnded) {
     return { name: "the planner ended.", sentence: "It was started again, and ended again." };
   }

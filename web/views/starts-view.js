@@ -7,7 +7,7 @@ import { AWAITED, costWords, startsLook, startsPicture, startWords } from "./sta
 import { saveButtons } from "./exports.js";
 import { Inspector } from "./inspector.js";
 import { refusalPart } from "./outcome.js";
-import { WorkerEnded } from "../engine/planner-client.js";
+import { NoAnswer } from "../engine/planner-client.js";
 import { Refusal } from "../engine/planner.js";
 import { ERRORS_BELOW } from "../model/sureness.js";
 
@@ -103,7 +103,7 @@ export class StartsView {
         this.finish(prediction, ticks, found);
       }
     } catch (error) {
-      if (!(error instanceof Refusal) && !(error instanceof WorkerEnded)) {
+      if (!(error instanceof Refusal) && !(error instanceof NoAnswer)) {
         throw error;
       }
       this.fail(question, error);

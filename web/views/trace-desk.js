@@ -4,7 +4,7 @@
 import { byId, html, keepFocus, renew } from "./elements.js";
 import { bytesText, counted, countOf, lengthText, unbroken } from "../model/numbers.js";
 import { refusalPart } from "./outcome.js";
-import { PlannerClient, WorkerEnded } from "../engine/planner-client.js";
+import { NoAnswer, PlannerClient } from "../engine/planner-client.js";
 import { READ_FAULT, Refusal } from "../engine/planner.js";
 import { answerOver } from "../model/predictions.js";
 import { differencesFrom, MOST_RECORD_BYTES, recordIn, RecordRefusal } from "../model/record.js";
@@ -199,7 +199,7 @@ export class TraceDesk {
       this.early = source.example ? this.early : null;
       return null;
     } catch (error) {
-      if (!(error instanceof Refusal) && !(error instanceof WorkerEnded)) {
+      if (!(error instanceof Refusal) && !(error instanceof NoAnswer)) {
         throw error;
       }
       return error;

@@ -1,7 +1,9 @@
 import assert from "node:assert/strict";
 import { test } from "node:test";
-import { WorkerEnded } from "../../../web/engine/planner-client.js";
+import { PlannerClient, WorkerEnded } from "../../../web/engine/planner-client.js";
+import { foundBy } from "../../../web/model/found.js";
 import { KeptPlans } from "../../../web/model/kept-plans.js";
+import { refusedWords } from "../../../web/views/outcome.js";
 
 const A = { digest: "a", source: { name: "a.pcwt" }, sizes: { last: 9 } };
 const B = { digest: "b", source: { name: "b.pcwt" }, sizes: { last: 9 } };
@@ -80,6 +82,14 @@ test("a plan whose planner has ended is planned again, and one that is refused i
   assert.equal((await over(1)).refusal, ended);
   assert.deepEqual([await over(1), await over(1)], [{ value: 1 }, { value: 1 }]);
   assert.deepEqual([(await over(2)).refusal, (await over(2)).refusal], [refused, refused]);
+});
+
+test("an error that the worker does not expect is told in place of a plan", async () => {
+  const client = new PlannerClient("planner", () => {});
+  const asked = new Promise((resolve, reject) => { client.waiting.set(1, { resolve, reject }); });
+  client.hear({ number: 1, failed: "Error: no list" });
+  const { refusal } = await foundBy(() => asked);
+  assert.deepEqual(refusedWords(refusal), { name: "the planner failed.", sentence: "It has a defect: Error: no list" });
 });
 
 test("a plan that comes after another trace was opened is not of that", async () => {
