@@ -350,6 +350,7 @@ class Page {
       return;
     }
     this.shown = { trace, settings, found, kept, revision };
+    this.late.askAgain();
     this.draw();
     this.announceDrawn();
     await this.windows.fillApart();

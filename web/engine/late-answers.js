@@ -3,7 +3,7 @@
 // shown is asked for: what was asked before and has no answer yet is left out.
 
 import { fewDigitsOffers } from "../model/offers.js";
-import { PlannerClient, WorkerEnded } from "./planner-client.js";
+import { NoAnswer, PlannerClient } from "./planner-client.js";
 import { answerOver, isGood, isUnknown, remediesOver } from "../model/predictions.js";
 import { Refusal } from "./planner.js";
 import { mayBeSure } from "../model/sureness.js";
@@ -33,6 +33,7 @@ export class LateAnswers {
     this.told = told;
     this.client = new PlannerClient("aside", () => {});
     this.known = new Map();
+    this.failed = new Set();
     this.open = null;
     this.unread = null;
     this.wanted = [];
@@ -163,16 +164,26 @@ export class LateAnswers {
   }
 
   /** The answer, or null if the worker gives none, as if it cannot read the trace. */
-  async ask({ kind, trace, question }) {
+  async ask({ kind, trace, question, key }) {
     try {
       await this.read(trace);
-      return this.open === trace ? await this.client.ask(kind, { question }) : null;
-    } catch (error) {
-      if (error instanceof Refusal || error instanceof WorkerEnded) {
-        return null;
+      if (this.open === trace) {
+        return await this.client.ask(kind, { question });
       }
-      throw error;
+    } catch (error) {
+      if (!(error instanceof Refusal) && !(error instanceof NoAnswer)) {
+        throw error;
+      }
     }
+    this.failed.add(key);
+    return null;
+  }
+
+  /** Has what got no answer asked again: with a new plan and not at once, for a worker may end each time. */
+  askAgain() {
+    this.failed.forEach((key) => this.known.delete(key));
+    this.failed.clear();
+    this.unread = null;
   }
 
   /** Has the worker read a trace, once. */
