@@ -224,11 +224,13 @@ def read_nodes(page):
     return [node for node in nodes if "role" in node and not node["ignored"]]
 
 
+ROLES = {"button", "slider", "textbox", "combobox", "checkbox", "progressbar", "DisclosureTriangle", "link"}
+
+
 def check_names(page):
     """Each control has a name of its own for a screen reader, each picture that can be looked at a value, and whatever
     describes an element is there. A link leads past the settings."""
-    roles = {"button", "slider", "textbox", "combobox", "checkbox", "progressbar", "DisclosureTriangle", "link"}
-    found = [node for node in read_nodes(page) if node["role"]["value"] in roles]
+    found = [node for node in read_nodes(page) if node["role"]["value"] in ROLES]
     nameless = [node["role"]["value"] for node in found if not node.get("name", {}).get("value")]
     expect(len(found) > 40 and not nameless, f"{len(found)} controls; without a name: {nameless}")
     names = collections.Counter((node["role"]["value"], node["name"]["value"]) for node in found)
@@ -244,6 +246,28 @@ def check_names(page):
     page.browser.value("document.body.focus(); document.getElementById('past-settings').focus()")
     page.browser.press("Enter", 13)
     page.browser.wait("document.activeElement.id === 'outcome'", 5)
+
+
+# The words that are seen of a control: its own, or those of its label. A picture has none.
+SEEN_WORDS = """function () {
+  const label = this.closest(".control")?.querySelector("label");
+  const places = this.matches("input, select") ? [...(this.labels ?? []), ...(label ? [label] : [])] : [this];
+  return this.matches(".plot") ? [] : places.map((place) => place.innerText.trim()).filter(Boolean);
+}"""
+
+
+def check_labels(page, look):
+    """The name of each button, link and field has the words that are seen of it: WCAG 2, section 2.5.3."""
+    browser, count = page.browser, 0
+    for node in read_nodes(page):
+        if node["role"]["value"] in ROLES:
+            place = browser.call("DOM.resolveNode", backendNodeId=node["backendDOMNodeId"])["object"]["objectId"]
+            asked = {"objectId": place, "functionDeclaration": SEEN_WORDS, "returnByValue": True}
+            name = " ".join(node["name"]["value"].lower().split())
+            for words in browser.call("Runtime.callFunctionOn", **asked)["result"]["value"]:
+                expect(" ".join(words.lower().split()) in name, f"{look}: {words!r} is seen, and the name is {name!r}")
+                count += 1
+    expect(count > 4, f"{look}: {count} controls have words")
 
 
 def check_keyboard(page):
