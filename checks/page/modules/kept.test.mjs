@@ -48,6 +48,18 @@ test("a trace that is opened again has what was kept over it", async () => {
   plans.open(A, null);
   assert.deepEqual(plans.settings().map(({ link }) => link), [1, 3]);
   assert.deepEqual(plans.others, []);
+  await shows(A, [1, 3]);
+  await shows(A, [2, 4]);
+  await shows(A, []);
+  assert.deepEqual(plans.settings().map(({ link }) => link), [2, 4]);
+  assert.deepEqual(plans.others, []);
+});
+
+test("a kept plan is shown with the windows of now, and with ticks where they are asked for now", async () => {
+  const plans = new KeptPlans(async (trace, settings) => ({ value: settings.ticks }));
+  const shown = (ticks) => plans.all(A, { kept: [{ link: 1, ticks: false }], settings: { window: 5, ticks } });
+  const [[plain], [ticked]] = [await shown(false), await shown(true)];
+  assert.deepEqual([plain.settings.window, plain.found.value, ticked.found.value], [5, false, true]);
 });
 
 test("places count what is shown", async () => {
