@@ -3,9 +3,9 @@
 // shown is asked for: what was asked before and has no answer yet is left out.
 
 import { fewDigitsOffers } from "../model/offers.js";
-import { NoAnswer, PlannerClient } from "./planner-client.js";
+import { foundBy } from "../model/found.js";
+import { PlannerClient } from "./planner-client.js";
 import { answerOver, isGood, isUnknown, remediesOver } from "../model/predictions.js";
-import { Refusal } from "./planner.js";
 import { mayBeSure } from "../model/sureness.js";
 import { firstWay, waysOf } from "../model/ways.js";
 
@@ -165,18 +165,14 @@ export class LateAnswers {
 
   /** The answer, or null if the worker gives none, as if it cannot read the trace. */
   async ask({ kind, trace, question, key }) {
-    try {
+    const { value } = await foundBy(async () => {
       await this.read(trace);
-      if (this.open === trace) {
-        return await this.client.ask(kind, { question });
-      }
-    } catch (error) {
-      if (!(error instanceof Refusal) && !(error instanceof NoAnswer)) {
-        throw error;
-      }
+      return this.open === trace ? this.client.ask(kind, { question }) : undefined;
+    });
+    if (value === undefined) {
+      this.failed.add(key);
     }
-    this.failed.add(key);
-    return null;
+    return value ?? null;
   }
 
   /** Has what got no answer asked again: with a new plan and not at once, for a worker may end each time. */

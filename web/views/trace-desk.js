@@ -4,7 +4,8 @@
 import { byId, html, keepFocus, renew } from "./elements.js";
 import { bytesText, counted, countOf, lengthText, unbroken } from "../model/numbers.js";
 import { refusalPart } from "./outcome.js";
-import { NoAnswer, PlannerClient } from "../engine/planner-client.js";
+import { foundBy } from "../model/found.js";
+import { PlannerClient } from "../engine/planner-client.js";
 import { READ_FAULT, Refusal } from "../engine/planner.js";
 import { answerOver } from "../model/predictions.js";
 import { differencesFrom, MOST_RECORD_BYTES, recordIn, RecordRefusal } from "../model/record.js";
@@ -190,20 +191,15 @@ export class TraceDesk {
   /** Opens a source, and returns why it is no trace, or null. One that is refused leaves what is open as it is. */
   async refusalOf(source) {
     this.busy("Reading ", named(source.name), " \u2026");
-    try {
-      const found = await this.client.open(source.blob, (share) => {
-        this.busy("Reading ", named(source.name), `: ${Math.floor(100 * share)} %`);
-      });
-      this.trace = new OpenTrace(this.client, source, found);
+    const { value, refusal = null } = await foundBy(() => this.client.open(source.blob, (share) => {
+      this.busy("Reading ", named(source.name), `: ${Math.floor(100 * share)} %`);
+    }));
+    if (refusal === null) {
+      this.trace = new OpenTrace(this.client, source, value);
       this.said = null;
       this.early = source.example ? this.early : null;
-      return null;
-    } catch (error) {
-      if (!(error instanceof Refusal) && !(error instanceof NoAnswer)) {
-        throw error;
-      }
-      return error;
     }
+    return refusal;
   }
 
   /** Says how much of the open trace another worker has read, and with null that it has ended. */
