@@ -63,7 +63,7 @@ class Page {
     this.map = new MapView(this.times);
     this.starts = new StartsView((tick) => this.startAt(tick), () => this.draw(), announce, this.times);
     this.limits = new LimitsView((settings, name) => this.controls.take(settings, [name]));
-    this.links = new LinksView((settings, name) => this.controls.take(settings, [name]));
+    this.links = new LinksView((link) => this.controls.set("link", link));
     this.commands = new CommandsView();
     this.late = new LateAnswers((kind) => this.drawLate(kind));
     this.controls.show(this.state.settings);

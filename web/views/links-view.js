@@ -35,7 +35,7 @@ function linkLabels(axis, { amount, unit }, bottom) {
 }
 
 export class LinksView {
-  /** `choose` takes other settings. */
+  /** `choose` takes another link. */
   constructor(choose) {
     this.choose = choose;
     this.plot = byId("links-plot");
@@ -118,7 +118,7 @@ export class LinksView {
       find: (place) => costs.reduce((best, _, at) => (distance(at, place) < distance(best, place) ? at : best), 0),
       words: (at) => `Link ${words(at)}: ${costWords(costs[at].cost)}`,
       span: (at) => [axis.place(costs[at].start) - 1, axis.place(costs[at].start) + 1],
-      choose: (at) => this.choose(costs[at].state, "link"),
+      choose: (at) => this.choose(costs[at].link),
       offer: (at) => `Take ${words(at)}`,
       none: "No link near this one makes a plan.",
     };
