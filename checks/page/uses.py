@@ -429,6 +429,7 @@ USES = {
     "a mouse that is taken over": looking.check_taken_over,
     "the link past the settings": focus.check_link_past,
     "the map": map.check_map,
+    "the map of a sample": map.check_map_scale,
     "the rounds on the map": map.check_map_rounds,
     "pages of the map": map.check_map_pages,
     "what is announced": told.check_told,

@@ -9,7 +9,7 @@ import { Refusal } from "../engine/planner.js";
 import { nextTask } from "../engine/slices.js";
 import { widthOf } from "./plot.js";
 import { windowsFile, windowsTable } from "./tables.js";
-import { amountOf, microsOf } from "../model/units.js";
+import { amountOf, microsOf, scaleOf } from "../model/units.js";
 import { drawnAt, planMarks, traceAxis, windowParts, windowsPicture, windowWords } from "./windows-chart.js";
 
 /** Settings in range, for a call that uses only the length of a window. */
@@ -43,8 +43,8 @@ export class WindowsView {
    * own, so that none takes long.
    */
   async count(trace, settings) {
-    const { window: length, sample } = settings;
-    const isSample = sample !== null && sample.whole > sample.part;
+    const { window: length } = settings;
+    const { isSample } = scaleOf(settings, trace.sizes);
     if (this.counted.trace !== trace || this.counted.length !== length) {
       const counted = await this.countedBy(trace, length);
       await nextTask();
