@@ -157,9 +157,9 @@ class Page {
     return found.settings;
   }
 
-  addressedSettings({ print, record, sizes }) {
+  addressedSettings({ print, record }) {
     const { settings, example } = this.state;
-    return example || !record || this.addressed === print ? settings : withRecord(settings, record, sizes);
+    return example || !record || this.addressed === print ? settings : withRecord(settings, record);
   }
 
   /** Settings for another trace, but with the limits of before if a plan is kept to compare, and they make a plan. */

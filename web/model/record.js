@@ -151,7 +151,8 @@ export function recordIn(text, trace) {
   const sample = sampleOf(fields);
   return {
     tick: Math.round(fields.tick_seconds * 1e6),
-    start: fields.first_tick,
+    // A guest that wrote nothing has a trace that ends before its recording begins.
+    start: Math.min(fields.first_tick, trace.sizes.last),
     sample: sample.whole > sample.part ? sample : null,
     doubt: doubtOf(fields),
     still: stillOf(fields),
