@@ -249,7 +249,7 @@ class Page {
       const place = Number(dataset.exchanges) - this.keptPlans.others.length;
       const other = { ...kept[place], window: settings.window, ticks: settings.ticks };
       this.state = { ...this.state, kept: kept.with(place, structuredClone(settings)) };
-      this.controls.take(other, []);
+      this.controls.take(other, [...this.fitted].filter((name) => other[name].amount !== settings[name].amount));
     }
   }
 
@@ -260,8 +260,8 @@ class Page {
     this.isGiven = true;
     this.isAddressed = true;
     this.addressed = this.state.print;
-    this.fitted = new Set(this.past.follow().fitted ?? []);
-    this.fitted.forEach((name) => this.chosen.delete(name));
+    const { fitted = [], chosen = this.chosen } = this.past.follow();
+    [this.fitted, this.chosen] = [new Set(fitted), new Set(chosen)];
     this.keptPlans.forget();
     byId("moved").hidden = true;
     this.followed += 1;
@@ -452,7 +452,7 @@ class Page {
   settle() {
     clearTimeout(this.settling);
     const fragment = `#${fragmentOf(this.state)}`;
-    this.past.add(fragment, { fitted: [...this.fitted] });
+    this.past.add(fragment, { fitted: [...this.fitted], chosen: [...this.chosen] });
     this.tellAddress();
     this.announce();
   }

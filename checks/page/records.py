@@ -203,6 +203,36 @@ def check_fitted_again(page):
     expect(said[0].startswith("Fitted to this trace.") and said[1] == "Fitted, too.", f"over the trace before: {said}")
 
 
+def check_chosen_again(page):
+    """A link that was chosen, and that Undo or an exchange brings back, is not told as fitted, and stays over the next
+    trace."""
+    for way in ("undo", "exchange"):
+        page.browser.forget_pages()
+        page.open_planned("#trace=gzip")
+        page.drop(example_named("own.pcwt", "gzip.pcwt"))
+        page.with_unit("link", "Mbit")
+        typed(page, "link", "64")
+        page.browser.wait("location.hash.includes('link=64Mbit')", 5)
+        if way == "exchange":
+            page.clicked("keep")
+        typed(page, "downtime", "9000000")
+        page.browser.wait("location.hash.includes('downtime=9000')", 5)
+        page.clicked("fit")
+        expect(suggestion(page, "link").startswith("Fitted") and limits(page)[0] != ["64", "Mbit"], f"{limits(page)}")
+        if way == "exchange":
+            page.after("document.querySelector('[data-exchanges]').click()")
+            page.after("document.querySelector('[data-drops]').click()")
+        else:
+            page.browser.wait("!location.hash.includes('downtime=9000')", 5)
+            for _ in range(2):
+                page.clicked("undo")
+        page.becomes("document.getElementById('control-link').value", "64", way)
+        page.rest()
+        expect(not suggestion(page, "link"), f"after {way}: {suggestion(page, 'link')!r}")
+        page.drop(example_named("other.pcwt", "guests/mid.light.pcwt"))
+        expect(limits(page)[0] == ["64", "Mbit"], f"over another trace after {way}: {limits(page)}")
+
+
 def check_doubts(page):
     """Counts of a record that go badly together are told, and make no guest that is larger than it is; a record that is
     too long is refused as such."""
@@ -273,6 +303,7 @@ RECORDS = {
     "limits that were fitted, and Undo": check_fitted_again,
     "a trace that is dropped again": check_dropped_again,
     "a record beside a file that is refused": check_beside_refused,
+    "a limit that was chosen, and comes back": check_chosen_again,
     "doubts of a record": check_doubts,
     "a record that cannot be read": check_unreadable,
     "a guest that stood still": check_still,
