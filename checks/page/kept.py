@@ -147,6 +147,18 @@ def check_axes(page):
     )
 
 
+def check_same(page):
+    """A kept plan has the same settings as one with its link in another unit, and of pages that are no sample."""
+    page.ask("trace=gzip&link=8MiB&downtime=4ms&start=400&clark=0")
+    page.clicked("keep")
+    for text in ("2", "1"):
+        typed(page, "sample", text)
+    page.with_unit("link", "KiB")
+    said = page.browser.value("textOf('comparison')")
+    page.after("document.querySelector('[data-drops]').click()")
+    expect("Kept plan 1 has the same settings." in said, said)
+
+
 # What is said of a link or a downtime that a hypervisor does not take.
 NO_LINK = sentence_of(host_lines(0, 1)[2])
 NO_LIBVIRT_DOWNTIME = sentence_of(host_lines(1 << 20, 0)[3])

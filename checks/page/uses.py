@@ -414,6 +414,7 @@ USES = {
     "a doubtful start": limits.check_doubtful,
     "kept plans": kept.check_comparison,
     "shared axes": kept.check_axes,
+    "the same settings": kept.check_same,
     "a second trace": kept.check_second_trace,
     "a trace that is undone": kept.check_undone_trace,
     "a trace after another": another.check_another,

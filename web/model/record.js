@@ -126,7 +126,7 @@ function stillOf({ ran_share: share = 1 }) {
   return share >= LEAST_SHARE ? "" : `The guest stood still for ${(100 * (1 - share)).toFixed(1)} % of the recording.`;
 }
 
-function isSameSample(one, other) {
+export function isSameSample(one, other) {
   const wordOf = (some) => (some === null || some.part === some.whole ? "all" : `${some.part}/${some.whole}`);
   return wordOf(one) === wordOf(other);
 }

@@ -15,6 +15,7 @@ import { NoAnswer } from "../engine/planner-client.js";
 import { watchWidths, widthOf } from "./plot.js";
 import { beginsLate, forecastWords, isUnknown, keptWords } from "../model/predictions.js";
 import { quantityWords } from "../model/quantities.js";
+import { isSameSample } from "../model/record.js";
 import { reachOf, roundsLook, roundsPicture } from "./rounds-chart.js";
 import { ROUND_SETTINGS } from "../model/state.js";
 import { isAwaited, planMark, verdictsOf } from "../model/sureness.js";
@@ -46,11 +47,12 @@ const WORDS = {
   sample: (value) => (value === null ? "all pages" : `sample of ${value.part} in ${value.whole}`),
 };
 
-/** In what the settings of a kept plan differ, in words. */
-function differencesOf(settings, kept, place) {
+/** In what the settings of a kept plan differ, in words. An amount is the same in each unit. */
+export function differencesOf(settings, kept, place) {
   const isAsked = (name) => settings.clark || kept.clark || !ROUND_SETTINGS.includes(name);
-  const differing = Object.keys(WORDS).filter((name) => isAsked(name)
-    && JSON.stringify(settings[name]) !== JSON.stringify(kept[name]));
+  const isSame = (name) => (name === "sample" ? isSameSample(settings.sample, kept.sample)
+    : (settings[name]?.amount ?? settings[name]) === (kept[name]?.amount ?? kept[name]));
+  const differing = Object.keys(WORDS).filter((name) => isAsked(name) && !isSame(name));
   return differing.length === 0 ? `Kept plan ${place + 1} has the same settings.`
     : `Kept plan ${place + 1} differs: ${differing.map((name) => WORDS[name](kept[name], kept)).join(", ")}.`;
 }

@@ -3,7 +3,9 @@ import { test } from "node:test";
 import { PlannerClient, WorkerEnded } from "../../../web/engine/planner-client.js";
 import { foundBy } from "../../../web/model/found.js";
 import { KeptPlans } from "../../../web/model/kept-plans.js";
+import { stateIn } from "../../../web/model/state.js";
 import { refusedWords } from "../../../web/views/outcome.js";
+import { differencesOf } from "../../../web/views/plan-view.js";
 
 const A = { digest: "a", source: { name: "a.pcwt" }, sizes: { last: 9 } };
 const B = { digest: "b", source: { name: "b.pcwt" }, sizes: { last: 9 } };
@@ -39,6 +41,14 @@ test("an address of the trace before shows what is kept over it once", async () 
   assert.deepEqual(await shows(B, [2]), ["1 of a.pcwt", "2"]);
   assert.deepEqual(await shows(A, []), ["2 of b.pcwt"]);
   assert.deepEqual(await shows(B, []), []);
+});
+
+test("a kept plan differs in what is asked, and not in the unit of an amount", () => {
+  const { settings } = stateIn("link=1Gbit&clark=0");
+  const differing = (words) => differencesOf(settings, stateIn(words).settings, 0);
+  assert.equal(differing("link=1000Mbit&sample=9/9"), "Kept plan 1 has the same settings.");
+  assert.equal(differing("link=2Gbit&tick=1000us"), "Kept plan 1 differs: link 2 Gbit/s.");
+  assert.equal(differing("link=1Gbit&sample=5/9"), "Kept plan 1 differs: sample of 5 in 9.");
 });
 
 test("a trace that is opened again has what was kept over it", async () => {
