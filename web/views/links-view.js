@@ -83,11 +83,15 @@ export class LinksView {
   draw(answerTo) {
     const answers = this.points?.map(({ question }) => (question ? answerTo(question) : null));
     const isMissing = !answers || answers.includes(undefined);
+    const isFailed = !isMissing && answers.some((answer, at) => answer === null && this.points[at].question);
     // Of settings without a plan nothing is asked.
     const isAwaited = isMissing && !this.isStale;
     byId("links").setAttribute("aria-busy", String(isAwaited));
-    byId("links").classList.toggle("old", isAwaited);
-    if (isMissing || !this.prediction) {
+    byId("links").classList.toggle("old", isAwaited || isFailed);
+    if (isFailed && !this.drawnOf) {
+      this.plot.replaceChildren();
+    }
+    if (isMissing || isFailed || !this.prediction) {
       return;
     }
     const key = JSON.stringify([widthOf(this.plot), this.points.map(({ link }) => link)]);
