@@ -378,6 +378,8 @@ class Page {
     if (this.windows.axis) {
       const { length } = this.windows.counted;
       this.map.follow(trace, this.windows.axis, { settings, prediction: found.value, length });
+    } else {
+      this.map.stop(trace);
     }
     this.starts.follow(found.value, this.controls.begin);
     this.starts.draw(this.windows.axis);

@@ -439,5 +439,7 @@ USES = {
     **late.LATE,
     "the worker": worker.check_worker,
     "a worker that fails": worker.check_failed,
+    "a worker that ends over another trace": worker.check_ended_over,
+    "a second worker that ends": worker.check_ended_aside,
     "an ended worker": worker.check_ended,
 }

@@ -87,6 +87,18 @@ export class MapView {
     this.ask();
   }
 
+  /** Counts nothing more of a trace, if no planner does: what is drawn of it stays, and what is of another goes. */
+  stop(trace) {
+    this.wanted = null;
+    if (this.held?.trace !== trace) {
+      this.held = null;
+      ["map-plot", "map-legend", "map-most"].forEach((id) => byId(id).replaceChildren());
+      this.inspector.hold(null);
+      byId("map-details").hidden = true;
+    }
+    this.fit(widthOf(this.plot));
+  }
+
   /** The pages of a trace that are shown. */
   pagesOf({ sizes: { pages } }) {
     return this.range ?? { fromPage: 0, endPage: pages };
@@ -173,12 +185,11 @@ export class MapView {
       rows: rowsOfGrid({ fromPage, endPage }),
     };
     const found = await trace.map(grid).catch(() => null);
-    if (trace !== this.wanted.trace) {
+    if (trace !== this.wanted?.trace) {
       return;
     }
     if (found === null) {
-      this.wanted = null;
-      this.fit(width);
+      this.stop(trace);
       return;
     }
     this.held = { ...wanted, axis, grid, turnGrid: { ...grid, columns }, ...found };

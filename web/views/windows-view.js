@@ -63,11 +63,22 @@ export class WindowsView {
     try {
       return { trace, length, windows: await trace.windows({ ...PLAIN, window: length }) };
     } catch (error) {
+      this.forget(trace);
       if (!(error instanceof Refusal) || this.counted.trace === trace) {
         throw error;
       }
       const whole = trace.sizes.last + 1;
       return { trace, length: whole, windows: await trace.windows({ ...PLAIN, window: whole }) };
+    }
+  }
+
+  /** Forgets the windows of another trace than this one, of which none could be counted. */
+  forget(trace) {
+    if (this.counted.trace !== trace) {
+      [this.counted, this.held, this.axis] = [{}, {}, null];
+      ["windows-plot", "windows-table"].forEach((id) => byId(id).replaceChildren());
+      this.inspector.hold(null);
+      byId("zoom-plan").disabled = true;
     }
   }
 
