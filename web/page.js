@@ -116,13 +116,15 @@ class Page {
     if (isLeft && this.opensAddressed()) {
       return;
     }
-    const isGiven = isOfAddress || isLeft;
+    // The address may be of this trace, and not of the one that was opened before.
+    const isNamed = this.state.print === trace.print && this.taken?.print !== trace.print;
+    const isGiven = isOfAddress || isLeft || isNamed;
     this.taken = trace;
     const { example } = trace.source;
     this.isAddressed = isRecordOnly ? this.isAddressed : isGiven;
     this.fitted = isGiven ? this.fitted : new Set();
     this.state.settings = this.settingsBeside(this.settingsFor(trace), trace, isRecordOnly);
-    this.keptPlans.open(trace, isRecordOnly ? null : this.shown);
+    this.keptPlans.open(trace, isRecordOnly || isNamed ? null : this.shown);
     const kept = isGiven || isRecordOnly ? this.state.kept : this.keptPlans.settings();
     const wanted = isGiven ? this.state.print : null;
     this.state = { ...this.state, kept, example, print: wanted ?? trace.print };

@@ -306,6 +306,11 @@ def check_keyboard(page):
     expect(not lost, f"not reached by the keyboard: {lost}")
 
 
+# The limits that an address says, and how many columns the comparison has.
+ADDRESSED = """[...["link", "downtime"].map((name) => document.getElementById(`control-${name}`).value),
+  document.querySelector("#comparison thead tr").children.length]"""
+
+
 def check_address(page):
     """The address holds the settings, the kept plans and a fingerprint of the trace, and nothing of the trace."""
     browser = page.browser
@@ -330,6 +335,13 @@ def check_address(page):
     page.open(address)
     page.load(example("gzip.pcwt"))
     page.becomes(f"textOf('trace-other').includes('{print_of}')", True, "the trace of the address is not named")
+    for kept in (["kept=link%3D66Mbit"], []):
+        page.open("&".join(["#link=77Mbit&downtime=70ms", *kept, f"of={print_of}"]))
+        for file in (example("gzip.pcwt"), path):
+            page.load(file)
+            found = page.browser.value(ADDRESSED)
+            expect(found == ["77", "70", 2 + len(kept)], f"an address over {os.path.basename(file)}: {found}")
+        page.becomes("document.getElementById('trace-other').hidden", True, "the address is of the trace at last")
 
 
 def check_old_browser(page):
