@@ -204,9 +204,10 @@ function isSameScale(one, other) {
   return one.guest * one.page * other.sampled === other.guest * other.page * one.sampled;
 }
 
-/** Whether a number of this plan and of a kept one can be told apart: pages of one size, moments of one trace. */
-function isCompared({ isPages, isMoment }, prediction, { found: { value }, name }) {
-  const isTold = !isMoment || (!name && prediction.plan.isStopped && value.plan.isStopped);
+/** Whether a number can be told apart of two plans: pages of one size, moments of one trace, steps of one kind. */
+function isCompared({ title, isPages, isMoment }, prediction, { found: { value }, name }) {
+  const isTold = isMoment ? !name && prediction.plan.isStopped && value.plan.isStopped
+    : title !== "" || prediction.plan.isClark === value.plan.isClark;
   return ![prediction, value].some(isUnknown) && isTold
     && (!isPages || isSameScale(prediction.scale, value.scale));
 }
