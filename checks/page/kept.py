@@ -149,7 +149,7 @@ def check_axes(page):
 
 def check_same(page):
     """A kept plan has the same settings as one with its link in another unit, and of pages that are no sample."""
-    page.ask("trace=gzip&link=8MiB&downtime=4ms&start=400&clark=0")
+    page.open_planned("#trace=gzip&link=8MiB&downtime=4ms&start=400&clark=0")
     page.clicked("keep")
     for text in ("2", "1"):
         typed(page, "sample", text)
