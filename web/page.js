@@ -63,7 +63,7 @@ class Page {
     this.map = new MapView(this.times);
     this.starts = new StartsView((tick) => this.startAt(tick), () => this.draw(), announce, this.times);
     this.limits = new LimitsView((settings, name) => this.controls.take(settings, [name]));
-    this.links = new LinksView((settings, name) => this.controls.take(settings, [name]));
+    this.links = new LinksView((link) => this.controls.set("link", link));
     this.commands = new CommandsView();
     this.late = new LateAnswers((kind) => this.drawLate(kind));
     this.controls.show(this.state.settings);
@@ -116,13 +116,15 @@ class Page {
     if (isLeft && this.opensAddressed()) {
       return;
     }
-    const isGiven = isOfAddress || isLeft;
+    // The address may be of this trace, and not of the one that was opened before.
+    const isNamed = this.state.print === trace.print && this.taken?.print !== trace.print;
+    const isGiven = isOfAddress || isLeft || isNamed;
     this.taken = trace;
     const { example } = trace.source;
     this.isAddressed = isRecordOnly ? this.isAddressed : isGiven;
     this.fitted = isGiven ? this.fitted : new Set();
     this.state.settings = this.settingsBeside(this.settingsFor(trace), trace, isRecordOnly);
-    this.keptPlans.open(trace, isRecordOnly ? null : this.shown);
+    this.keptPlans.open(trace, isRecordOnly || isNamed ? null : this.shown);
     const kept = isGiven || isRecordOnly ? this.state.kept : this.keptPlans.settings();
     const wanted = isGiven ? this.state.print : null;
     this.state = { ...this.state, kept, example, print: wanted ?? trace.print };
@@ -157,9 +159,9 @@ class Page {
     return found.settings;
   }
 
-  addressedSettings({ print, record, sizes }) {
+  addressedSettings({ print, record }) {
     const { settings, example } = this.state;
-    return example || !record || this.addressed === print ? settings : withRecord(settings, record, sizes);
+    return example || !record || this.addressed === print ? settings : withRecord(settings, record);
   }
 
   /** Settings for another trace, but with the limits of before if a plan is kept to compare, and they make a plan. */
@@ -249,7 +251,7 @@ class Page {
       const place = Number(dataset.exchanges) - this.keptPlans.others.length;
       const other = { ...kept[place], window: settings.window, ticks: settings.ticks };
       this.state = { ...this.state, kept: kept.with(place, structuredClone(settings)) };
-      this.controls.take(other, []);
+      this.controls.take(other, [...this.fitted].filter((name) => other[name].amount !== settings[name].amount));
     }
   }
 
@@ -260,8 +262,8 @@ class Page {
     this.isGiven = true;
     this.isAddressed = true;
     this.addressed = this.state.print;
-    this.fitted = new Set(this.past.follow().fitted ?? []);
-    this.fitted.forEach((name) => this.chosen.delete(name));
+    const { fitted = [], chosen = this.chosen } = this.past.follow();
+    [this.fitted, this.chosen] = [new Set(fitted), new Set(chosen)];
     this.keptPlans.forget();
     byId("moved").hidden = true;
     this.followed += 1;
@@ -350,6 +352,7 @@ class Page {
       return;
     }
     this.shown = { trace, settings, found, kept, revision };
+    this.late.askAgain();
     this.draw();
     this.announceDrawn();
     await this.windows.fillApart();
@@ -377,6 +380,8 @@ class Page {
     if (this.windows.axis) {
       const { length } = this.windows.counted;
       this.map.follow(trace, this.windows.axis, { settings, prediction: found.value, length });
+    } else {
+      this.map.stop(trace);
     }
     this.starts.follow(found.value, this.controls.begin);
     this.starts.draw(this.windows.axis);
@@ -451,7 +456,7 @@ class Page {
   settle() {
     clearTimeout(this.settling);
     const fragment = `#${fragmentOf(this.state)}`;
-    this.past.add(fragment, { fitted: [...this.fitted] });
+    this.past.add(fragment, { fitted: [...this.fitted], chosen: [...this.chosen] });
     this.tellAddress();
     this.announce();
   }

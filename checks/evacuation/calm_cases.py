@@ -141,26 +141,25 @@ def without_that_hour(programs: Programs, folder: str) -> None:
     expect_in_time(abs(opens - time.time()) < 20, f"{told['opens']}")
 
 
-def nights(folder: str, begin: int) -> dict[str, dict[int, model.Guest]]:
-    """Two guests in a night of eight minutes: one is busy in the first half, and the other in the second."""
+def nights(folder: str) -> tuple[int, dict[str, dict[int, model.Guest]], list[str]]:
+    """Two guests in a night of eight minutes, some hours from now: one is busy in the first half, and the other in the
+    second. When it begins, the guests, and the words of their records and of the window."""
+    begin = int(time.time() // 60 * 60 + 7200) % DAY
     found: dict[str, dict[int, model.Guest]] = {"early": {}, "late": {}}
     for number in range(8):
         for name, is_busy in (("early", number < 4), ("late", number >= 4)):
             guest = guest_of(2048, 1600 if is_busy else 20, 60, 2)
             found[name][60 * number] = guest
             segment(folder, name, begin + 60 * number, guest)
-    return found
+    window = f"{clock(begin)}-{clock(begin + 480)}"
+    return begin, found, [*(f"{folder}/{name}.light.pcwt" for name in found), "--window", window]
 
 
 def held_until_calm(programs: Programs, folder: str) -> None:
     """In a window a guest that is busy waits for its calm, and one that is calm does not; without the wait it costs
     more. All of it is what precopy-schedule tells of the costs and the waits."""
-    begin = int(time.time() // 60 * 60 + 7200) % DAY
-    known = nights(folder, begin)
-    names = [f"{folder}/{name}.light.pcwt" for name in known]
-    window = f"{clock(begin)}-{clock(begin + 480)}"
-    picture = f"{folder}/window.svg"
-    told, text = told_at(programs, folder, *names, "--window", window, "--at-once", "1,2", "--picture", picture)
+    (begin, known, words), picture = nights(folder), f"{folder}/window.svg"
+    told, text = told_at(programs, folder, *words, "--at-once", "1,2", "--picture", picture)
     expect_clocks(picture, told)
     moves = {move["guest"]: move for move in told["best"]["moves"]}
     opens = datetime.datetime.fromisoformat(told["opens"]).timestamp()
@@ -175,7 +174,7 @@ def held_until_calm(programs: Programs, folder: str) -> None:
         expect(micros(move["end_seconds"]) == micros(at) + plan.time, f"{move}")
         expect(abs(datetime.datetime.fromisoformat(move["begin"]).timestamp() - opens - at) <= 1, f"{move}")
     expect_as_scheduled(told)
-    now, _ = told_at(programs, folder, *names, "--at", clock(begin), "--at-once", "1,2")
+    now, _ = told_at(programs, folder, *words[:-2], "--at", clock(begin), "--at-once", "1,2")
     sent = [sum(move["cost"]["sent_bytes"] for move in each["best"]["moves"]) for each in (told, now)]
     expect(sent[0] < 0.8 * sent[1], f"{sent}: nothing is saved")
     expect(re.search(rf"not before \d{{4}}-\d\d-\d\d {clock(begin + 240)[:3]}", text), text)
@@ -216,12 +215,8 @@ def expect_as_scheduled(told: dict) -> None:
 
 def guests_apart_in_a_window(programs: Programs, folder: str) -> None:
     """Of guests that move apart one waits for the other, also if that is held back."""
-    begin = int(time.time() // 60 * 60 + 7200) % DAY
-    nights(folder, begin)
-    names = [f"{folder}/{name}.light.pcwt" for name in ("early", "late")]
     apart = write_settings(folder, {"apart": [["early", "late"]]})
-    window = f"{clock(begin)}-{clock(begin + 480)}"
-    told, _ = told_at(programs, folder, *names, "--window", window, "--at-once", "2", *apart)
+    told, _ = told_at(programs, folder, *nights(folder)[2], "--at-once", "2", *apart)
     one, other = sorted(told["best"]["moves"], key=lambda move: move["start_seconds"])
     expect(one["end_seconds"] <= other["start_seconds"], f"{told['best']}")
     expect(told["schedules"][told["best"]["schedule"]]["kept"], f"{told['schedules']}")
@@ -280,14 +275,11 @@ def refused_hours(programs: Programs, folder: str) -> None:
 
 def damaged_segments(programs: Programs, folder: str) -> None:
     """Of a window whose records are damaged in part, the others tell."""
-    begin = int(time.time() // 60 * 60 + 7200) % DAY
-    known = nights(folder, begin)
+    _, _, words = nights(folder)
     paths = sorted(name for name in os.listdir(folder) if name.startswith("early.") and name.endswith(".pcwt"))
     with open(os.path.join(folder, paths[-1]), "ab") as file:
         file.write(b"more")
-    names = [f"{folder}/{name}.light.pcwt" for name in known]
-    words = ["--link", LINK, "--window", f"{clock(begin)}-{clock(begin + 480)}", "--json", f"{folder}/told.json"]
-    _, fault = run_tool(programs, *names, *words)
+    _, fault = run_tool(programs, *words, "--link", LINK, "--json", f"{folder}/told.json")
     expect(fault.count("\n") == 1 and f"{paths[-1]}: E14" in fault, fault)
     moves = {move["guest"]: move for move in document_of(folder)["best"]["moves"]}
     expect(240 <= moves["early"]["start_seconds"] < 420, f"{moves}")
@@ -302,8 +294,9 @@ class Waiting:
         time.sleep(max(0.0, until - time.time()) if until > 1e9 else 0.05)
 
 
-def steps_in(seconds: float) -> tuple[list[lines.Step], float]:
-    """The steps of a schedule that opens in a second: two guests in one slot, of which the second one is held back."""
+def steps_in(seconds: float, length: float = 60) -> tuple[list[lines.Step], float]:
+    """The steps of a schedule that opens in a second, for so long: two guests in one slot, of which the second one is
+    held back."""
     opens = time.time() + 1
     cost = Cost(1, float(RATE), 500_000, 1 << 20, 5000, 500_000, 500_000, 1 << 20, "yes", True, "")
     wait = micros(seconds)
@@ -312,10 +305,11 @@ def steps_in(seconds: float) -> tuple[list[lines.Step], float]:
         Placed(Guest(name, "", "", "", Wanted(0.3), {}, {}), cost._replace(hold=hold), start, start + 500_000, 0)
         for name, start, hold in rows
     ]
-    return lines.steps_of(moves, {}, opens), opens
+    return lines.steps_of(moves, {}, opens, opens + length), opens
 
 
-def expect_begun(begun: dict[str, float], opens: float, hold: float) -> None:
+def expect_begun(log: list[monitors.Event], opens: float, hold: float) -> None:
+    begun = {event.guest: event.time for event in log if event.what == "begins"}
     expect(set(begun) == {"web", "db"}, f"{begun}")
     late = begun["web"] - opens, begun["db"] - opens - 0.5 - hold
     expect(min(late) >= 0, f"{begun} after {opens}")
@@ -326,7 +320,6 @@ def held_in_scripts(_: Programs, folder: str) -> None:
     """Scripts hold guests back until their times, and so does a run; a signal ends the wait."""
     for kind in ("qmp", "virsh"):
         place = os.path.join(folder, kind)
-        os.makedirs(place)
         log: list[monitors.Event] = []
         guests = [monitors.Monitor(place, name, log, 0.2) for name in ("web", "db")]
         own = {guest.name_of_guest: Way(guest.path, "tcp:b:4444") for guest in guests}
@@ -336,10 +329,16 @@ def held_in_scripts(_: Programs, folder: str) -> None:
         os.chmod(script, 0o700)
         done = subprocess.run([script], env=environment, capture_output=True, text=True, timeout=60)
         expect(done.returncode == 0, f"{done}")
-        events = log if kind == "qmp" else monitors.events_in(path)
-        expect_begun({event.guest: event.time for event in events if event.what == "begins"}, opens, 2)
+        expect_begun(log if kind == "qmp" else monitors.events_in(path), opens, 2)
         text = read_text(script)
         expect_stopped(script, text, steps[0].not_before, environment)
+        for guest in guests:
+            guest.state, guest.migration = "running", None
+        write_file(text.replace(str(steps[0].closes), "1").replace(str(int(steps[0].closes)), "1"), script)
+        done = subprocess.run([script], env=environment, capture_output=True, text=True, timeout=60)
+        expect(
+            done.returncode == 1 and "the window has ended" in done.stderr and "begins" not in done.stdout, f"{done}"
+        )
 
 
 def expect_stopped(script: str, text: str, time_of_first: int, environment: dict) -> None:
@@ -363,27 +362,35 @@ def expect_stopped(script: str, text: str, time_of_first: int, environment: dict
 
 
 def held_in_runs(_: Programs, folder: str) -> None:
-    """A run holds guests back until their times; one that is stopped meanwhile begins none."""
-    for is_stopped in (False, True):
-        place = os.path.join(folder, str(is_stopped))
-        os.makedirs(place)
+    """A run holds guests back until their times; one that is stopped meanwhile begins none, and neither does one from
+    the end of its window on."""
+    for is_stopped, length in ((False, 60), (True, 60), (False, 2.4)):
+        place = os.path.join(folder, f"{is_stopped}{length}")
         log: list[monitors.Event] = []
         own = {name: Way(monitors.Monitor(place, name, log, 0.2).path, "tcp:b:4444") for name in ("web", "db")}
-        steps, opens = steps_in(2)
+        steps, opens = steps_in(2, length)
         moves = [run.Moving(step, movers.QmpMover(step, own[step.move.guest.name]), None) for step in steps]
         stopping = Waiting()
         going = run.Run(moves, stopping, opens)
         stopping.by = "SIGTERM" if is_stopped else None
-        with contextlib.redirect_stdout(io.StringIO()):
+        with contextlib.redirect_stdout(io.StringIO()) as told:
             going.perform()
         outcome = going.outcome()
         states = [move.state for move in outcome.moves]
+        if length < 60:
+            expect((states, outcome.status()) == (["moved", "not begun"], 5), f"{states}, {log}")
+            expect("\nthe window has ended: no other guest begins\n" in told.getvalue(), told.getvalue())
+            expect(outcome.moves[1].document()["why"] == "the window had ended", f"{outcome.moves[1]}")
+            # Nor does a guest whose window ends while its monitor is asked.
+            moves[1].begin()
+            expect(moves[1].seen.why == "the window has ended" and len(log) == 2, f"{moves[1].seen}, {log}")
+            continue
         if is_stopped:
             expect(states == ["not begun"] * 2 and not log, f"{states}, {log}")
             expect(outcome.time == 0 and ", in 0 s; " in outcome.title(), outcome.title())
             continue
         expect(states == ["moved"] * 2, f"{states}")
-        expect_begun({event.guest: event.time for event in log if event.what == "begins"}, opens, 2)
+        expect_begun(log, opens, 2)
         starts = [move.start / 1e6 for move in outcome.moves]
         expect(-0.1 < starts[0] and 2.4 < starts[1], f"{starts}: not from the opening on")
         expect_in_time(starts[0] < 3 and starts[1] < 6, f"{starts}: not from the opening on")

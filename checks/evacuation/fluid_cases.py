@@ -6,18 +6,9 @@ import subprocess
 from typing import NamedTuple
 
 from checks.evacuation import model, monitors
-from checks.evacuation.cases import (
-    EVACUATE,
-    Programs,
-    document_of,
-    expect,
-    four_guests,
-    run_tool,
-    steady_guest,
-    write_record,
-)
+from checks.evacuation.cases import EVACUATE, Programs, document_of, four_guests, run_tool, steady_guest, write_record
 from checks.evacuation.moving_cases import by_qmp, four_monitors, run_of, write_settings
-from checks.lib.harness import drawn
+from checks.lib.harness import cases_of, drawn, expect
 from checks.lib.tally import expect_in_time
 from precopy_dev.files import read_text, write_file
 from precopy_tools.evacuate import costs as host_costs
@@ -260,14 +251,4 @@ def fluid_runs_of_virsh(programs: Programs, folder: str) -> None:
     expect_in_time(("db", "64") in told, f"{told}")
 
 
-CASES = (
-    even_shares,
-    random_hosts,
-    whole_fluid_runs,
-    refused_fluid_words,
-    guests_whose_records_do_not_tell,
-    hours_of_fluid_guests,
-    fluid_runs,
-    silent_monitors,
-    fluid_runs_of_virsh,
-)
+CASES = cases_of(__name__)

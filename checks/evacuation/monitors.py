@@ -53,6 +53,7 @@ class Monitor(threading.Thread):
 
     def __init__(self, folder: str, name: str, log: list[Event], seconds: float = 0.5, **how):
         super().__init__(daemon=True)
+        os.makedirs(folder, exist_ok=True)
         self.path, self.name_of_guest, self.log, self.seconds = os.path.join(folder, f"{name}.qmp"), name, log, seconds
         self.fails, self.state, self.migration = how.get("fails"), how.get("state", "running"), how.get("migration")
         self.begun, self.ended, self.asked, self.parameters = 0.0, 0.0, [], []

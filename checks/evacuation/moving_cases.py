@@ -22,6 +22,7 @@ from checks.evacuation.cases import (
     steady_guest,
     write_record,
 )
+from checks.lib.harness import cases_of
 from checks.lib.tally import expect_in_time
 from precopy_dev.files import read_text, write_file
 from precopy_tools.evacuate import movers, ways
@@ -97,9 +98,9 @@ def refused_ways(programs: Programs, records: list[str], folder: str) -> None:
         expect(told in fault, f"{fields}: {fault!r}")
 
 
-def script_of(programs: Programs, folder: str, *words: str, status: int = 0) -> str:
+def script_of(built: Programs, folder: str, *words: str, status: int = 0) -> str:
     """The script of --dry-run, as a file that can be run."""
-    text, _ = run_tool(programs, *words, "--dry-run", status=status)
+    text, _ = run_tool(built, *words, "--dry-run", status=status)
     path = write_file(text, folder, "move")
     os.chmod(path, 0o700)
     return path
@@ -234,7 +235,7 @@ def expect_report(path: str, told: dict) -> str:
     for group, move in zip(groups, moves):
         was, bars = runs[move["guest"]], bars_in(group, scale)
         kinds = [bar[0] for bar in bars]
-        real = {"moved": ["moving", "down"], "not begun": []}.get(was["state"], ["missed"])
+        real = {"moved": ["moving", "down"], "not begun": [], "lost": ["lost"]}.get(was["state"], ["missed"])
         expect(kinds == ["planned", "down", *real], f"{was}: {bars}")
         pairs = [(bars[0], move)] + ([(bars[2], was)] if real else [])
         for (_, begin, end, _), wanted in pairs:
@@ -271,7 +272,6 @@ def stopped_runs(programs: Programs, folder: str) -> None:
     records = four_guests(folder)
     for number in signal.SIGINT, signal.SIGTERM:
         place = os.path.join(folder, number.name)
-        os.makedirs(place)
         log, guests = four_monitors(place, seconds=30)
         text, fault = run_of(programs, *records, *by_qmp(place), kill=number, status=5)
         expect(sorted(event.what for event in log) == ["begins", "begins", "cancelled", "cancelled"], f"{log}")
@@ -295,10 +295,11 @@ def lost_answers(programs: Programs, folder: str) -> None:
         )
     ):
         place = os.path.join(folder, str(number))
-        os.makedirs(place)
         log, guests = four_monitors(place, idle=how)
-        words = [*by_qmp(place), "--json", f"{folder}/told.json"]
+        words = [*by_qmp(place), "--json", f"{folder}/told.json", "--picture", f"{folder}/run.svg"]
         text, fault = run_of(programs, *records, *words, status=0 if state == "moved" else 5)
+        expect_report(f"{folder}/run.svg", document_of(folder))
+        expect((">not known<" in read_text(folder, "run.svg")) == (state == "lost"), f"{how}: another key")
         told = {each["guest"]: each["state"] for each in document_of(folder)["run"]["guests"]}
         expect(told["idle"] == state and said in fault, f"{how}: {told}, {fault}")
         expect(state != "lost" or "it runs here" not in fault and ": look at both hosts" in fault, fault)
@@ -327,7 +328,6 @@ def what_it_did_not_begin(programs: Programs, folder: str) -> None:
         )
     ):
         place = os.path.join(folder, str(number))
-        os.makedirs(place)
         log, guests = four_monitors(place, idle=how)
         _, fault = run_of(programs, *records, *by_qmp(place), status=1)
         expect("nothing was begun" in fault and f"idle: {place}/idle.qmp: " in fault and told in fault, fault)
@@ -444,20 +444,4 @@ def guests_that_stood_still(programs: Programs, folder: str) -> None:
         expect(told == (status == 4), f"{share}: {text}")
 
 
-CASES = (
-    each_its_own_way,
-    scripts_of_virsh,
-    scripts_of_qmp,
-    runs_that_end_well,
-    runs_that_do_not,
-    stopped_runs,
-    lost_answers,
-    moves_of_which_nothing_is_known,
-    what_it_did_not_begin,
-    runs_of_virsh,
-    series_of_guests,
-    some_refused,
-    small_guests_on_fast_links,
-    old_copies,
-    guests_that_stood_still,
-)
+CASES = cases_of(__name__)

@@ -79,7 +79,6 @@ def scripts_without_answers(programs: Programs, folder: str) -> None:
         )
     ):
         place = os.path.join(folder, str(number))
-        os.makedirs(place)
         log, _ = four_monitors(place, idle=how)
         path = script_of(programs, place, *records, *by_qmp(place))
         done = subprocess.run([path], cwd="/", capture_output=True, text=True, timeout=SECONDS)
@@ -140,7 +139,6 @@ def reports_that_cannot_be_written(programs: Programs, folder: str) -> None:
     records = four_guests(folder)
     for number, (how, status) in enumerate((({}, 1), ({"fails": "no room"}, 5))):
         place = os.path.join(folder, str(number))
-        os.makedirs(place)
         four_monitors(place, idle=how)
         _, fault = run_of(programs, *records, *by_qmp(place), "--json", f"{place}/none/told.json", status=status)
         expect(f"{place}/none/told.json: No such file or directory" in fault, fault)

@@ -6,10 +6,12 @@ tools/export and tools/release must refuse each damaged trace by the name that t
 valgrind reports about a process is imported too, if valgrind can be had.
 """
 
+import contextlib
 import glob
 import os
 import stat
 import subprocess
+from unittest import mock
 
 from checks.lib import harness
 from checks.lib.harness import cases_of, expect, run_cases, run_main
@@ -18,6 +20,7 @@ from checks.lib.traces import Trace, header, record
 from checks.lib.worked import damaged
 from precopy_dev.files import read_bytes, write_file
 from precopy_dev.tree import TOP
+from precopy_tools.formats import traces
 
 IMPORT, EXPORT, RELEASE = (os.path.join(TOP, "tools", name) for name in ("import", "export", "release"))
 SECONDS = 600
@@ -251,6 +254,20 @@ def damaged_traces(program, folder):
         expect(told.status == 1 and told.faults == f"precopy: trace {name}\n".encode(), told)
         expect_refused(folder, [EXPORT, "-"], trace, f"export: trace {name}")
         expect_refused(folder, [RELEASE, "--after", "10", "-"], trace, f"release: trace {name}")
+
+
+def whole_on_the_disk(_, folder):
+    """A file is on the disk before it has its name, and then its name is. One that does not get there has no name."""
+    path, seen, own = os.path.join(folder, "out"), [], os.rename
+    synced = mock.patch("os.fsync", lambda each: seen.append(os.readlink(f"/proc/self/fd/{each}")))
+    named = mock.patch("os.rename", lambda *names: seen.append(names[1]) or own(*names))
+    with synced, named, traces.Pending(path) as file:
+        file.write(b"all")
+        file.finish()
+    expect(seen == [file.hidden, path, folder], f"{seen}")
+    with contextlib.suppress(OSError), mock.patch("os.fsync", side_effect=OSError), traces.Pending(path) as file:
+        file.finish()
+    expect(os.listdir(folder) == ["out"] and read_bytes(path) == b"all", f"{os.listdir(folder)}")
 
 
 def bad_words(_, folder):

@@ -10,10 +10,10 @@ click takes as enough for the limit keeps it. Each damage of the table in docs/F
 trace of `2^28` bytes is planned, or refused in a sentence. Fifty traces of all shapes plan at once. No task of the
 page's own thread works for more than 50 ms, however large the trace. The page opens no connection, fits widths from 360
 to 1,920 pixels in each state, has contrasts of 4.5 for text and 3 for marks in light and in dark, and a name of its own
-for each control. In tables points are below each other, and no plan has a gap beside it, on paper neither. If Node is
-there, web/engine/planner.js plans the same in it, and the tests of checks/page/modules pass; and the package for Node
-is made and installed, answers what models say, and refuses what they do (checks/page/package.py). Without Chromium all
-but sizes and Node are left out.
+for each control, with the words that are seen of it. In tables points are below each other, and no plan has a gap
+beside it, on paper neither. If Node is there, web/engine/planner.js plans the same in it, and the tests of
+checks/page/modules pass; and the package for Node is made and installed, answers what models say, and refuses what they
+do (checks/page/package.py). Without Chromium all but sizes and Node are left out.
 
 With --pictures only looks are tried, and FOLDER gets them for a reader's eye: in Chromium a PNG of each state of the
 page at each width, in light and in dark, PDFs of what is printed, and the files that the page saves; in Firefox too the

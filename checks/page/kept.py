@@ -147,6 +147,18 @@ def check_axes(page):
     )
 
 
+def check_same(page):
+    """A kept plan has the same settings as one with its link in another unit, and of pages that are no sample."""
+    page.open_planned("#trace=gzip&link=8MiB&downtime=4ms&start=400&clark=0")
+    page.clicked("keep")
+    for text in ("2", "1"):
+        typed(page, "sample", text)
+    page.with_unit("link", "KiB")
+    said = page.browser.value("textOf('comparison')")
+    page.after("document.querySelector('[data-drops]').click()")
+    expect("Kept plan 1 has the same settings." in said, said)
+
+
 # What is said of a link or a downtime that a hypervisor does not take.
 NO_LINK = sentence_of(host_lines(0, 1)[2])
 NO_LIBVIRT_DOWNTIME = sentence_of(host_lines(1 << 20, 0)[3])
@@ -203,17 +215,27 @@ def check_hosts(page):
 
 
 def check_copied(page):
-    """A button that copies says for a while that it did, and then again what it does, also if it is pressed twice."""
+    """A button that copies says for a while that it did, also by its name and to a screen reader, and then again what
+    it does. If it is pressed twice it says so twice."""
     page.ask("trace=gzip&first=100&start=400")
     page.rest()
     said = page.browser.value(
         """(async () => {
       const button = document.querySelector("[data-copies=command-predict]");
-      const after = (millis) => new Promise((resume) => setTimeout(() => resume(button.textContent), millis));
+      const told = [];
+      const observer = new MutationObserver(() => textOf("told") && told.push(textOf("told")));
+      observer.observe(document.getElementById("told"), { childList: true, characterData: true, subtree: true });
+      const after = async (millis) => {
+        await new Promise((resume) => setTimeout(resume, millis));
+        return [button.textContent, button.getAttribute("aria-label"), ...told.splice(0)];
+      };
       button.click();
-      const told = await after(300);
+      const first = await after(300);
       button.click();
-      return [told, await after(2_000)];
+      return [first, await after(300), await after(2_000)];
     })()"""
     )
-    expect(said[0] in ("Copied", "Selected") and said[1] == "Copy", f"a button that was pressed twice says {said}")
+    expect(said[0][0] in ("Copied", "Selected") and said[2][0] == "Copy", f"pressed twice, the button says {said}")
+    names = [f"{words[0]} this prediction" for words in said]
+    told = [[word, name, *[name] * (word != "Copy")] for (word, *_), name in zip(said, names)]
+    expect(said == told, f"a screen reader is told {said} in place of {told}")

@@ -6,7 +6,7 @@ import re
 from checks.lib.amount_texts import time_text
 from checks.lib.tally import expect
 from checks.page import saves
-from checks.page.acts import spelled
+from checks.page.acts import spelled, typed
 from checks.view.limit_cases import RATES, TIMES
 
 # How far from its place a point may be drawn, in pixels.
@@ -73,6 +73,11 @@ def check_links(page):
     page.rest()
     found = page.press_in("links-plot", "End", "Enter")
     expect("--link 512MiB" in found["predict"], f"the last link is not taken: {found['predict']}")
+    page.rest()
+    typed(page, "reserve", "5 s")
+    found = page.press_in("links-plot", "Home", "Enter")
+    reserve = page.browser.value("document.getElementById('control-reserve').value")
+    expect(found["refused"] == "reserve" and reserve == "5", f"a link of the last plan brings back {reserve} ms")
 
 
 def place_of_links(labels):

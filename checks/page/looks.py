@@ -224,11 +224,13 @@ def read_nodes(page):
     return [node for node in nodes if "role" in node and not node["ignored"]]
 
 
+ROLES = {"button", "slider", "textbox", "combobox", "checkbox", "progressbar", "DisclosureTriangle", "link"}
+
+
 def check_names(page):
     """Each control has a name of its own for a screen reader, each picture that can be looked at a value, and whatever
     describes an element is there. A link leads past the settings."""
-    roles = {"button", "slider", "textbox", "combobox", "checkbox", "progressbar", "DisclosureTriangle", "link"}
-    found = [node for node in read_nodes(page) if node["role"]["value"] in roles]
+    found = [node for node in read_nodes(page) if node["role"]["value"] in ROLES]
     nameless = [node["role"]["value"] for node in found if not node.get("name", {}).get("value")]
     expect(len(found) > 40 and not nameless, f"{len(found)} controls; without a name: {nameless}")
     names = collections.Counter((node["role"]["value"], node["name"]["value"]) for node in found)
@@ -244,6 +246,28 @@ def check_names(page):
     page.browser.value("document.body.focus(); document.getElementById('past-settings').focus()")
     page.browser.press("Enter", 13)
     page.browser.wait("document.activeElement.id === 'outcome'", 5)
+
+
+# The words that are seen of a control: its own, or those of its label. A picture has none.
+SEEN_WORDS = """function () {
+  const label = this.closest(".control")?.querySelector("label");
+  const places = this.matches("input, select") ? [...(this.labels ?? []), ...(label ? [label] : [])] : [this];
+  return this.matches(".plot") ? [] : places.map((place) => place.innerText.trim()).filter(Boolean);
+}"""
+
+
+def check_labels(page, look):
+    """The name of each button, link and field has the words that are seen of it: WCAG 2, section 2.5.3."""
+    browser, count = page.browser, 0
+    for node in read_nodes(page):
+        if node["role"]["value"] in ROLES:
+            place = browser.call("DOM.resolveNode", backendNodeId=node["backendDOMNodeId"])["object"]["objectId"]
+            asked = {"objectId": place, "functionDeclaration": SEEN_WORDS, "returnByValue": True}
+            name = " ".join(node["name"]["value"].lower().split())
+            for words in browser.call("Runtime.callFunctionOn", **asked)["result"]["value"]:
+                expect(" ".join(words.lower().split()) in name, f"{look}: {words!r} is seen, and the name is {name!r}")
+                count += 1
+    expect(count > 4, f"{look}: {count} controls have words")
 
 
 def check_keyboard(page):
@@ -282,6 +306,11 @@ def check_keyboard(page):
     expect(not lost, f"not reached by the keyboard: {lost}")
 
 
+# The limits that an address says, and how many columns the comparison has.
+ADDRESSED = """[...["link", "downtime"].map((name) => document.getElementById(`control-${name}`).value),
+  document.querySelector("#comparison thead tr").children.length]"""
+
+
 def check_address(page):
     """The address holds the settings, the kept plans and a fingerprint of the trace, and nothing of the trace."""
     browser = page.browser
@@ -306,6 +335,13 @@ def check_address(page):
     page.open(address)
     page.load(example("gzip.pcwt"))
     page.becomes(f"textOf('trace-other').includes('{print_of}')", True, "the trace of the address is not named")
+    for kept in (["kept=link%3D66Mbit"], []):
+        page.open("&".join(["#link=77Mbit&downtime=70ms", *kept, f"of={print_of}"]))
+        for file in (example("gzip.pcwt"), path):
+            page.load(file)
+            found = page.browser.value(ADDRESSED)
+            expect(found == ["77", "70", 2 + len(kept)], f"an address over {os.path.basename(file)}: {found}")
+        page.becomes("document.getElementById('trace-other').hidden", True, "the address is of the trace at last")
 
 
 def check_old_browser(page):

@@ -6,6 +6,7 @@ import io
 from checks.lib.tally import expect
 from checks.lib.traces import Trace
 from checks.page.cases import example
+from checks.page.kept import DIFFERENCES
 from checks.page.saves import saved_files
 from checks.page.tables import ROWS_SHOWN
 from precopy_dev.models import courses, looks, redrawn, remedies
@@ -54,6 +55,8 @@ def check_kept_manners(page):
     said = page.browser.value("textOf('comparison')")
     expect("Kept plan 1 differs: Clark's rounds." in said, said)
     expect(by_looks["rounds"] != by_rounds["rounds"] and "Rounds or looks" in said, f"{by_looks} beside {by_rounds}")
+    differing = page.browser.value(DIFFERENCES)
+    expect("rounds" not in differing and "time" in differing, f"of rounds and looks are compared {differing}")
     kept = page.browser.value(
         "[...document.querySelectorAll('[data-plan=\"Kept plan 1\"] b')].map((b) => b.textContent)"
     )

@@ -9,6 +9,7 @@ from typing import NamedTuple
 from checks.lib.tally import expect
 from checks.lib.traces import Trace
 from checks.page import shapes
+from checks.page.acts import guest_with_record
 from checks.page.cases import example
 from checks.page.round_pages import Asked, RoundPages, map_rows, rounds_by_page
 from checks.page.saves import saved_files
@@ -245,6 +246,15 @@ def check_map(page):
     page.browser.wait("textOf('map-most').includes('16,294')", 5)
     page.drop(("one.pcwt", shapes.trace(12, 1, [(5, 0, 1)])))
     page.becomes("textOf('map-most')", "The write that is shown goes to page 0.", "of one write")
+
+
+def check_map_scale(page):
+    """The map says that it is of a sample as soon as a record says so, though its ticks stay as long as they were."""
+    page.open_planned("#trace=gzip")
+    for files, wanted in zip(guest_with_record("a"), ("Where in memory, MiB", "Where in the sample, MiB")):
+        page.drop(files)
+        page.rest()
+        page.becomes("document.querySelector('#map-plot text.title').textContent", wanted, f"after {files[0]}")
 
 
 def check_map_rounds(page):

@@ -57,6 +57,48 @@ def check_records(page):
         expect(page.browser.value(VALUES) == wanted, f"{name} has changed {page.browser.value(VALUES)}")
 
 
+def check_dropped_again(page):
+    """A trace that is dropped again keeps the record that was read before, also if it is left and gone back to, unless
+    another record comes with it. One that is refused is told once."""
+    (_, trace), (_, record) = guest_with_record("a")
+    wanted = [str(json.loads(record)["first_tick"]), "31.25156", "1"]
+    page.browser.forget_pages()
+    page.open_planned("#trace=gzip")
+    for files in ([("a.pcwt", trace), ("a.json", record)], [("a.pcwt", trace)], [("b.pcwt", trace)]):
+        said = page.drop(*files)
+        expect(page.browser.value(VALUES) == wanted and "as a.json says" in said, f"{files[0][0]}: {said}")
+    page.browser.wait("location.hash.includes('of=')", 5)
+    page.drop(example_named("gzip.pcwt", "gzip.pcwt"))
+    page.clicked("undo")
+    page.becomes("textOf('trace-state').startsWith('b.pcwt: ')", True, "after Undo")
+    page.becomes("textOf('trace-state').includes('as a.json says')", True, "after Undo")
+    other = json.dumps({**json.loads(record), "tick_seconds": 0.002}).encode()
+    said = page.drop(("a.pcwt", trace), ("c.json", other))
+    expect(page.browser.value(VALUES)[2] == "2" and "as c.json says" in said, f"another record: {said}")
+    said = page.drop(("a.pcwt", trace), ("d.json", b"{}"))
+    expect("d.json is not used: " in said and "says" not in said.partition(" | ")[2], f"one that is refused: {said}")
+    said = page.drop(("a.pcwt", trace))
+    expect("json" not in said, f"after one that was refused: {said}")
+
+
+def check_beside_refused(page):
+    """A record beside a file that is refused is that of the trace that is open, or of one that is still to come, or is
+    refused by its field."""
+    (_, trace), (_, record) = guest_with_record("a")
+    page.open_planned("#trace=gzip")
+    said = page.drop(("bad.pcwt", trace[:-1]), ("a.json", record))
+    expect("bad.pcwt is refused: E8 " in said and "a.json is not used: trace_pages is " in said, said)
+    page.drop(("a.pcwt", trace))
+    said = page.drop(("notes.txt", b"no trace"), ("a.json", record), ("b.json", record))
+    expect("notes.txt is refused: " in said and "a.pcwt is still open.Not opened: b.json" in said, said)
+    expect(", as a.json says" in said, said)
+    page.open("#link=1Gbit&downtime=100ms")
+    page.let_fall(("bad.pcwt", trace[:-1]), ("a.json", record))
+    page.browser.wait("textOf('trace-notes').includes('a.json is read once its trace is here.')", 5)
+    said = page.drop(("a.pcwt", trace))
+    expect(", as a.json says" in said, said)
+
+
 def check_unreadable(page):
     """A record that cannot be read is refused in a sentence, and leaves the trace beside it to be opened."""
     trace, record = guest_with_record("a")
@@ -161,6 +203,36 @@ def check_fitted_again(page):
     expect(said[0].startswith("Fitted to this trace.") and said[1] == "Fitted, too.", f"over the trace before: {said}")
 
 
+def check_chosen_again(page):
+    """A link that was chosen, and that Undo or an exchange brings back, is not told as fitted, and stays over the next
+    trace."""
+    for way in ("undo", "exchange"):
+        page.browser.forget_pages()
+        page.open_planned("#trace=gzip")
+        page.drop(example_named("own.pcwt", "gzip.pcwt"))
+        page.with_unit("link", "Mbit")
+        typed(page, "link", "64")
+        page.browser.wait("location.hash.includes('link=64Mbit')", 5)
+        if way == "exchange":
+            page.clicked("keep")
+        typed(page, "downtime", "9000000")
+        page.browser.wait("location.hash.includes('downtime=9000')", 5)
+        page.clicked("fit")
+        expect(suggestion(page, "link").startswith("Fitted") and limits(page)[0] != ["64", "Mbit"], f"{limits(page)}")
+        if way == "exchange":
+            page.after("document.querySelector('[data-exchanges]').click()")
+            page.after("document.querySelector('[data-drops]').click()")
+        else:
+            page.browser.wait("!location.hash.includes('downtime=9000')", 5)
+            for _ in range(2):
+                page.clicked("undo")
+        page.becomes("document.getElementById('control-link').value", "64", way)
+        page.rest()
+        expect(not suggestion(page, "link"), f"after {way}: {suggestion(page, 'link')!r}")
+        page.drop(example_named("other.pcwt", "guests/mid.light.pcwt"))
+        expect(limits(page)[0] == ["64", "Mbit"], f"over another trace after {way}: {limits(page)}")
+
+
 def check_doubts(page):
     """Counts of a record that go badly together are told, and make no guest that is larger than it is; a record that is
     too long is refused as such."""
@@ -229,6 +301,9 @@ RECORDS = {
     "a record and an address of its trace": check_own_address,
     "limits that were fitted": check_fitted,
     "limits that were fitted, and Undo": check_fitted_again,
+    "a trace that is dropped again": check_dropped_again,
+    "a record beside a file that is refused": check_beside_refused,
+    "a limit that was chosen, and comes back": check_chosen_again,
     "doubts of a record": check_doubts,
     "a record that cannot be read": check_unreadable,
     "a guest that stood still": check_still,

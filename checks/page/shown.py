@@ -31,7 +31,7 @@ addEventListener("unhandledrejection", ({ reason }) => faults.push(String(reason
 // Whether nothing that is shown is still to come: standard errors, and what is enough for the limit.
 window.isTold = (...ids) => ids.every((id) => document.getElementById(id).getAttribute("aria-busy") !== "true");
 window.isDrawn = () => begun >= openedAt && isTold("comparison");
-// The planner's workers, without that of what takes long; and how long each message to a worker is on its way, in
+// The planner's workers, and that of what takes long; and how long each message to a worker is on its way, in
 // milliseconds. They stay in their order.
 window.workers = [];
 window.delay = 0;
@@ -39,7 +39,7 @@ if (typeof Worker === "function") {
   window.Worker = class extends Worker {
     constructor(...words) {
       super(...words);
-      if (words[1]?.name === "planner") { workers.push(this); }
+      if (words[1]?.name === "planner") { workers.push(this); } else { window.aside = this; }
       if (window.isDeadly) { setTimeout(() => { this.terminate(); this.onerror(); }); }
     }
     postMessage(message) {

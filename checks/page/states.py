@@ -10,7 +10,17 @@ import re
 from checks.lib.tally import expect
 from checks.page import shapes
 from checks.page.acts import example_named, guest_with_record, plan_starts, typed
-from checks.page.looks import ALL_MARKS, GAPS, HEIGHT, MARKS, STARTS_MARKS, check_look, check_names, read_nodes
+from checks.page.looks import (
+    ALL_MARKS,
+    GAPS,
+    HEIGHT,
+    MARKS,
+    STARTS_MARKS,
+    check_labels,
+    check_look,
+    check_names,
+    read_nodes,
+)
 from checks.page.saves import saved_files
 from checks.page.worker import end_worker
 from precopy_dev.files import write_file
@@ -244,6 +254,7 @@ def check_state(page, name, folder):
         marks = browser.value(asked) if name in MARKED else []
         expect(not marks, f"marks of {name}, dark {is_dark}: {marks}")
     browser.dress(1400, HEIGHT)
+    check_labels(page, name)
     if is_full:
         check_names(page)
 

@@ -294,10 +294,7 @@ def file_ends(program, folder):
 
 
 def bad_sources(_, folder):
-    short, memory = os.path.join(folder, "socket"), os.path.join(folder, "memory")
-    write_file(b"123", short)
-    with open(memory, "wb") as file:
-        file.truncate(PAGE)
+    short, memory = write_file(b"123", folder, "socket"), write_file(bytes(PAGE), folder, "memory")
     for source, status, word in (
         (["--file", short], 1, "whole pages"),
         (["--file", folder], 1, "record: "),

@@ -16,6 +16,7 @@ from checks.lib.harness import cases_of, expect
 from checks.recording.recorder_runs import SECONDS, TOP
 from precopy_dev.files import read_bytes, read_json, read_text, write_file
 from precopy_tools import places, refusals
+from precopy_tools.convert import thin
 from precopy_tools.formats import samples, traces
 from precopy_tools.predict import clark, day_chart, forecast, plans
 from precopy_tools.predict.texts import CONVERGES
@@ -289,33 +290,14 @@ def converted(_, folder):
     path = os.path.join(folder, "guest.light.pcwt")
     found = [(0, page) for page in range(3)]
     later = [(1000, 2), (1003, 2), (1004, 1), (1004, 1), (1012, 1), (1019, 0)]
-    with traces.Writer(path) as writer:
-        writer.append([(*write, 0, b"\x01") for write in found + later])
-        text = writer.seal(12, 3)
-        sample = samples.Sample(
-            samples.FORMAT,
-            samples.digest(text),
-            3,
-            9,
-            1000,
-            1050,
-            0.001,
-            0.1,
-            900,
-            30,
-            90,
-            30,
-            3,
-            0,
-            "writes",
-            10,
-            0,
-            "2026-11-26T00:00:00+00:00",
-            "a process",
-        )
-        with samples.pending(path, sample) as beside:
-            writer.finish(12, 3)
-            beside.finish()
+    numbers, told = (3, 9, 1000, 1050, 0.001, 0.1, 900, 30, 90, 30, 3, 0), (
+        "writes",
+        10,
+        0,
+        "2026-11-26T00:00:00+00:00",
+    )
+    sample = samples.Sample(samples.FORMAT, "", *numbers, *told, "a process")
+    thin.write(path, traces.Trace(traces.PLAIN, 12, 3, 9, b""), sample, [(*at, 0, b"\x01") for at in found + later])
     asked = forecast.forecast_of(VIEW[0], path)
     for factor, wanted in (
         (1, [(0, 2), (3, 2), (4, 1), (12, 1), (19, 0), (50, 0)]),
@@ -343,6 +325,18 @@ def converted(_, folder):
         _, words = warm.words(forecast.Link(8 << 20, 0.1))
         expect(" ".join(words).endswith(wanted), f"{words}")
         expect(warm.text(5) == asked.text(5), f"{base}: {list(traces.read(warm.text(5)).records())}")
+
+
+def limits_in_pages(_, __):
+    """Below the threshold are as many pages as the link sends within the limit, and the rate is the nearest one."""
+    for draw in harness.drawn("limits in pages", range(2000)):
+        tick, downtime = draw.choice([100, 1000, draw.randrange(1, 5000)]), 1000 * draw.randrange(1, 3000)
+        bandwidth = draw.randrange(1, 300) * draw.choice([4_096_000, 1 << 20, 125_000])
+        rate, threshold = plans.settings_of(bandwidth, downtime / 1e6, tick / 1e6)
+        expect(2 * abs(4_096_000 * rate - bandwidth * tick) <= 4_096_000, f"{bandwidth} by {tick} us: rate {rate}")
+        more = downtime * rate - 1000 * tick * (threshold - 1)
+        good = 0 <= more < 1000 * tick or threshold == plans.MOST_THRESHOLD and more > 0
+        expect(good, f"{threshold} is not what {bandwidth} bytes a second send in {downtime} us, by {tick} us, and one")
 
 
 def bias_over_seeds(program, folder):

@@ -14,6 +14,7 @@ from checks.recording.forecast_cases import VIEW, run_predict
 from precopy_dev.files import read_text
 from precopy_dev.models import courses, redrawn
 from precopy_dev.tree import TOP
+from precopy_tools.convert import thin
 from precopy_tools.formats import samples, traces
 from precopy_tools.predict import forecast, link_clock, plans, texts
 
@@ -36,17 +37,13 @@ class Record(NamedTuple):
 
     def write(self, folder: str, name: str = "guest.light.pcwt") -> str:
         path = os.path.join(folder, name)
-        with traces.Writer(path) as writer:
-            writer.append([(0, page, 0, b"\x01") for page in range(self.pages)])
-            writer.append([(1000 + tick, page, 0, b"\x01") for tick, page in self.writes])
-            counts = [self.pages * self.weight] * 2 + [self.pages] * 3
-            numbers = (self.pages, self.pages + len(self.writes), 1000, 1000 + self.last, 0.001, 0.1, *counts)
-            text = writer.seal(12, self.pages)
-            told = ("writes", 10, 0, self.begun.isoformat(), "a process")
-            sample = samples.Sample(samples.FORMAT, samples.digest(text), *numbers, 3, *told)
-            with samples.pending(path, sample) as beside:
-                writer.finish(12, self.pages)
-                beside.finish()
+        first, count = [(0, page) for page in range(self.pages)], self.pages + len(self.writes)
+        later = [(1000 + tick, page) for tick, page in self.writes]
+        counts = [self.pages * self.weight] * 2 + [self.pages] * 3
+        numbers = (self.pages, count, 1000, 1000 + self.last, 0.001, 0.1, *counts)
+        sample = samples.Sample(samples.FORMAT, "", *numbers, 3, "writes", 10, 0, self.begun.isoformat(), "a process")
+        trace = traces.Trace(traces.PLAIN, 12, self.pages, count, b"")
+        thin.write(path, trace, sample, [(*at, 0, b"\x01") for at in first + later])
         return path
 
 

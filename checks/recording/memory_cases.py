@@ -3,6 +3,7 @@
 import itertools
 import json
 import os
+import re
 import shutil
 import signal
 import socket
@@ -19,12 +20,15 @@ from checks.lib.amount_texts import size_text
 from checks.lib.harness import cases_of, expect
 from checks.lib.tally import expect_in_time
 from checks.recording import known_guest
-from checks.recording.recorder_runs import RECORD, SECONDS, TOP, read_until_recording
-from checks.recording.sample_runs import Drawn
+from checks.recording.recorder_runs import RECORD, SECONDS, TOP, Started, Watched
+from checks.recording.sample_runs import Drawn, Pages
 from precopy_dev.files import write_file
+from precopy_tools.evacuate import gathering
+from precopy_tools.evacuate.costs import Guest, Wanted
 from precopy_tools.formats import samples, traces
 from precopy_tools.qemu import qmp
-from precopy_tools.record import guest_memory, mappings, series
+from precopy_tools.record import guest_memory, mappings, series, sources
+from precopy_tools.refusals import Refused
 
 PAGE = 4096
 KINDS = ("private", "memfd", "file")
@@ -61,7 +65,7 @@ def layout_of(draws):
     return {"nodes": nodes, "code": 2 * pages + 9, "video": draws.randrange(1, 300), "plugged": plugged}
 
 
-class Known:
+class Known(Watched):
     """One stand-in for QEMU."""
 
     def __init__(self, folder, layout, *words, name="monitor"):
@@ -92,12 +96,8 @@ class Known:
         at, pages = self.told["others"][name]
         return at, at + pages * PAGE
 
-    def __enter__(self):
-        return self
-
     def __exit__(self, *_):
-        self.process.kill()
-        self.process.communicate()
+        super().__exit__()
         if os.path.exists(self.socket):
             os.unlink(self.socket)
 
@@ -156,13 +156,11 @@ def plugged_in_meanwhile(_, folder):
             words = ["--pages", "65536", "--every", "50ms", "--qmp", known.socket]
             words += ["--segment", "1s", "--for", "2500ms"] if is_series else ["--for", "900ms"]
             path = os.path.join(folder, "guest.light.pcwt")
-            command = [RECORD, *words, path]
-            process = subprocess.Popen(command, stdout=subprocess.PIPE, stderr=subprocess.PIPE, text=True)
-            read_until_recording(process.stdout)
+            run = Started(folder, [RECORD, *words], path)
             known.ask("plug")
-            output, faults = process.communicate(timeout=2 * SECONDS)
-        expect(process.returncode == 0 and not faults, f"{process.returncode}, {faults!r}")
-        expect_in_time("memory: the guest has other memory now" in output, output)
+            run.end()
+        expect(run.status == 0 and not run.faults, f"{run.status}, {run.faults!r}")
+        expect_in_time("memory: the guest has other memory now" in run.output, run.output)
         paths = series.Series(path).paths() if is_series else [path]
         pages = []
         for each in paths:
@@ -173,6 +171,27 @@ def plugged_in_meanwhile(_, folder):
         for each in paths:
             os.unlink(each)
             os.unlink(samples.path_beside(each))
+
+
+def processes_of_one_number(_, __):
+    """A record says when its process began, as after a restart another guest may have its number. Two records that do
+    not are refused as of one guest, or of two."""
+    now = time.clock_gettime(time.CLOCK_BOOTTIME)
+    with Pages("private") as pages:
+        of = sources.of_words(pages.process.pid, [pages.range], True).of
+    begun = re.search(r" since tick (\d+) of boot [0-9a-f]{8}(?=, mapping )", of)
+    expect(begun and -0.02 < int(begun[1]) / os.sysconf("SC_CLK_TCK") - now < SECONDS, f"{of} after {now} s")
+    old, head, fault = of.replace(begun[0], ""), "0 and 1 are two records of one guest: ", ""
+    for texts, told in (
+        ((of, of.replace(f" {begun[1]} ", " 1 ")), ""),
+        ((of, of), f"{head}{of}"),
+        ((old, old), f"{head}{old}; or of two, since they do not say when that began"),
+    ):
+        try:
+            gathering.expect_once(Guest(*f"{n}{n}", text, f"{n}", Wanted(1), {}, {}) for n, text in enumerate(texts))
+        except Refused as refused:
+            fault = str(refused)
+        expect(fault == told, f"{fault!r} in place of {told!r}")
 
 
 def never_the_guest(_, folder):

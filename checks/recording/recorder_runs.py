@@ -11,13 +11,19 @@ import time
 from checks.lib.harness import expect
 from checks.lib.tally import Late
 from checks.recording.known_writes import PAGE, PAGES
-from precopy_dev.files import read_bytes
+from precopy_dev.files import read_bytes, write_file
 from precopy_dev.tree import TOP
 from precopy_tools.formats import traces
 
 RECORD = os.path.join(TOP, "tools", "record")
 
 SECONDS = 15
+
+
+def recorder(cause=None):
+    """The words of tools/record, as it is, or as it is on a system that differs from this one."""
+    stand_in = [sys.executable, "-B", "-m", "checks.recording.stand_in", cause, "precopy_tools.record.command"]
+    return stand_in if cause else [RECORD]
 
 
 class Watched:
@@ -35,10 +41,7 @@ class Writing(Watched):
     """The process that writes, in a folder of its own."""
 
     def __init__(self, folder, private):
-        self.path = "-" if private else os.path.join(folder, "memory")
-        if not private:
-            with open(self.path, "wb") as file:
-                file.truncate(PAGES * PAGE)
+        self.path = "-" if private else write_file(bytes(PAGES * PAGE), folder, "memory")
         words = [sys.executable, os.path.join(TOP, "checks", "recording", "known_writes.py"), self.path]
         self.process = subprocess.Popen(words, stdin=subprocess.PIPE, stdout=subprocess.PIPE, text=True)
         self.address = int(self.process.stdout.readline())
@@ -52,16 +55,6 @@ class Writing(Watched):
         self.later, self.times = json.loads(self.process.stdout.readline())
 
 
-def read_until_recording(lines):
-    """What the recorder prints up to its first sample."""
-    began = ""
-    for line in lines:
-        began += line
-        if line.startswith("recording"):
-            break
-    return began
-
-
 class Started:
     """One run of a recorder into a folder, from its first sample on."""
 
@@ -71,7 +64,11 @@ class Started:
         self.folder = folder
         command = [*words, path]
         self.process = subprocess.Popen(command, stdout=subprocess.PIPE, stderr=errors, text=True, **more)
-        self.began = read_until_recording(self.process.stdout)
+        self.began = ""
+        for line in self.process.stdout:
+            self.began += line
+            if line.startswith("recording"):
+                break
 
     def end(self, number=None, seconds=2 * SECONDS):
         if number:

@@ -8,7 +8,6 @@ import shutil
 import signal
 import socket
 import subprocess
-import sys
 import tempfile
 import time
 
@@ -16,7 +15,7 @@ from checks.lib.harness import cases_of
 from checks.lib.tally import LeftOut, expect_in_time, module, need
 from checks.recording import forecast_cases
 from checks.recording.memory_cases import Known
-from checks.recording.recorder_runs import RECORD, SECONDS, TOP, Writing, expect, read_until_recording
+from checks.recording.recorder_runs import RECORD, SECONDS, TOP, Started, Writing, expect, recorder
 from checks.recording.sample_runs import Drawn, Pages
 from precopy_dev.files import read_json, read_text, write_file
 from precopy_tools.evacuate import settings
@@ -85,17 +84,16 @@ def segments_that_stood_still(_, folder):
     """Each segment has the share of its own time."""
     path = os.path.join(folder, "guest.light.pcwt")
     with Known(folder, LAYOUT) as known:
-        command = [RECORD, "--qmp", known.socket, "--every", "50ms", "--segment", "3s", "--for", "9s", path]
-        process = subprocess.Popen(command, stdout=subprocess.PIPE, stderr=subprocess.PIPE, text=True)
-        read_until_recording(process.stdout)
+        words = [RECORD, "--qmp", known.socket, "--every", "50ms", "--segment", "3s", "--for", "9s"]
+        run = Started(folder, words, path)
         known.ask("stop")
         time.sleep(3.2)
         known.ask("cont")
-        text, faults = process.communicate(timeout=4 * SECONDS)
+        run.end(seconds=4 * SECONDS)
     shares = [sample_in(each)["ran_share"] for each in series.Series(path).paths()]
-    expect(process.returncode == 0, f"{process.returncode}, {faults}, {shares}")
-    expect_in_time(len(shares) >= 3 and shares[0] < 0.8 and shares[2] == 1, f"{shares}, {text}")
-    expect(text.count("stood still") >= 1, f"{shares}, {text}")
+    expect(run.status == 0, f"{run.status}, {run.faults}, {shares}")
+    expect_in_time(len(shares) >= 3 and shares[0] < 0.8 and shares[2] == 1, f"{shares}, {run.output}")
+    expect(run.output.count("stood still") >= 1, f"{shares}, {run.output}")
 
 
 def light_names_draw(_, folder):
@@ -111,14 +109,12 @@ def one_recorder_a_name(program, folder):
     """Of two recorders with one OUTPUT the second is refused, and the first goes on."""
     path = os.path.join(folder, "guest.pcwt")
     with Writing(folder, False) as writing:
-        command = [RECORD, *writing.source, "--every", "50ms", path]
-        first = subprocess.Popen(command, stdout=subprocess.PIPE, stderr=subprocess.PIPE, text=True)
-        read_until_recording(first.stdout)
-        second = subprocess.run([*command, "--for", "1s"], capture_output=True, text=True, timeout=8 * SECONDS)
+        words = [RECORD, *writing.source, "--every", "50ms"]
+        first = Started(folder, words, path)
+        second = subprocess.run([*words, "--for", "1s", path], capture_output=True, text=True, timeout=8 * SECONDS)
         expect(second.returncode == 1 and f"another process writes {path}" in second.stderr, f"{second}")
-        first.send_signal(signal.SIGINT)
-        _, faults = first.communicate(timeout=8 * SECONDS)
-    expect(first.returncode == 0 and not faults and os.listdir(folder).count("guest.pcwt") == 1, faults)
+        first.end(signal.SIGINT, 8 * SECONDS)
+    expect(first.status == 0 and not first.faults and os.listdir(folder).count("guest.pcwt") == 1, first.faults)
 
 
 def named_by_their_begin(_, folder):
@@ -126,16 +122,9 @@ def named_by_their_begin(_, folder):
     with Pages("private") as pages:
         words = ["--segment", "60s", "--for", "1s"]
         Drawn(folder, pages.source, words[2:], cause="slow_count").end()
-        stand_in = [
-            sys.executable,
-            "-B",
-            "-m",
-            "checks.recording.stand_in",
-            "slow_count",
-            "precopy_tools.record.command",
-        ]
         path = os.path.join(folder, "slow.light.pcwt")
-        done = subprocess.run([*stand_in, *pages.source, *words, path], capture_output=True, text=True, timeout=60)
+        command = [*recorder("slow_count"), *pages.source, *words, path]
+        done = subprocess.run(command, capture_output=True, text=True, timeout=60)
     expect(done.returncode == 0, f"{done}")
     (found,) = series.Series(path).paths()
     taken = re.sub(r"[-:]|\+00:00", "", sample_in(found)["taken_at"])

@@ -6,7 +6,7 @@ import sys
 import time
 
 from checks.lib.harness import expect, waited
-from checks.recording.recorder_runs import RECORD, SECONDS, TOP, Started, Watched
+from checks.recording.recorder_runs import RECORD, SECONDS, TOP, Started, Watched, recorder
 from precopy_dev.files import read_bytes
 from precopy_tools.formats import samples, traces
 
@@ -65,8 +65,7 @@ class Drawn(Started):
 
     def __init__(self, folder, source, words=(), cause=None, tool=RECORD, **more):
         self.trace_path, self.map_path = os.path.join(folder, "guest.light.pcwt"), os.path.join(folder, "map")
-        stand_in = [sys.executable, "-B", "-m", "checks.recording.stand_in", cause, "precopy_tools.record.command"]
-        words = [*(stand_in if cause else [tool]), *source, "--every", "50ms", "--map", self.map_path, *words]
+        words = [*(recorder(cause) if cause else [tool]), *source, "--every", "50ms", "--map", self.map_path, *words]
         super().__init__(folder, words, self.trace_path, **more)
 
     def bytes(self):

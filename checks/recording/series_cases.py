@@ -13,9 +13,10 @@ from checks.lib import harness
 from checks.lib.harness import cases_of, expect, waited
 from checks.lib.tally import LeftOut, expect_in_time
 from checks.recording.memory_cases import Known, virsh_in
-from checks.recording.recorder_runs import RECORD, SECONDS, TOP, Started, read_until_recording
+from checks.recording.recorder_runs import RECORD, SECONDS, TOP, Started, recorder
 from checks.recording.sample_runs import PAGE, PAGES, Pages
 from precopy_dev.files import read_text, write_file
+from precopy_tools.evacuate import records
 from precopy_tools.formats import samples, traces
 from precopy_tools.record import series
 
@@ -38,8 +39,8 @@ OTHERS = (
 class Segments(Started):
     """A run of tools/record that writes a series into a folder."""
 
-    def __init__(self, folder, source, *words, **more):
-        words = [RECORD, *source, "--every", "50ms", "--segment", "1s", *words]
+    def __init__(self, folder, source, *words, cause=None, **more):
+        words = [*recorder(cause), *source, "--every", "50ms", "--segment", "1s", *words]
         super().__init__(folder, words, os.path.join(folder, NAME), **more)
 
     def bytes(self):
@@ -208,6 +209,37 @@ def clocks_that_were_ahead(_, folder):
     expect(kept == {*ahead[2:], *run.told()} if len(run.told()) == 1 else kept == {*run.told()[-2:]}, f"{kept}")
 
 
+def clocks_that_are_set(_, folder):
+    """A segment in which a clock is set that was days ahead has its right name, and so have those after it, in order.
+    The last whole one stands for the guest, and no name is given twice."""
+    memory = write_file(bytes(PAGES * PAGE), folder, "memory")
+    run = Segments(folder, ["--file", memory], "--for", "5200ms", cause="clock_ahead")
+    run.end()
+    told, now = run.told(), f"guest.{time.strftime(series.STAMP, time.gmtime())}.z"
+    ahead = [name for name in told if name > now]
+    expect(told == sorted(ahead) + sorted({*told} - {*ahead}), f"{now}: {run.output}")
+    expect_in_time(len(ahead) == 3 and len(told) > 4, f"{now}: {run.output}")
+    paths = [path for path, *_ in segments_in(folder)]
+    expect(len(paths) == len(told) and records.last_of(paths[::-1]).endswith(told[-2]), f"{paths}")
+    write_file("", folder, "other.20261201T110000Z.light.pcwt")
+    other, moments = series.Series(os.path.join(folder, "other.light.pcwt")), ("09T12", "09T11", "01T11", "01T10")
+    names = [os.path.basename(other.path_for(f"2026-12-{at}:00:00+00:00"))[6:-11] for at in moments]
+    wanted = ["20261209T120000Z", "20261209T120001Z", "20261201T110001Z", "20261201T110002Z"]
+    expect(names == wanted, f"{names}")
+
+
+def closed_terminals(_, folder):
+    """A terminal that is closed ends a series as SIGTERM does, but for one that nohup has begun."""
+    memory = write_file(bytes(PAGES * PAGE), folder, "memory")
+    for by in signal.SIG_DFL, signal.SIG_IGN:
+        before = {"preexec_fn": lambda by=by: signal.signal(signal.SIGHUP, by)}
+        run = Segments(folder, ["--file", memory], "--for", "2200ms", **before)
+        run.end(signal.SIGHUP)
+        expect(run.status == 0 and not run.faults, f"{by!r}: {run.status}, {run.faults!r}")
+        expect((len(run.told()) > 1) == (by == signal.SIG_IGN), f"{by!r}: {run.output!r}")
+    expect_no_parts(folder)
+
+
 def guest_of_a_series_ends(_, folder):
     with Pages("private") as pages:
         run = Segments(folder, pages.source)
@@ -229,9 +261,7 @@ def guest_of_a_series_ends(_, folder):
 
 def values_of_a_series(_, folder):
     """By values each segment begins with the pages that are not zero then."""
-    path = os.path.join(folder, "memory")
-    with open(path, "wb") as file:
-        file.truncate(PAGES * PAGE)
+    path = write_file(bytes(PAGES * PAGE), folder, "memory")
     run = Segments(folder, ["--file", path])
     for number in range(30):
         with open(path, "r+b") as file:
@@ -324,16 +354,13 @@ def service_of_a_guest(_, folder):
     path = path.replace("known", "guest")
     layout = {"nodes": [["a", "private", 600], ["b", "memfd", 500]], "code": 5000}
     with Known(folder, layout, "-uuid", str(identity)) as known:
-        command = [RECORD, *words, os.path.join(folder, os.path.basename(path))]
-        environment = virsh_in(folder, known, identity)
-        process = subprocess.Popen(command, stdout=subprocess.PIPE, stderr=subprocess.PIPE, text=True, env=environment)
-        read_until_recording(process.stdout)
+        path, environment = os.path.join(folder, os.path.basename(path)), virsh_in(folder, known, identity)
+        run = Started(folder, [RECORD, *words], path, env=environment)
         time.sleep(0.3)
         known.ask("write")
         time.sleep(0.3)
-        process.send_signal(signal.SIGTERM)
-        _, faults = process.communicate(timeout=4 * SECONDS)
-        expect(process.returncode == 0 and not faults, f"{process.returncode}, {faults!r}")
+        run.end(signal.SIGTERM, 4 * SECONDS)
+        expect(run.status == 0 and not run.faults, f"{run.status}, {run.faults!r}")
     found = segments_in(folder)
     expect(len(found) == 1 and found[0][3].guest_pages == 1100, f"{found[0][3] if found else os.listdir(folder)}")
     expect_in_time(sum(tick > 1000 for tick, _ in found[0][2]) == 1100, f"{len(found[0][2])} writes")

@@ -11,6 +11,7 @@ import struct
 import sys
 import time
 
+from precopy_tools.formats import samples
 from precopy_tools.record import pagemap, remote, sampled, scans
 
 IOCTL, PTRACE, CALL = pagemap.ioctl, remote.ptrace, remote.StoppedThread.call
@@ -76,7 +77,13 @@ def slow_count():
     sampled.SampledGuest.nonzero = slowly
 
 
-STOOD_IN = (old_kernel, no_userfaultfd, huge_pages, no_permission, other_machine, process_ends, slow_count)
+def clock_ahead():
+    """The clock is days ahead, and is set after some seconds."""
+    until, now = time.monotonic() + 3.5, samples.now
+    samples.now = lambda ago=0.0: now(ago - 345_600 * (time.monotonic() < until))
+
+
+STOOD_IN = (old_kernel, no_userfaultfd, huge_pages, no_permission, other_machine, process_ends, slow_count, clock_ahead)
 CAUSES = {cause.__name__: cause for cause in STOOD_IN}
 
 

@@ -356,7 +356,7 @@ def a_libvirt_that_hangs(_, folder):
 
 def ended_while_it_predicts(_, folder):
     """At a signal the prediction under way ends, and what it has begun, even if that ignores its end."""
-    for number in signal.SIGINT, signal.SIGTERM:
+    for number, status in (signal.SIGINT, 0), (signal.SIGTERM, 0), (signal.SIGKILL, -signal.SIGKILL):
         place = os.path.join(folder, number.name)
         os.makedirs(place)
         slow = write_file(SLOW.format(python=sys.executable, place=place), place, "slow")
@@ -366,7 +366,7 @@ def ended_while_it_predicts(_, folder):
             process = int(read_text(f"{place}/begun"))
             begun = time.monotonic()
             run.end(number)
-            expect(run.process.returncode == 0 and not run.faults, f"{run.process.returncode}, {run.faults}")
+            expect(run.process.returncode == status and not run.faults, f"{run.process.returncode}, {run.faults}")
             expect_in_time(time.monotonic() - begun < 10, f"it took {time.monotonic() - begun} s to end")
         expect(waited(lambda: not is_there(process), 1), f"{number.name}: what it began goes on")
 

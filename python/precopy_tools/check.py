@@ -30,12 +30,6 @@ def options_of(given: list[str]) -> argparse.Namespace:
     return parser.parse_args(given)
 
 
-def read(path: str) -> bytes:
-    """A trace, of which no more is read than a byte beyond the greatest size, for which it is refused."""
-    with open(path, "rb") as file:
-        return file.read(traces.Limits().bytes + 1)
-
-
 def checked(check, paths: list[str]):
     """What is wrong first in the streams, which may be longer than memory: each is read in pieces, until it is over or
     something is wrong in it."""
@@ -55,7 +49,7 @@ def main(given: list[str]) -> int:
         version.complain("check", f"the library for Python is not there: {fault}")
         return 2
     try:
-        opened = precopy.OpenTrace(read(options.trace))
+        opened = precopy.OpenTrace(traces.text_of(options.trace))
         writes = opened.writes
         after = writes if options.after is None else min(options.after, writes)
         stop = after if options.tick is None else opened.writes_before(options.tick)

@@ -3,9 +3,9 @@
 // shown is asked for: what was asked before and has no answer yet is left out.
 
 import { fewDigitsOffers } from "../model/offers.js";
-import { PlannerClient, WorkerEnded } from "./planner-client.js";
+import { foundBy } from "../model/found.js";
+import { PlannerClient } from "./planner-client.js";
 import { answerOver, isGood, isUnknown, remediesOver } from "../model/predictions.js";
-import { Refusal } from "./planner.js";
 import { mayBeSure } from "../model/sureness.js";
 import { firstWay, waysOf } from "../model/ways.js";
 
@@ -33,6 +33,7 @@ export class LateAnswers {
     this.told = told;
     this.client = new PlannerClient("aside", () => {});
     this.known = new Map();
+    this.failed = new Set();
     this.open = null;
     this.unread = null;
     this.wanted = [];
@@ -163,16 +164,22 @@ export class LateAnswers {
   }
 
   /** The answer, or null if the worker gives none, as if it cannot read the trace. */
-  async ask({ kind, trace, question }) {
-    try {
+  async ask({ kind, trace, question, key }) {
+    const { value } = await foundBy(async () => {
       await this.read(trace);
-      return this.open === trace ? await this.client.ask(kind, { question }) : null;
-    } catch (error) {
-      if (error instanceof Refusal || error instanceof WorkerEnded) {
-        return null;
-      }
-      throw error;
+      return this.open === trace ? this.client.ask(kind, { question }) : undefined;
+    });
+    if (value === undefined) {
+      this.failed.add(key);
     }
+    return value ?? null;
+  }
+
+  /** Has what got no answer asked again: with a new plan and not at once, for a worker may end each time. */
+  askAgain() {
+    this.failed.forEach((key) => this.known.delete(key));
+    this.failed.clear();
+    this.unread = null;
   }
 
   /** Has the worker read a trace, once. */

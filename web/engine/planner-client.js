@@ -10,8 +10,14 @@ import { embeddedBytes } from "./trace-source.js";
 const LONGEST_SILENCE = 30_000;
 const MOST_ENDS = 2;
 
-/** The worker ended, again and again, and gave no answer. */
-export class WorkerEnded extends Error {}
+/** The worker gave no answer. */
+export class NoAnswer extends Error {}
+
+/** It ended, again and again. */
+export class WorkerEnded extends NoAnswer {}
+
+/** It met what it does not expect, which is a defect. */
+export class WorkerFailed extends NoAnswer {}
 
 export class PlannerClient {
   /** `rereading` is told the share of the trace that another worker has read, and null at the end. */
@@ -96,7 +102,7 @@ export class PlannerClient {
     if (refused) {
       entry.reject(new Refusal(refused.number, refused.record));
     } else if (failed) {
-      entry.reject(new Error(failed));
+      entry.reject(new WorkerFailed(failed));
     } else {
       entry.resolve(value);
     }

@@ -58,23 +58,23 @@ function downtimeFor(settings, sizes, scale) {
 }
 
 /** What a record gives the settings of its trace. */
-export function recordedSettings({ tick, sample, start }, sizes) {
-  return { tick: { amount: tick, unit: tick < 1_000 ? "us" : "ms" }, sample, start: Math.min(start, sizes.last) };
+export function recordedSettings({ tick, sample, start }) {
+  return { tick: { amount: tick, unit: tick < 1_000 ? "us" : "ms" }, sample, start };
 }
 
 /** What a trace says by itself if there is no record: a tick is a millisecond, and it has all pages. */
 const UNRECORDED = { tick: 1_000, sample: null, start: 0 };
 
 /** Settings of which the length of a tick, the sample and the start are what the record says; the limits stay. */
-export function withRecord(settings, record, sizes) {
-  const found = { ...settings, ...recordedSettings(record, sizes) };
+export function withRecord(settings, record) {
+  const found = { ...settings, ...recordedSettings(record) };
   return { ...found, base: found.base !== null && found.base > found.start ? null : found.base };
 }
 
 /** What a trace and its record say by themselves: the scale, the start and the windows. */
 function placed(settings, sizes, record) {
   return {
-    ...settings, ...recordedSettings(record ?? UNRECORDED, sizes), base: null, window: windowFor(sizes.last),
+    ...settings, ...recordedSettings(record ?? UNRECORDED), base: null, window: windowFor(sizes.last),
   };
 }
 

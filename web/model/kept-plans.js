@@ -1,7 +1,7 @@
 // The plans that are kept to compare: those over the open trace, whose settings are in the address, and before them
 // those over traces that were open before, each with the name of its trace.
 
-import { WorkerEnded } from "../engine/planner-client.js";
+import { NoAnswer } from "../engine/planner-client.js";
 import { MOST_KEPT } from "./state.js";
 
 /** What is told later of a prediction; nothing if it is still to come. */
@@ -29,10 +29,10 @@ export class KeptPlans {
     this.found = new Map();
   }
 
-  /** Another trace is open now: keeps the plans that were shown over the one before, if there was one. */
+  /** A trace is opened: keeps the plans that were shown over the one before, if there was one. It may be the same. */
   open({ digest: opened }, shown) {
     this.digest = opened;
-    if (!shown || shown.trace.digest === opened) {
+    if (!shown) {
       return;
     }
     const { digest, source: { name } } = shown.trace;
@@ -62,16 +62,16 @@ export class KeptPlans {
     return kept.filter((_, at) => at + others.length !== place);
   }
 
-  /** All plans, with the length of windows that is shown. An address may bring as many as there may be. */
-  async all(trace, { kept, settings: { window } }) {
+  /** All plans, with the windows and ticks that are shown. An address may bring as many as there may be. */
+  async all(trace, { kept, settings: { window, ticks } }) {
     this.makeRoom(kept, 0);
     const { others, found } = this;
     const plans = [...others];
-    for (const some of kept) {
+    for (const some of kept.map((plan) => ({ ...plan, ticks }))) {
       const key = JSON.stringify(some);
       const plan = found.get(key) ?? await this.find(trace, { ...some, window: trace.sizes.last + 1 });
       // A planner that has ended refuses no plan for good.
-      if (!(plan.refusal instanceof WorkerEnded)) {
+      if (!(plan.refusal instanceof NoAnswer)) {
         found.set(key, plan);
       }
       plans.push({ settings: { ...some, window }, found: plan });

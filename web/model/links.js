@@ -24,16 +24,14 @@ export function linkPoints({ state }, sizes) {
   const near = (place) => (place === 0 ? state.link
     : quantityNear(amount * RANGE ** (place / A_SIDE), unit, RATE_UNITS));
   const links = Array.from({ length: 2 * A_SIDE + 1 }, (_, place) => near(place - A_SIDE));
-  return links.filter((link, place) => place === 0 || link.amount > links[place - 1].amount).map((link) => {
-    const changed = { ...state, link };
-    return { link, state: changed, question: askedIfAny(changed, sizes)?.question ?? null };
-  });
+  return links.filter((link, place) => place === 0 || link.amount > links[place - 1].amount)
+    .map((link) => ({ link, question: askedIfAny({ ...state, link }, sizes)?.question ?? null }));
 }
 
 /** What a migration costs over each link that has an answer. */
 export function linkCosts(points, answers, middle) {
-  return points.map(({ link, state }, at) => ({ link, state, answer: answers[at] })).filter(({ answer }) => answer)
-    .map(({ link, state, answer }) => ({ start: linkPlace(link.amount, middle), link, state, cost: costIn(answer) }));
+  return points.map(({ link }, at) => ({ link, answer: answers[at] })).filter(({ answer }) => answer)
+    .map(({ link, answer }) => ({ start: linkPlace(link.amount, middle), link, cost: costIn(answer) }));
 }
 
 /** The links as columns and rows of numbers, for a file. */

@@ -121,7 +121,7 @@ export function quantityNear(amount, unit, units) {
   const count = isBinary ? amount / least : Math.max(1, Math.round(roundNumber(amount / least)));
   for (const name of [...family].reverse()) {
     const factor = Number(units[name]) / least;
-    if (isBinary ? count >= factor * LEAST_COUNT : count % factor === 0) {
+    if (isBinary ? Math.round((1024 * count) / factor) >= 1024 * LEAST_COUNT : count % factor === 0) {
       return { amount: Math.round(count / factor) * factor * least, unit: name };
     }
   }
@@ -166,6 +166,12 @@ export function fewDigitsText(number, divisor) {
   return decimalText(rounded(number, divisor, digits), 10n ** BigInt(digits), digits);
 }
 
+/** A count with about three digits, and its unit: of some, the first of which it has one once it is rounded. */
+export function briefCount(amount, units) {
+  const counts = units.map(([size, name]) => [fewDigitsText(amount, size), name, size]);
+  return counts.find(([count]) => Number(count) >= 1) ?? counts.at(-1);
+}
+
 /** The most digits behind the points of a column, unless its least number has only zeros with them. */
 const MOST_OF_COLUMN = 3;
 
@@ -195,8 +201,9 @@ export function fewDigits(number) {
 
 /** About how much an amount is, in words of the family of a unit. */
 export function roundedWords(amount, unit, units) {
-  const fitting = amount === 0n ? { amount: 0, unit } : inFittingUnit(Number(amount), familyOf(unit)[0], units);
-  return `${fewDigits(fitting.amount / Number(units[fitting.unit]))} ${unitName(fitting.unit, units)}`;
+  const names = amount === 0n ? [unit] : [...familyOf(unit)].reverse();
+  const [count, name] = briefCount(amount, names.map((some) => [units[some], some]));
+  return `${count} ${unitName(name, units)}`;
 }
 
 /** An amount in a unit in which a count leads back to it: of the family of this unit, or else of another. */

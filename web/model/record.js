@@ -126,7 +126,7 @@ function stillOf({ ran_share: share = 1 }) {
   return share >= LEAST_SHARE ? "" : `The guest stood still for ${(100 * (1 - share)).toFixed(1)} % of the recording.`;
 }
 
-function isSameSample(one, other) {
+export function isSameSample(one, other) {
   const wordOf = (some) => (some === null || some.part === some.whole ? "all" : `${some.part}/${some.whole}`);
   return wordOf(one) === wordOf(other);
 }
@@ -151,7 +151,8 @@ export function recordIn(text, trace) {
   const sample = sampleOf(fields);
   return {
     tick: Math.round(fields.tick_seconds * 1e6),
-    start: fields.first_tick,
+    // A guest that wrote nothing has a trace that ends before its recording begins.
+    start: Math.min(fields.first_tick, trace.sizes.last),
     sample: sample.whole > sample.part ? sample : null,
     doubt: doubtOf(fields),
     still: stillOf(fields),

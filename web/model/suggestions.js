@@ -8,8 +8,8 @@ const OF_FITTED = "Fitted to this trace. ";
 const FITTED_TOO = "Fitted, too.";
 
 /** What the record says otherwise than the settings, with a choice that takes it, by the names of controls. */
-function recordSuggestions({ sizes, record, source }, settings) {
-  const recorded = recordedSettings(record, sizes);
+function recordSuggestions({ record, source }, settings) {
+  const recorded = recordedSettings(record);
   return differencesFrom(record, settings).map((name) => [name, {
     name: source.record.name, words: " says otherwise. ",
     choices: [{ value: recorded[name], settings: { ...settings, [name]: recorded[name] } }],

@@ -1,7 +1,7 @@
 // The section of commands: the words that ask for the same migration elsewhere, what a hypervisor cannot be told, and
 // the page's address.
 
-import { byId, html, tellIn } from "./elements.js";
+import { announce, byId, html, tellIn } from "./elements.js";
 import { commandsOf } from "../model/predictions.js";
 import { firstStartOf } from "../model/starts.js";
 
@@ -14,6 +14,12 @@ function wordsWhole(text) {
   const isWhole = (part) => part.includes("-") || part.startsWith("<");
   return text.split(/(< \S+|\S*-\S*)/).filter(Boolean).map((part) =>
     (isWhole(part) ? html("span", { class: "word" }, part) : part));
+}
+
+/** Has a button say another word, with which its name begins too. */
+function say(button, word) {
+  button.textContent = word;
+  button.ariaLabel = button.ariaLabel.replace(/^\w+/, word);
 }
 
 function copyButtons() {
@@ -71,13 +77,15 @@ export class CommandsView {
   async copy(button) {
     const { copies } = button.dataset;
     const words = copies === "address" ? location.href : byId(copies).textContent;
+    announce("");
     try {
       await navigator.clipboard.writeText(words);
-      button.textContent = "Copied";
+      say(button, "Copied");
     } catch {
       getSelection().selectAllChildren(byId(copies));
-      button.textContent = "Selected";
+      say(button, "Selected");
     }
-    setTimeout(() => { button.textContent = COPY; }, TOLD);
+    announce(button.ariaLabel);
+    setTimeout(() => say(button, COPY), TOLD);
   }
 }

@@ -2,9 +2,11 @@
 // each point is a place on an axis with its cost. Of migrations that end after the trace nothing is drawn but where
 // they lie.
 
+import { SHORT_UNITS } from "../model/brief.js";
 import { area, grounded, svg } from "./elements.js";
 import { counted, SIZE_UNITS } from "../model/numbers.js";
 import { frameOf, panelOf } from "./plot.js";
+import { briefCount } from "../model/quantities.js";
 
 const CURVE_TOP = 26;
 export const CURVE_HEIGHT = 84;
@@ -18,22 +20,17 @@ const ROOM_ABOVE = 1.25;
 /** A curve with a limit has its unit up to so many times the limit. */
 const MOST_OF_UNIT = 1_000;
 
-/** The unit of times up to a greatest one, in microseconds: that in which the page's words say it. */
-function timeUnit(most) {
-  return most < 1e3 ? [1, "us"] : most < 1e6 ? [1e3, "ms"] : [1e6, "s"];
-}
-
-/** The same of sizes. */
-function sizeUnit(most) {
-  const [size, name] = SIZE_UNITS.find(([unit]) => most >= unit) ?? SIZE_UNITS.at(-1);
+/** The unit of amounts up to a greatest one, of some units: that in which the page's words say it. */
+const fittingUnit = (units) => (most) => {
+  const [, name, size] = briefCount(BigInt(Math.round(most)), units);
   return [Number(size), name];
-}
+};
 
 /** The curves: what each shows of a start, as a number, and the unit of a greatest one, or of the limit. */
 export const CURVES = [
-  { name: "Downtime", number: ({ cost }) => Number(cost.downtime), unit: timeUnit, hasLimit: true },
-  { name: "Total time", number: ({ cost }) => Number(cost.time), unit: timeUnit },
-  { name: "Sent", number: ({ cost }) => Number(cost.bytes), unit: sizeUnit },
+  { name: "Downtime", number: ({ cost }) => Number(cost.downtime), unit: fittingUnit(SHORT_UNITS), hasLimit: true },
+  { name: "Total time", number: ({ cost }) => Number(cost.time), unit: fittingUnit(SHORT_UNITS) },
+  { name: "Sent", number: ({ cost }) => Number(cost.bytes), unit: fittingUnit(SIZE_UNITS) },
 ];
 
 /** From this part of its greatest number on the least number of a curve is the bottom of its panel. */

@@ -154,7 +154,7 @@ export class LimitsView {
   /** A button, by a name of its own, that takes other settings, in which the control of another name differs. */
   takeButton(own, control, words, settings) {
     this.taken.set(own, { settings, control });
-    const attributes = { type: "button", class: "small", "data-takes": own, "aria-label": `Take ${words}` };
+    const attributes = { type: "button", class: "small", "data-takes": own, "aria-label": `Take it: ${words}` };
     return html("button", attributes, "Take it");
   }
 }

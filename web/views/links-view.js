@@ -35,7 +35,7 @@ function linkLabels(axis, { amount, unit }, bottom) {
 }
 
 export class LinksView {
-  /** `choose` takes other settings. */
+  /** `choose` takes another link. */
   constructor(choose) {
     this.choose = choose;
     this.plot = byId("links-plot");
@@ -83,11 +83,15 @@ export class LinksView {
   draw(answerTo) {
     const answers = this.points?.map(({ question }) => (question ? answerTo(question) : null));
     const isMissing = !answers || answers.includes(undefined);
+    const isFailed = !isMissing && answers.some((answer, at) => answer === null && this.points[at].question);
     // Of settings without a plan nothing is asked.
     const isAwaited = isMissing && !this.isStale;
     byId("links").setAttribute("aria-busy", String(isAwaited));
-    byId("links").classList.toggle("old", isAwaited);
-    if (isMissing || !this.prediction) {
+    byId("links").classList.toggle("old", isAwaited || isFailed);
+    if (isFailed && !this.drawnOf) {
+      this.plot.replaceChildren();
+    }
+    if (isMissing || isFailed || !this.prediction) {
       return;
     }
     const key = JSON.stringify([widthOf(this.plot), this.points.map(({ link }) => link)]);
@@ -118,7 +122,7 @@ export class LinksView {
       find: (place) => costs.reduce((best, _, at) => (distance(at, place) < distance(best, place) ? at : best), 0),
       words: (at) => `Link ${words(at)}: ${costWords(costs[at].cost)}`,
       span: (at) => [axis.place(costs[at].start) - 1, axis.place(costs[at].start) + 1],
-      choose: (at) => this.choose(costs[at].state, "link"),
+      choose: (at) => this.choose(costs[at].link),
       offer: (at) => `Take ${words(at)}`,
       none: "No link near this one makes a plan.",
     };

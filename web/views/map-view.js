@@ -11,7 +11,7 @@ import { AXIS_HEIGHT, axisLabels, axisOf, pictureOf, widthOf } from "./plot.js";
 import { nounsOf } from "../model/nouns.js";
 import { pagesWords, roundsIn, sumsOf, sumsWords } from "../model/round-words.js";
 import { mapFile, mapTable } from "./tables.js";
-import { amountOf, microsOf } from "../model/units.js";
+import { amountOf, microsOf, scaleOf } from "../model/units.js";
 
 const MAP_TOP = 26;
 const MAP_HEIGHT = 256;
@@ -78,12 +78,25 @@ export class MapView {
     }
     this.range = trace === this.wanted?.trace ? this.range : null;
     this.length = length;
-    const shown = { first, last, ...this.pagesOf(trace), width: widthOf(this.plot) };
-    this.wanted = { trace, ...shown, settings, prediction };
-    if (this.held?.trace === trace && this.held.width !== shown.width) {
-      this.fit(shown.width);
+    const width = widthOf(this.plot);
+    const scale = { tick: settings.tick.amount, isSample: scaleOf(settings, trace.sizes).isSample };
+    this.wanted = { trace, first, last, ...this.pagesOf(trace), width, ...scale, settings, prediction };
+    if (this.held?.trace === trace && this.held.width !== width) {
+      this.fit(width);
     }
     this.ask();
+  }
+
+  /** Counts nothing more of a trace, if no planner does: what is drawn of it stays, and what is of another goes. */
+  stop(trace) {
+    this.wanted = null;
+    if (this.held?.trace !== trace) {
+      this.held = null;
+      ["map-plot", "map-legend", "map-most"].forEach((id) => byId(id).replaceChildren());
+      this.inspector.hold(null);
+      byId("map-details").hidden = true;
+    }
+    this.fit(widthOf(this.plot));
   }
 
   /** The pages of a trace that are shown. */
@@ -155,16 +168,16 @@ export class MapView {
 
   isHeld() {
     const { held, wanted } = this;
-    const names = ["trace", "first", "last", "width", "fromPage", "endPage"];
-    return held !== null && !held.isStretched && names.every((name) => held[name] === wanted[name])
-      && held.tick === wanted.settings.tick.amount;
+    const names = ["trace", "first", "last", "width", "fromPage", "endPage", "tick", "isSample"];
+    return held !== null && !held.isStretched && names.every((name) => held[name] === wanted[name]);
   }
 
   areRoundsHeld() {
     return this.rounds?.held === this.held && this.rounds.prediction === this.wanted.prediction;
   }
 
-  async count({ trace, first, last, width, settings, fromPage, endPage }) {
+  async count(wanted) {
+    const { trace, first, last, width, fromPage, endPage } = wanted;
     const axis = axisOf(width - HOT_ROOM, first, last);
     const columns = Math.max(1, Math.floor(axis.room / PIXELS_OF_COLUMN));
     const grid = {
@@ -172,16 +185,14 @@ export class MapView {
       rows: rowsOfGrid({ fromPage, endPage }),
     };
     const found = await trace.map(grid).catch(() => null);
-    if (trace !== this.wanted.trace) {
+    if (trace !== this.wanted?.trace) {
       return;
     }
     if (found === null) {
-      this.wanted = null;
-      this.fit(width);
+      this.stop(trace);
       return;
     }
-    this.held = { trace, first, last, width, fromPage, endPage, axis, grid, turnGrid: { ...grid, columns }, ...found,
-      settings, tick: settings.tick.amount };
+    this.held = { ...wanted, axis, grid, turnGrid: { ...grid, columns }, ...found };
     keepFocus(() => { byId("all-pages").disabled = this.range === null; }, () => this.plot);
     this.draw();
   }
@@ -212,7 +223,7 @@ export class MapView {
 
   /** Draws the counts: the canvases, and over them the axes, the rows that are written most, and room for marks. */
   draw() {
-    const { axis, cells, grid, width, settings } = this.held;
+    const { axis, cells, grid, width, settings, isSample } = this.held;
     this.row = this.row < grid.rows ? this.row : null;
     const most = cells.reduce((greatest, count) => Math.max(greatest, count), 0);
     const steps = heatSteps(most);
@@ -220,7 +231,7 @@ export class MapView {
     this.images = [0, 1].map(() => svg("image", { x: MAP_LEFT, y: MAP_TOP, width: axis.room, height: MAP_HEIGHT,
       preserveAspectRatio: "none", "image-rendering": "pixelated" }));
     const parts = [
-      ...this.scaleParts(settings.sample ? "Where in the sample" : "Where in memory"),
+      ...this.scaleParts(isSample ? "Where in the sample" : "Where in memory"),
       label("title", axis.width + 6, MAP_TOP - 9, "writes"), ...this.images, this.hotParts(), this.marks,
       ...axisLabels(axis, settings.tick.amount || 1, MAP_TOP + MAP_HEIGHT, "time in the trace"),
     ];

@@ -5,12 +5,12 @@ import { LABELS } from "../model/control-list.js";
 import { html } from "./elements.js";
 import { briefBytes, briefTime } from "../model/brief.js";
 import {
-  bytesText, counted, countOf, errorTimeText, momentText, pagesText, signed, timeText, unbroken,
+  bytesText, counted, countOf, errorTimeText, lengthText, momentText, pagesText, signed, timeText, unbroken,
 } from "../model/numbers.js";
 import {
   beginsLate, endingOf, isGood, isOfStill, isUnknown, reasonWords, warningsOf,
 } from "../model/predictions.js";
-import { WorkerEnded } from "../engine/planner-client.js";
+import { WorkerEnded, WorkerFailed } from "../engine/planner-client.js";
 import { Refusal } from "../engine/planner.js";
 import {
   answerWords, isAwaited, isOfPlan, likelyBeyond, planMark, sureLine, sureWords, verdictsOf,
@@ -138,16 +138,16 @@ export function verdictMark(prediction) {
 /** A pause beside its limit, with so many digits that two which differ look so, and one unit if both have the same. */
 function pauseWords({ cost, limits }) {
   const [down, limit] = [cost.downtime, limits.downtime];
-  const isSame = briefTime(down) === briefTime(limit) && down !== limit;
-  const [pause, most] = [down, limit].map(isSame ? (micros) => unbroken(timeText(micros)) : briefTime);
+  const text = [briefTime, timeText, momentText].find((some) => some(down) !== some(limit)) ?? briefTime;
+  const [pause, most] = [down, limit].map((micros) => unbroken(text(micros)));
   const [, unit] = pause.split("\u00a0");
-  return `Pause ${pause} of ${most.replace(new RegExp(`\u00a0${unit}$`), "")}`;
+  return `Pause ${pause} of ${most.replace(new RegExp(`^(\\S+)\u00a0${unit}$`), "$1")}`;
 }
 
-function headlineWords(prediction) {
+export function headlineWords(prediction) {
   const { cost } = prediction;
   if (isUnknown(prediction)) {
-    return cost.recorded > 0n ? `Longer than the trace: more than ${briefTime(cost.recorded)}`
+    return cost.recorded > 0n ? `Longer than the trace: more than ${lengthText(cost.recorded)}`
       : `The trace ends ${beginsLate(prediction) ? "before" : "at"} the start`;
   }
   return `${pauseWords(prediction)}, ${briefTime(cost.time)}, ${briefBytes(cost.bytes)}:`;
@@ -204,9 +204,10 @@ function isSameScale(one, other) {
   return one.guest * one.page * other.sampled === other.guest * other.page * one.sampled;
 }
 
-/** Whether a number of this plan and of a kept one can be told apart: pages of one size, moments of one trace. */
-function isCompared({ isPages, isMoment }, prediction, { found: { value }, name }) {
-  const isTold = !isMoment || (!name && prediction.plan.isStopped && value.plan.isStopped);
+/** Whether a number can be told apart of two plans: pages of one size, moments of one trace, steps of one kind. */
+function isCompared({ title, isPages, isMoment }, prediction, { found: { value }, name }) {
+  const isTold = isMoment ? !name && prediction.plan.isStopped && value.plan.isStopped
+    : title !== "" || prediction.plan.isClark === value.plan.isClark;
   return ![prediction, value].some(isUnknown) && isTold
     && (!isPages || isSameScale(prediction.scale, value.scale));
 }
@@ -282,6 +283,9 @@ export function comparisonRows(prediction, kept) {
 
 /** What was refused, in words: a name, and a sentence. */
 export function refusedWords(error) {
+  if (error instanceof WorkerFailed) {
+    return { name: "the planner failed.", sentence: `It has a defect: ${error.message}` };
+  }
   if (error instanceof WorkerEnded) {
     return { name: "the planner ended.", sentence: "It was started again, and ended again." };
   }

@@ -11,10 +11,11 @@ import { limitBar } from "./limit-bar.js";
 import {
   comparisonOf, comparisonRows, headlineParts, reasonParts, refusalPart, refusedWords, verdictOf,
 } from "./outcome.js";
-import { WorkerEnded } from "../engine/planner-client.js";
+import { NoAnswer } from "../engine/planner-client.js";
 import { watchWidths, widthOf } from "./plot.js";
 import { beginsLate, forecastWords, isUnknown, keptWords } from "../model/predictions.js";
 import { quantityWords } from "../model/quantities.js";
+import { isSameSample } from "../model/record.js";
 import { reachOf, roundsLook, roundsPicture } from "./rounds-chart.js";
 import { ROUND_SETTINGS } from "../model/state.js";
 import { isAwaited, planMark, verdictsOf } from "../model/sureness.js";
@@ -46,11 +47,12 @@ const WORDS = {
   sample: (value) => (value === null ? "all pages" : `sample of ${value.part} in ${value.whole}`),
 };
 
-/** In what the settings of a kept plan differ, in words. */
-function differencesOf(settings, kept, place) {
+/** In what the settings of a kept plan differ, in words. An amount is the same in each unit. */
+export function differencesOf(settings, kept, place) {
   const isAsked = (name) => settings.clark || kept.clark || !ROUND_SETTINGS.includes(name);
-  const differing = Object.keys(WORDS).filter((name) => isAsked(name)
-    && JSON.stringify(settings[name]) !== JSON.stringify(kept[name]));
+  const isSame = (name) => (name === "sample" ? isSameSample(settings.sample, kept.sample)
+    : (settings[name]?.amount ?? settings[name]) === (kept[name]?.amount ?? kept[name]));
+  const differing = Object.keys(WORDS).filter((name) => isAsked(name) && !isSame(name));
   return differing.length === 0 ? `Kept plan ${place + 1} has the same settings.`
     : `Kept plan ${place + 1} differs: ${differing.map((name) => WORDS[name](kept[name], kept)).join(", ")}.`;
 }
@@ -223,16 +225,14 @@ export class PlanView {
 
   /** Why there is no plan, with ways out. */
   refusedParts(refusal) {
-    if (refusal instanceof WorkerEnded) {
-      const again = html("button", { type: "button", id: "try-again" }, "Try again");
-      return [refusalPart(refusal, "No plan:"), html("div", { class: "actions" }, again)];
-    }
-    const fit = html("button", { type: "button", id: "fit" }, "Fit all settings to the trace");
+    const button = (id, words) => html("button", { type: "button", id }, words);
+    const fit = button("fit", "Fit all settings to the trace");
     if (!(refusal instanceof ControlRefusal)) {
-      return [refusalPart(refusal, "No plan:"), html("div", { class: "actions" }, fit)];
+      const way = refusal instanceof NoAnswer ? button("try-again", "Try again") : fit;
+      return [refusalPart(refusal, "No plan:"), html("div", { class: "actions" }, way)];
     }
     const { name, sentence } = refusedWords(refusal);
-    const lead = html("button", { type: "button", id: "lead" }, `Go to \u201c${name}\u201d`);
+    const lead = button("lead", `Go to \u201c${name}\u201d`);
     const said = html("p", { class: "refusal", "data-control": refusal.control },
       html("strong", {}, `No plan. ${name}:`), ` ${sentence}`);
     return [said, html("div", { class: "actions" }, lead, fit)];
@@ -262,8 +262,7 @@ export class PlanView {
     if (value) {
       return isAwaited(value) ? null : verdictOf(value);
     }
-    const { name, sentence } = refusedWords(refusal);
-    return `No plan. ${name}: ${sentence}`;
+    return this.refusedParts(refusal)[0].textContent;
   }
 
   drawRounds(prediction, kept) {

@@ -1,14 +1,13 @@
 // The section on when to move: it asks the worker what the migration costs from many starts, and draws the answer.
 
 import { byId, html } from "./elements.js";
+import { foundBy } from "../model/found.js";
 import { bytesText, countOf, signed, timeText, unbroken } from "../model/numbers.js";
 import { firstStartOf, startCosts, startRows, startTicks } from "../model/starts.js";
 import { AWAITED, costWords, startsLook, startsPicture, startWords } from "./starts-chart.js";
 import { saveButtons } from "./exports.js";
 import { Inspector } from "./inspector.js";
 import { refusalPart } from "./outcome.js";
-import { WorkerEnded } from "../engine/planner-client.js";
-import { Refusal } from "../engine/planner.js";
 import { ERRORS_BELOW } from "../model/sureness.js";
 
 /** Which of two starts is the better one. A hypervisor stops the guest only when what is left fits the limit. */
@@ -96,17 +95,12 @@ export class StartsView {
     const { question } = this;
     this.busy(0);
     this.changed();
-    try {
-      const told = (share) => question === this.question && this.busy(share);
-      const found = await trace.starts(prediction.question, ticks, told);
-      if (question === this.question && found) {
-        this.finish(prediction, ticks, found);
-      }
-    } catch (error) {
-      if (!(error instanceof Refusal) && !(error instanceof WorkerEnded)) {
-        throw error;
-      }
-      this.fail(question, error);
+    const told = (share) => question === this.question && this.busy(share);
+    const { value, refusal } = await foundBy(() => trace.starts(prediction.question, ticks, told));
+    if (question === this.question && refusal) {
+      this.fail(refusal);
+    } else if (question === this.question && value) {
+      this.finish(prediction, ticks, value);
     }
   }
 
@@ -128,10 +122,7 @@ export class StartsView {
   }
 
   /** Says why there is no answer. */
-  fail(question, error) {
-    if (question !== this.question) {
-      return;
-    }
+  fail(error) {
     this.asked = null;
     this.busy(null);
     byId("starts-answer").hidden = false;

@@ -4,7 +4,8 @@
 import { byId, html, keepFocus, renew } from "./elements.js";
 import { bytesText, counted, countOf, lengthText, unbroken } from "../model/numbers.js";
 import { refusalPart } from "./outcome.js";
-import { PlannerClient, WorkerEnded } from "../engine/planner-client.js";
+import { foundBy } from "../model/found.js";
+import { PlannerClient } from "../engine/planner-client.js";
 import { READ_FAULT, Refusal } from "../engine/planner.js";
 import { answerOver } from "../model/predictions.js";
 import { differencesFrom, MOST_RECORD_BYTES, recordIn, RecordRefusal } from "../model/record.js";
@@ -129,11 +130,12 @@ export class TraceDesk {
       name: file.name, blob: file, example: null, record: record ?? this.early,
     }));
     if (sources.length > 0) {
-      await this.openFirst(sources, others, wish);
+      await this.openFirst(sources, wish, others, record);
     } else if (record) {
       // It may be of a trace that is still being read.
       await this.turn;
-      this.takeRecord(record, unopenedNotes(others));
+      const ending = this.takeRecord(record, [], unopenedNotes(others));
+      performance.measure(ending, { start: 0, end: performance.now() });
     }
   }
 
@@ -143,23 +145,23 @@ export class TraceDesk {
   }
 
   async takeExample(example, wish) {
-    await this.openFirst([exampleSource(example)], [], wish);
+    await this.openFirst([exampleSource(example)], wish);
   }
 
   /** Opens a trace again that was open before on this page. */
   async reopen(print, wish) {
-    await this.openFirst([this.sources.get(print)], [], wish);
+    await this.openFirst([this.sources.get(print)], wish);
   }
 
   /**
    * Opens the first of some sources that is a trace, once those of the calls before are open or refused; a source may
-   * still be to come. `others` are files that are not opened, and `wish` goes to `taken`.
+   * still be to come. `wish` goes to `taken`. Beside the sources came `others`, which are not opened, and a record.
    */
-  openFirst(sources, others, wish) {
+  openFirst(sources, wish, others = [], record = null) {
     this.loading += 1;
     const { loading } = this;
     const opened = this.turn.then(async () => {
-      const ending = await this.openInTurn(sources, others, wish);
+      const ending = await this.openInTurn(sources, wish, others, record);
       if (loading === this.loading) {
         this.busy(null);
       }
@@ -169,12 +171,12 @@ export class TraceDesk {
     return opened;
   }
 
-  async openInTurn(coming, others, wish) {
+  async openInTurn(coming, wish, others, record) {
     const [notes, sources] = [[], await Promise.all(coming)];
     for (const [place, source] of sources.entries()) {
       const refusal = await this.refusalOf(source);
       if (refusal === null) {
-        this.note([...notes, ...this.recordNotes(source.record),
+        this.note([...notes, ...this.recordNotes(this.recordOf(source)),
           ...unopenedNotes([...sources.slice(place + 1), ...others])]);
         this.taken(this.trace, wish);
         return "opened";
@@ -182,28 +184,22 @@ export class TraceDesk {
       notes.push(refusalPart(refusal, named(source.name), "is refused:"));
     }
     const open = this.trace ? [html("p", {}, named(this.trace.source.name), " is still open.")] : [];
-    this.note([...notes, ...open, ...unopenedNotes(others)]);
-    return "refused";
+    // The record may be of the trace that is open, or of one that is still to come.
+    return this.takeRecord(record, [...notes, ...open], unopenedNotes(others));
   }
 
   /** Opens a source, and returns why it is no trace, or null. One that is refused leaves what is open as it is. */
   async refusalOf(source) {
     this.busy("Reading ", named(source.name), " \u2026");
-    try {
-      const found = await this.client.open(source.blob, (share) => {
-        this.busy("Reading ", named(source.name), `: ${Math.floor(100 * share)} %`);
-      });
-      this.trace = new OpenTrace(this.client, source, found);
+    const { value, refusal = null } = await foundBy(() => this.client.open(source.blob, (share) => {
+      this.busy("Reading ", named(source.name), `: ${Math.floor(100 * share)} %`);
+    }));
+    if (refusal === null) {
+      this.trace = new OpenTrace(this.client, source, value);
       this.said = null;
-      this.sources.set(this.trace.print, source);
-      this.early = null;
-      return null;
-    } catch (error) {
-      if (!(error instanceof Refusal) && !(error instanceof WorkerEnded)) {
-        throw error;
-      }
-      return error;
+      this.early = source.example ? this.early : null;
     }
+    return refusal;
   }
 
   /** Says how much of the open trace another worker has read, and with null that it has ended. */
@@ -216,30 +212,39 @@ export class TraceDesk {
     }
   }
 
-  /** Takes the record of the trace that is open, or of one that is still to come. */
-  takeRecord(record, notes) {
-    if (!this.trace) {
-      this.early = record;
-      this.note([html("p", {}, named(record.name), " is read once its trace is here."), ...notes]);
-      return;
-    }
-    const before = this.trace.record;
-    this.note([...this.recordNotes(record), ...notes]);
-    const isTaken = this.trace.record !== before;
-    if (isTaken) {
-      this.trace.source.record = record;
-      this.taken(this.trace, { isRecordOnly: true });
-    }
-    performance.measure(isTaken ? "opened" : "refused", { start: 0, end: performance.now() });
+  /** The record of a source that is open now: that which came with it, or else was read when it was dropped before. */
+  recordOf(source) {
+    const before = this.sources.get(this.trace.print);
+    const record = source.record ?? (source.example || before?.example ? null : before?.record);
+    // Until it is read, there is none.
+    source.record = null;
+    this.sources.set(this.trace.print, source);
+    return record;
   }
 
-  /** Reads a record for the open trace. Returns why it was refused, or what speaks against it. */
+  /** Takes a record, if there is one, and says what comes of it between other notes. Returns how that ended. */
+  takeRecord(record, before, after) {
+    const last = this.trace?.record;
+    this.note([...before, ...this.recordNotes(record), ...after]);
+    if (this.trace?.record === last) {
+      return "refused";
+    }
+    this.taken(this.trace, { isRecordOnly: true });
+    return "opened";
+  }
+
+  /** Reads a record for the open trace, or keeps it for the first to come. Returns what there is to say of it. */
   recordNotes(record) {
     if (!record) {
       return [];
     }
+    if (!this.trace) {
+      this.early = record;
+      return [html("p", {}, named(record.name), " is read once its trace is here.")];
+    }
     try {
       this.trace.record = recordIn(record.text, this.trace);
+      this.trace.source.record = record;
       const { doubt, still } = this.trace.record;
       return [doubt, still].filter(Boolean)
         .map((sentence) => html("p", { class: "note" }, named(record.name), `: ${sentence}`));

@@ -9,7 +9,7 @@ import { Refusal } from "../engine/planner.js";
 import { nextTask } from "../engine/slices.js";
 import { widthOf } from "./plot.js";
 import { windowsFile, windowsTable } from "./tables.js";
-import { amountOf, microsOf } from "../model/units.js";
+import { amountOf, microsOf, scaleOf } from "../model/units.js";
 import { drawnAt, planMarks, traceAxis, windowParts, windowsPicture, windowWords } from "./windows-chart.js";
 
 /** Settings in range, for a call that uses only the length of a window. */
@@ -43,8 +43,8 @@ export class WindowsView {
    * own, so that none takes long.
    */
   async count(trace, settings) {
-    const { window: length, sample } = settings;
-    const isSample = sample !== null && sample.whole > sample.part;
+    const { window: length } = settings;
+    const { isSample } = scaleOf(settings, trace.sizes);
     if (this.counted.trace !== trace || this.counted.length !== length) {
       const counted = await this.countedBy(trace, length);
       await nextTask();
@@ -63,11 +63,22 @@ export class WindowsView {
     try {
       return { trace, length, windows: await trace.windows({ ...PLAIN, window: length }) };
     } catch (error) {
+      this.forget(trace);
       if (!(error instanceof Refusal) || this.counted.trace === trace) {
         throw error;
       }
       const whole = trace.sizes.last + 1;
       return { trace, length: whole, windows: await trace.windows({ ...PLAIN, window: whole }) };
+    }
+  }
+
+  /** Forgets the windows of another trace than this one, of which none could be counted. */
+  forget(trace) {
+    if (this.counted.trace !== trace) {
+      [this.counted, this.held, this.axis] = [{}, {}, null];
+      ["windows-plot", "windows-table"].forEach((id) => byId(id).replaceChildren());
+      this.inspector.hold(null);
+      byId("zoom-plan").disabled = true;
     }
   }
 

@@ -1,7 +1,11 @@
 import assert from "node:assert/strict";
 import { test } from "node:test";
-import { WorkerEnded } from "../../../web/engine/planner-client.js";
+import { PlannerClient, WorkerEnded } from "../../../web/engine/planner-client.js";
+import { foundBy } from "../../../web/model/found.js";
 import { KeptPlans } from "../../../web/model/kept-plans.js";
+import { stateIn } from "../../../web/model/state.js";
+import { refusedWords } from "../../../web/views/outcome.js";
+import { differencesOf } from "../../../web/views/plan-view.js";
 
 const A = { digest: "a", source: { name: "a.pcwt" }, sizes: { last: 9 } };
 const B = { digest: "b", source: { name: "b.pcwt" }, sizes: { last: 9 } };
@@ -39,6 +43,14 @@ test("an address of the trace before shows what is kept over it once", async () 
   assert.deepEqual(await shows(B, []), []);
 });
 
+test("a kept plan differs in what is asked, and not in the unit of an amount", () => {
+  const { settings } = stateIn("link=1Gbit&clark=0");
+  const differing = (words) => differencesOf(settings, stateIn(words).settings, 0);
+  assert.equal(differing("link=1000Mbit&sample=9/9"), "Kept plan 1 has the same settings.");
+  assert.equal(differing("link=2Gbit&tick=1000us"), "Kept plan 1 differs: link 2 Gbit/s.");
+  assert.equal(differing("link=1Gbit&sample=5/9"), "Kept plan 1 differs: sample of 5 in 9.");
+});
+
 test("a trace that is opened again has what was kept over it", async () => {
   const { plans, shows } = kept();
   await shows(A, [1, 3]);
@@ -46,6 +58,18 @@ test("a trace that is opened again has what was kept over it", async () => {
   plans.open(A, null);
   assert.deepEqual(plans.settings().map(({ link }) => link), [1, 3]);
   assert.deepEqual(plans.others, []);
+  await shows(A, [1, 3]);
+  await shows(A, [2, 4]);
+  await shows(A, []);
+  assert.deepEqual(plans.settings().map(({ link }) => link), [2, 4]);
+  assert.deepEqual(plans.others, []);
+});
+
+test("a kept plan is shown with the windows of now, and with ticks where they are asked for now", async () => {
+  const plans = new KeptPlans(async (trace, settings) => ({ value: settings.ticks }));
+  const shown = (ticks) => plans.all(A, { kept: [{ link: 1, ticks: false }], settings: { window: 5, ticks } });
+  const [[plain], [ticked]] = [await shown(false), await shown(true)];
+  assert.deepEqual([plain.settings.window, plain.found.value, ticked.found.value], [5, false, true]);
 });
 
 test("places count what is shown", async () => {
@@ -80,6 +104,14 @@ test("a plan whose planner has ended is planned again, and one that is refused i
   assert.equal((await over(1)).refusal, ended);
   assert.deepEqual([await over(1), await over(1)], [{ value: 1 }, { value: 1 }]);
   assert.deepEqual([(await over(2)).refusal, (await over(2)).refusal], [refused, refused]);
+});
+
+test("an error that the worker does not expect is told in place of a plan", async () => {
+  const client = new PlannerClient("planner", () => {});
+  const asked = new Promise((resolve, reject) => { client.waiting.set(1, { resolve, reject }); });
+  client.hear({ number: 1, failed: "Error: no list" });
+  const { refusal } = await foundBy(() => asked);
+  assert.deepEqual(refusedWords(refusal), { name: "the planner failed.", sentence: "It has a defect: Error: no list" });
 });
 
 test("a plan that comes after another trace was opened is not of that", async () => {

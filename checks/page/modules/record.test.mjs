@@ -17,6 +17,8 @@ test("a record says what ticks, pages and the start stand for", () => {
   assert.deepEqual(record, { tick: 1_000, start: 10, sample, doubt: "", still: "" });
   const settings = { tick: { amount: 1_000 }, sample: { part: 1_000, whole: 1 << 21 }, start: 5_000 };
   assert.deepEqual(differencesFrom(record, settings), []);
+  const late = read({ first_tick: 6_000, last_tick: 6_000 });
+  assert.deepEqual([late.start, differencesFrom(late, { ...settings, start: 4_999 })], [4_999, []]);
   const others = { tick: { amount: 2 }, sample: null, start: 0 };
   assert.deepEqual(differencesFrom(record, others), ["tick", "sample", "start"]);
 });

@@ -1,6 +1,7 @@
 import assert from "node:assert/strict";
 import { test } from "node:test";
 import { LateAnswers } from "../../../web/engine/late-answers.js";
+import { WorkerEnded } from "../../../web/engine/planner-client.js";
 import { AGREEMENT } from "../../../web/model/interface.js";
 import { warningsOf } from "../../../web/model/predictions.js";
 import { readAgreement } from "../../../web/model/questions.js";
@@ -143,6 +144,31 @@ test("how sure a plan is comes after its errors and before what is enough, and o
   const { kinds } = asking(predicted("yes", "yes"), [predicted("yes", "yes"), kept]);
   assert.deepEqual(kinds(), ["forecast", "errors", "agreement", "remedies", "errors", "agreement"]);
   assert.deepEqual(asking(predicted("unknown", "unknown")).kinds(), ["forecast", "remedies"]);
+});
+
+test("what got no answer is asked again when that is said, and not at once", async () => {
+  const [asked, answers] = [[], { agreement: { ...COUNTS, converges: "no", kept: "no" } }];
+  const prediction = predicted("no", "no");
+  const follow = () => late.follow(trace, prediction, { plans: [prediction], starts: [] }, () => []);
+  const late = new LateAnswers((kind) => kind === "curve" || follow());
+  const kinds = async () => {
+    follow();
+    await new Promise(setImmediate);
+    return asked.splice(0).join(" ");
+  };
+  let isEnded = true;
+  late.client = { open: async () => {}, ask: async (kind) => {
+    asked.push(kind);
+    if (isEnded) {
+      throw new WorkerEnded("ended");
+    }
+    return answers[kind] ?? null;
+  } };
+  for (isEnded of [true, false]) {
+    assert.deepEqual([await kinds(), await kinds()], ["forecast errors agreement remedies", ""]);
+    late.askAgain();
+  }
+  assert.deepEqual([late.agreementOf(trace, prediction).kept, await kinds()], ["no", ""]);
 });
 
 test("beside a plan of looks it is told only if the trace ends first what comes of it like QEMU", () => {

@@ -3,3 +3,4 @@ pub mod OptionLemmas
 pub mod CommandLemmas
 pub mod LineLemmas
 pub mod HelpLemmas
+pub mod Told

@@ -17,7 +17,6 @@ use crate::stop_and_copy::stop_and_copy;
 use crate::stopped::StoppedGuest;
 use guest_log::WriteLog;
 use image_build::Image;
-use joined_threads::join_all;
 use live_tasks::{CopierState, Gate};
 use rate_limit::Settings;
 use std::alloc::Global;
@@ -26,7 +25,7 @@ use std::sync::Wait;
 use std::sync::atomic::Ordering;
 use std::thread;
 use std::thread::{PromisedHandle, Scope, Threads, scope_env};
-use stop_copy::GuestImages;
+use stop_copy::{GuestImages, join_all};
 use stream_receivers::{Receiver, join_first};
 
 /// What a run leaves: the state of the migration after its last round, and the receivers.

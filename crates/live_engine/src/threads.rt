@@ -15,7 +15,6 @@ ghost use Rattle.live_tasks.specs.Replays.{OpensAt};
 use crate::error::LiveError;
 use dirty_words::{CopySeat, GuestSeat, RoundTable};
 use guest_log::WriteLog;
-use joined_threads::join_all;
 use live_tasks::{Copier, CopierState, Gate, SeatError, SharedRound, Ticks, replay};
 use std::alloc::Global;
 use std::collections::VecDeque;
@@ -24,6 +23,7 @@ use std::snapshot::Snapshot;
 use std::sync::Wait;
 use std::thread;
 use std::thread::{Promise, PromisedHandle, Scope, Threads, scope_env};
+use stop_copy::join_all;
 use stream_lanes::LaneOut;
 
 /// What a replayer's thread owes: its part of the round.

@@ -7,10 +7,10 @@ use Rattle.clap.specs.Walk.{Text}
 use Rattle.clap.specs.declared.builder.command.Command.{Command}
 use Rattle.clap.specs.declared.builder.command.Command.TheViews.{out-Command as fields_of}
 use Rattle.job_commands.specs.Commands.{FailsByKind, IsWordsRefusal, leaf}
+use Rattle.job_commands.specs.Ends.{IsHelpText}
 use Rattle.job_commands.specs.declared.command.WordsError.{WordsError}
 use Rattle.job_commands.specs.declared.command.WordsError.TheVariants.{Help, Memory, Refused, Usage}
 use Rattle.move_schedules.specs.Words.{AreRefusedWords, AskForHelp, schedule_line}
-use Rattle.program_messages.specs.Ends.{IsHelpText}
 
 -- the command line before it has a version
 abbrev pub bare_line : App

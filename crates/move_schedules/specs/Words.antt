@@ -6,9 +6,9 @@ use Rattle.clap.specs.Simple.{App, new_shape}
 use Rattle.clap.specs.Walk.{Text}
 use Rattle.clap.specs.declared.error.kind.ErrorKind.{ErrorKind}
 use Rattle.job_commands.specs.Commands.{FailsByKind, IsRequest, IsWordsRefusal}
+use Rattle.job_commands.specs.Ends.{TellsWords}
 use Rattle.job_commands.specs.declared.command.WordsError.{WordsError}
-use Rattle.program_messages.specs.Ends.{TellsWords}
-use Rattle.program_messages.specs.declared.program.Program.TheVariants.{PrecopySchedule}
+use Rattle.job_commands.specs.declared.program.Program.TheVariants.{PrecopySchedule}
 
 -- the command line: no commands, and no options but those for help and for the version
 unfoldable pub schedule_line : App

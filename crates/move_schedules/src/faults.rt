@@ -2,13 +2,13 @@
 
 ghost use Rattle.std.specs.Prelude.{◌≡◌, ◌≤◌, false, length};
 ghost use Rattle.move_schedules.specs.Faults.{cause_of, line_cause};
-ghost use Rattle.program_messages.specs.Ends.{IsTold, line_of};
+ghost use Rattle.job_commands.specs.Ends.{IsTold, line_of};
 
 use crate::error::TableError;
 use arrayvec::ArrayString;
 use byte_sinks::Sink;
 use itoa::Buffer;
-use program_messages::{Program, known_fault};
+use job_commands::{Program, known_fault};
 
 /// Returns a short text as a cause.
 fn cause(text: &str) -> ArrayString<128>

@@ -9,7 +9,7 @@ ghost use Rattle.move_schedules.specs.Ends.{Answers, HasFailed, IsRefused, Refus
 ghost use Rattle.move_schedules.specs.Ends.{WritesAnswerPart};
 ghost use Rattle.move_schedules.specs.Faults.{cause_of};
 ghost use Rattle.move_schedules.specs.Words.{AreRefusedWords, AskForHelp, AskForSchedules, TellsRefusal};
-ghost use Rattle.program_messages.specs.Ends.{IsTold, NoneHasFailed, line_of, memory_line, write_line};
+ghost use Rattle.job_commands.specs.Ends.{IsTold, NoneHasFailed, line_of, memory_line, write_line};
 
 use crate::command::check_words;
 use crate::error::TableError;
@@ -17,7 +17,7 @@ use crate::faults::table_fault;
 use crate::plans::plans_of;
 use crate::texts::told;
 use byte_sinks::{Sink, write_out};
-use program_messages::{Program, refuse};
+use job_commands::{Program, refuse};
 use std::alloc::Global;
 use trace_codec::{MAX_LENGTH, Source, TraceError, read_bytes};
 

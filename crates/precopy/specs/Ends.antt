@@ -7,9 +7,9 @@ use Rattle.migration_jobs.specs.Output.{IsOutput, IsRefusalOf, RefusesRun}
 use Rattle.migration_jobs.specs.declared.error.RunError.{RunError}
 use Rattle.migration_jobs.specs.declared.error.RunError.TheVariants as errors
 use Rattle.job_commands.specs.Commands.{IsWordsRefusal, WordsFail}
+use Rattle.job_commands.specs.Ends.{IsTold, TellsLine, TellsWords, line_of, memory_line, write_line}
 use Rattle.job_commands.specs.declared.command.WordsError.{WordsError}
-use Rattle.program_messages.specs.Ends.{IsTold, TellsLine, TellsWords, line_of, memory_line, write_line}
-use Rattle.program_messages.specs.declared.program.Program.TheVariants.{Precopy}
+use Rattle.job_commands.specs.declared.program.Program.TheVariants.{Precopy}
 use Rattle.trace_codec.specs.declared.error.TraceError.TheVariants.{ReadFault}
 
 -- A job over what a source held failed: the sink holds a prefix of the output if a write failed, and otherwise what it

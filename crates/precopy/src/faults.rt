@@ -4,8 +4,8 @@ ghost use Rattle.std.specs.Prelude.{◌≡◌, false};
 ghost use Rattle.precopy.specs.Ends.{TellsRun};
 
 use byte_sinks::Sink;
+use job_commands::{Program, fault, known_fault};
 use migration_jobs::RunError;
-use program_messages::{Program, fault, known_fault};
 
 /// Writes the fault line of a failed run, and returns its status, 1. It allocates nothing.
 pub(crate) fn run_fault<E: Sink>(error: &RunError, faults: &mut E) -> u8

@@ -9,9 +9,8 @@ mod tests;
 pub use crate::starting::start;
 use byte_sinks::FromWrite;
 pub use byte_sinks::Sink;
-use job_commands::words;
+use job_commands::{Program, refuse, words};
 pub use migration_jobs::{Job, RunError, Show, run};
-use program_messages::{Program, refuse};
 use std::process::ExitCode;
 use trace_codec::FromRead;
 

@@ -4,16 +4,15 @@ ghost use Rattle.std.specs.Prelude.{◌≡◌, ◌≤◌, ◌⊎◌, List, ℕ, 
 ghost use Rattle.std.specs.Io.KnownBytes.{Appends};
 ghost use Rattle.byte_sinks.specs.Sink.{AppendsPart};
 ghost use Rattle.job_commands.specs.Commands.{AreRefusedWords, AskForHelp, WordsAsk};
+ghost use Rattle.job_commands.specs.Ends.{IsTold, NoneHasFailed, memory_line, write_line};
 ghost use Rattle.migration_jobs.specs.Output.{IsOutput};
 ghost use Rattle.precopy.specs.Ends.{HasFailed, TellsRefusal, TellsRun};
-ghost use Rattle.program_messages.specs.Ends.{IsTold, NoneHasFailed, memory_line, write_line};
 
 use crate::faults::run_fault;
 use byte_sinks::Sink;
-use job_commands::job_of;
+use job_commands::{Program, job_of, refuse};
 use live_engine::OpenGate;
 use migration_jobs::{Job, run};
-use program_messages::{Program, refuse};
 use std::alloc::Global;
 use std::sync::Wait;
 use std::thread::Threads;

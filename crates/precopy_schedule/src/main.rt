@@ -2,9 +2,8 @@
 #![tactic(auto)]
 
 use byte_sinks::FromWrite;
-use job_commands::words;
+use job_commands::{Program, refuse, words};
 use move_schedules::start;
-use program_messages::{Program, refuse};
 use std::process::ExitCode;
 use trace_codec::FromRead;
 

@@ -3,10 +3,10 @@ use Rattle.std.specs.Prelude.{ℕ, Bool, List, Option, None, ⊤}
 use Rattle.byte_sinks.specs.declared.error.SinkError.{SinkError}
 use Rattle.byte_sinks.specs.declared.error.SinkError.TheVariants as sinks
 use Rattle.job_commands.specs.Commands.{IsWordsRefusal}
+use Rattle.job_commands.specs.Ends.{IsHelpText, IsTold, TellsLine, TellsWords, memory_line, write_line}
+use Rattle.job_commands.specs.declared.program.Program.TheVariants.{PrecopyView}
 use Rattle.precopy_view.specs.declared.faults.ShowError.{ShowError}
 use Rattle.precopy_view.specs.declared.faults.ShowError.TheVariants as shows
-use Rattle.program_messages.specs.Ends.{IsHelpText, IsTold, TellsLine, TellsWords, memory_line, write_line}
-use Rattle.program_messages.specs.declared.program.Program.TheVariants.{PrecopyView}
 use Rattle.view_commands.specs.Views.{WordsFail}
 use Rattle.view_commands.specs.declared.command.ViewWordsError.{ViewWordsError}
 use Rattle.view_commands.specs.declared.command.ViewWordsError.TheVariants as asked

@@ -3,14 +3,14 @@
 ghost use Rattle.std.specs.Prelude.{◌≡◌, ◌≤◌, ◌⊎◌, IfErr, List, None, OnOk, ℕ, false, true};
 ghost use Rattle.std.specs.Io.KnownBytes.{Appends};
 ghost use Rattle.byte_sinks.specs.Sink.{AppendsPart};
-ghost use Rattle.program_messages.specs.Ends.{IsTold, TellsLine, memory_line, write_line};
+ghost use Rattle.job_commands.specs.Ends.{IsTold, TellsLine, memory_line, write_line};
 ghost use Rattle.precopy_view.specs.Ends.{IsHelpOf, IsRefusal, TellsShow, TellsViewWords, error_of_sink};
 ghost use Rattle.precopy_view.specs.Fitting.{FitsScale, IsMisfit};
 ghost use Rattle.precopy_view.specs.declared.faults.ShowError.TheVariants.{Trace};
 
 use byte_sinks::{Sink, SinkError};
+use job_commands::{Program, known_fault, tell_line};
 use predictions::units::Scale;
-use program_messages::{Program, known_fault, tell_line};
 use thiserror::Error;
 use trace_codec::TraceError;
 use trace_readers::TouchLog;
@@ -115,7 +115,7 @@ fn trace_fault<E: Sink>(faults: &mut E, error: TraceError) -> u8
         (E.has_failed faults.new) }
 {
     let explained = ExplainedTrace(error, cause_of(&error));
-    program_messages::fault(Program::PrecopyView, &explained, faults)
+    job_commands::fault(Program::PrecopyView, &explained, faults)
 }
 
 /// Writes the fault line of an error, and returns the error's status, 1. It allocates nothing.
@@ -128,9 +128,9 @@ pub(crate) fn fault<E: Sink>(faults: &mut E, error: &ShowError) -> u8
         ShowError::Trace(trace) => trace_fault(faults, *trace),
         ShowError::Memory => known_fault(Program::PrecopyView, "memory", faults),
         ShowError::Write => known_fault(Program::PrecopyView, "write", faults),
-        ShowError::PageSize(_) => program_messages::fault(Program::PrecopyView, error, faults),
-        ShowError::TooManyPages(_) => program_messages::fault(Program::PrecopyView, error, faults),
-        ShowError::View(_) => program_messages::fault(Program::PrecopyView, error, faults),
+        ShowError::PageSize(_) => job_commands::fault(Program::PrecopyView, error, faults),
+        ShowError::TooManyPages(_) => job_commands::fault(Program::PrecopyView, error, faults),
+        ShowError::View(_) => job_commands::fault(Program::PrecopyView, error, faults),
     }
 }
 
@@ -156,7 +156,7 @@ pub fn refuse<K: Sink, E: Sink>(error: ViewWordsError, sink: &mut K, faults: &mu
 {
     match error {
         ViewWordsError::Words(error) => {
-            program_messages::refuse(Program::PrecopyView, error, sink, faults)
+            job_commands::refuse(Program::PrecopyView, error, sink, faults)
         }
         ViewWordsError::Limits(refusal) => {
             tell_line(Program::PrecopyView, &refusal, faults);

@@ -4,7 +4,7 @@ ghost use Rattle.std.specs.Prelude.{◌≡◌, ◌≢◌, ◌≤◌, ◌↔◌, 
 ghost use Rattle.std.specs.Prelude.{string_bytes, true};
 ghost use Rattle.std.specs.Io.KnownBytes.{Appends};
 ghost use Rattle.byte_sinks.specs.Sink.{AppendsPart};
-ghost use Rattle.program_messages.specs.Ends.{IsTold, NoneHasFailed, memory_line, write_line};
+ghost use Rattle.job_commands.specs.Ends.{IsTold, NoneHasFailed, memory_line, write_line};
 ghost use Rattle.precopy_view.specs.Ends.{FailsAs, IsHelp, IsRefusal, TellsRefusal, TellsShow};
 ghost use Rattle.precopy_view.specs.Written.{HasFailed, MakesView, RefusesAskedView, WritesView, WritesViewPart};
 ghost use Rattle.trace_codec.specs.declared.error.TraceError.TheVariants.{ReadFault};
@@ -12,8 +12,8 @@ ghost use Rattle.view_commands.specs.Views.{WordsAsk};
 
 use crate::faults::{ShowError, check_scale, fault, refuse};
 use byte_sinks::{Sink, write_out};
+use job_commands::Program;
 use predictions::Verdict;
-use program_messages::Program;
 use std::alloc::Global;
 use std::thread::Threads;
 use trace_codec::Source;

@@ -144,6 +144,36 @@ fn push_place(
     panel.push_span(text, "stop", stop, stop.saturating_add(2))
 }
 
+/// Appends the picture of a report.
+fn push_chart(
+    text: &mut Vec<u8>,
+    shape: &Shape,
+    settings: &Settings,
+    scale: &Option<Scale>,
+    tables: &Tables,
+    plan: &Plan,
+) -> Result<(), AllocError>
+    ensures { OnOk result (IsReportChart shape.now.pages (2 ^ shape.now.shift) shape.now.writes settings.now
+        scale.now tables.now plan.now text.new.items) }
+{
+    let length = settings.asked().window;
+    let rounds_axis = Axis::of_rounds(settings, plan);
+    let axis = rounds_axis.with_windows(length, &tables.windows);
+    let windows = panel_of_windows(&tables.windows);
+    let (pages, rates) = panels_of_rounds(&plan.rounds);
+    begin_picture(text, 720)?;
+    push_trace(text, shape, length)?;
+    push_windows(text, &axis, length, &tables.windows)?;
+    push_place(text, &axis, &rounds_axis, &windows, plan)?;
+    axis.push_labels(text, scale, windows.bottom())?;
+    push_rounds(text, &rounds_axis, &pages, &rates, plan)?;
+    rounds_axis.push_labels(text, scale, rates.bottom())?;
+    push_stop(text, plan)?;
+    push_units_if(text, scale, plan)?;
+    end_picture(text)?;
+    Ok(())
+}
+
 /// Returns a report as a picture, an SVG document: the pages of each window, and below them, on an axis of their own,
 /// the rounds, the stop and the downtime. The windows are marked where these lie. If windows are narrower than a unit
 /// of the picture, the one with the most pages is drawn. With a scale it also has times and sizes.
@@ -158,21 +188,7 @@ pub fn report_chart(
     ensures { IfOk result (λ text. IsReportChart shape.now.pages (2 ^ shape.now.shift) shape.now.writes settings.now
         scale.now tables.now plan.now text.items) }
 {
-    let length = settings.asked().window;
-    let rounds_axis = Axis::of_rounds(settings, plan);
-    let axis = rounds_axis.with_windows(length, &tables.windows);
-    let windows = panel_of_windows(&tables.windows);
-    let (pages, rates) = panels_of_rounds(&plan.rounds);
     let mut text = Vec::new(alloc);
-    begin_picture(&mut text, 720)?;
-    push_trace(&mut text, shape, length)?;
-    push_windows(&mut text, &axis, length, &tables.windows)?;
-    push_place(&mut text, &axis, &rounds_axis, &windows, plan)?;
-    axis.push_labels(&mut text, scale, windows.bottom())?;
-    push_rounds(&mut text, &rounds_axis, &pages, &rates, plan)?;
-    rounds_axis.push_labels(&mut text, scale, rates.bottom())?;
-    push_stop(&mut text, plan)?;
-    push_units_if(&mut text, scale, plan)?;
-    end_picture(&mut text)?;
+    push_chart(&mut text, shape, settings, scale, tables, plan)?;
     Ok(text)
 }

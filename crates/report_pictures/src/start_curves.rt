@@ -324,6 +324,33 @@ fn axis_of(costs: &[StartCost]) -> Axis
     axis
 }
 
+/// Appends the picture of what a migration costs from each start.
+fn push_chart(
+    text: &mut Vec<u8>,
+    settings: &Settings,
+    scale: &Scale,
+    limits: &Limits,
+    tables: &Tables,
+    costs: &[StartCost],
+    chosen: &Chosen,
+) -> Result<(), AllocError>
+    ensures { OnOk result (IsStartsChart settings.now scale.now limits.now tables.now costs.now
+        chosen.now.best chosen.now.worst text.new.items) }
+{
+    let length = settings.asked().window;
+    let axis = axis_of(costs).with_windows(length, &tables.windows);
+    let known = Some(*scale);
+    begin_picture(text, 800)?;
+    push_text(text, "head", LEFT, 36, "When to migrate")?;
+    push_windows(text, &axis, length, &tables.windows)?;
+    push_curves(text, &axis, limits.downtime / 1000, costs, chosen)?;
+    axis.push_labels(text, &known, 670)?;
+    push_chosen(text, scale, "Best start at ", 746, &chosen.best)?;
+    push_chosen(text, scale, "Worst start at ", 768, &chosen.worst)?;
+    end_picture(text)?;
+    Ok(())
+}
+
 /// Returns what a migration costs from each start as a picture, an SVG document: the pages of each window, and below
 /// them, on the same axis, the downtime, the time and the bytes by start. The best and the worst start are marked.
 pub fn starts_chart(
@@ -338,17 +365,7 @@ pub fn starts_chart(
     ensures { IfOk result (λ text. IsStartsChart settings.now scale.now limits.now tables.now costs.now
         chosen.now.best chosen.now.worst text.items) }
 {
-    let length = settings.asked().window;
-    let axis = axis_of(costs).with_windows(length, &tables.windows);
-    let known = Some(*scale);
     let mut text = Vec::new(alloc);
-    begin_picture(&mut text, 800)?;
-    push_text(&mut text, "head", LEFT, 36, "When to migrate")?;
-    push_windows(&mut text, &axis, length, &tables.windows)?;
-    push_curves(&mut text, &axis, limits.downtime / 1000, costs, chosen)?;
-    axis.push_labels(&mut text, &known, 670)?;
-    push_chosen(&mut text, scale, "Best start at ", 746, &chosen.best)?;
-    push_chosen(&mut text, scale, "Worst start at ", 768, &chosen.worst)?;
-    end_picture(&mut text)?;
+    push_chart(&mut text, settings, scale, limits, tables, costs, chosen)?;
     Ok(text)
 }

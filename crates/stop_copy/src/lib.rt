@@ -6,8 +6,10 @@ mod dealing;
 mod error;
 mod frames;
 mod images;
+mod threads;
 mod workers;
 
 pub use copying::final_copy;
 pub use error::CopyError;
 pub use images::GuestImages;
+pub use threads::join_all;

@@ -9,8 +9,8 @@ ghost use Rattle.stop_copy.specs.Pieces.{AreMadeOf};
 
 use crate::error::CopyError;
 use crate::frames::CurrentPages;
+use crate::threads::join_all;
 use guest_log::WriteLog;
-use joined_threads::join_all;
 use page_message::Frame;
 use page_versions::PageIndex;
 use std::alloc::Global;

@@ -151,6 +151,26 @@ fn write_best(out: &mut Document, lines: &[Line]) -> Result<(), AllocError>
     out.number_member("best", best_case(lines) as u64)
 }
 
+/// Writes the facts of a sweep as an object.
+fn write_sweep(
+    alloc: Global,
+    out: &mut Document,
+    scale: &Option<Scale>,
+    lines: &[Line],
+) -> Result<(), AllocError>
+    ensures { OnOk result (out.new ≡ out.old ++ sweep_object scale.now lines.now) }
+{
+    out.begin_object()?;
+    write_units(alloc, out, scale)?;
+    out.key("cases")?;
+    out.begin_array()?;
+    write_cases(alloc, out, scale, lines)?;
+    out.end_array()?;
+    write_best(out, lines)?;
+    out.end_object()?;
+    Ok(())
+}
+
 /// Returns the facts of a sweep as a JSON document, in one line: its cases, and the number of the best of them.
 pub fn json_sweep(
     alloc: Global,
@@ -161,13 +181,6 @@ pub fn json_sweep(
     ensures refused { IfErr result (λ e. e ≡ ViewError.Memory) }
 {
     let mut out = Document::new(alloc);
-    out.begin_object()?;
-    write_units(alloc, &mut out, scale)?;
-    out.key("cases")?;
-    out.begin_array()?;
-    write_cases(alloc, &mut out, scale, lines)?;
-    out.end_array()?;
-    write_best(&mut out, lines)?;
-    out.end_object()?;
+    write_sweep(alloc, &mut out, scale, lines)?;
     Ok(out.into_line()?)
 }

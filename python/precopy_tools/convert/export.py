@@ -40,8 +40,7 @@ def main(words):
     if options.json and options.text == "-":
         parser.error("--json goes with a file as TEXT")
     try:
-        with sys.stdin.buffer if options.trace == "-" else open(options.trace, "rb") as file:
-            text = file.read(traces.Limits().bytes + 1)
+        text = traces.text_of(options.trace, options.trace == "-")
         with traces.Pending(options.text) as file:
             write_all(lines_of(text), file)
     except Refused as refusal:

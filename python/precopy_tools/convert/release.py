@@ -70,18 +70,14 @@ def main(words):
     if options.json and options.output == "-":
         parser.error("--json goes with a file as OUTPUT")
     try:
-        with sys.stdin.buffer if options.trace == "-" else open(options.trace, "rb") as file:
-            trace = traces.read(file.read(traces.Limits().bytes + 1))
+        trace = traces.read(traces.text_of(options.trace, options.trace == "-"))
         with traces.Writer(options.output) as writer:
             count, pages = write_all(with_releases(trace.records(), options.after), writer)
             writer.finish(trace.shift, trace.pages, max(trace.version, writer.version))
     except Refused as refusal:
         version.complain("release", f"trace {refusal}")
         return 1
-    except traces.Full as fault:
-        version.complain("release", fault)
-        return 1
-    except OSError as fault:
+    except (traces.Full, OSError) as fault:
         version.complain("release", traces.told(fault))
         return 1
     if options.json:

@@ -35,7 +35,8 @@ def write(path: str, trace: traces.Trace, sample: samples.Sample, records: list)
         writer.append(records)
         text = writer.seal(trace.shift, sample.trace_pages, trace.version)
         sample = dataclasses.replace(sample, trace_sha256=samples.digest(text))
-        with samples.pending(path, sample) as beside:
+        with samples.Beside(path) as beside:
+            beside.put(sample)
             writer.finish(trace.shift, sample.trace_pages, trace.version)
             beside.finish()
 

@@ -17,13 +17,13 @@ CLOCK_LINES = 8
 STYLE = """<style>
 .paper { fill: #ffffff } text { fill: #1f2328 } .note { fill: #57606a } .grid { stroke: #d8dee4 }
 .moving { fill: #54aeff } .planned { fill: #b6bfc9 } .missed { fill: #e3a008 }
-.unknown { fill: #b6bfc9 } .down { fill: #cf222e }
+.unknown { fill: #b6bfc9 } .lost { fill: #8250df } .down { fill: #cf222e }
 .round { stroke: #ffffff } .limit { stroke: #cf222e; stroke-dasharray: 5 3 } .held { fill: #d8dee4 }
 .end { fill: #57606a; stroke: #ffffff; stroke-width: 3; paint-order: stroke }
 @media (prefers-color-scheme: dark) {
 .paper { fill: #0d1117 } text { fill: #e6edf3 } .note { fill: #8b949e } .grid { stroke: #30363d }
 .moving { fill: #388bfd } .planned { fill: #6e7681 } .missed { fill: #d29922 }
-.unknown { fill: #6e7681 } .down { fill: #ff7b72 }
+.unknown { fill: #6e7681 } .lost { fill: #a371f7 } .down { fill: #ff7b72 }
 .round { stroke: #0d1117 } .limit { stroke: #ff7b72 } .held { fill: #30363d } .end { fill: #8b949e; stroke: #0d1117 }
 }
 </style>"""

@@ -158,12 +158,13 @@ def answered(
     return found, answer
 
 
-def performing(options: argparse.Namespace, settings: Settings, names: list[str], answer: Answer, opens: float):
+def performing(options: argparse.Namespace, settings: Settings, names: list[str], answer: Answer, hour: Hour):
     """The moves of the best schedule in order, and how each guest is reached."""
     found_ways = ways.ways_of(names, options.way, settings.ways, options.port)
     if options.lines == "qmp":
         ways.expect_apart(found_ways, answer.best.at_once)
-    return lines.steps_of(answer.moves, settings.groups(), opens), found_ways
+    closes = hour.opens + hour.window.length if hour.window else 0.0
+    return lines.steps_of(answer.moves, settings.groups(), hour.opens, closes), found_ways
 
 
 def days_of(options: argparse.Namespace, found: Gathered, chosen: Chosen, answer: Answer, hour: Hour):
@@ -180,7 +181,7 @@ def show(
     deadline = min(options.deadline or math.inf, length)
     limits = Limits(found.asked.link, options.downtime, None if math.isinf(deadline) else deadline)
     names = [guest.name for guest in found.guests]
-    steps, found_ways = performing(options, settings, names, answer, hour.opens)
+    steps, found_ways = performing(options, settings, names, answer, hour)
     status = 1 if found.refused else texts.status_of(answer.best, limits.deadline)
     spread = days_of(options, found, chosen, answer, hour)
     told = documents.document(limits, found, answer, hour, spread, options.fluid)

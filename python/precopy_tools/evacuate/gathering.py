@@ -9,6 +9,7 @@ from precopy_tools.evacuate import schedules as host_schedules
 from precopy_tools.evacuate.costs import Asked, Guest, Wanted
 from precopy_tools.evacuate.texts import gigabits
 from precopy_tools.formats import traces
+from precopy_tools.record.guests import SINCE
 from precopy_tools.refusals import Refused
 
 Refusal = tuple[str, str]  # a file, and why it is refused
@@ -97,7 +98,9 @@ def expect_once(guests: Iterable[Guest]) -> None:
         for kind, text in (("name", guest.name), ("digest", guest.digest), ("source", guest.taken_of)):
             other = seen.setdefault((kind, text), guest)
             if other is not guest:
-                raise Refused(f"{other.record} and {guest.record} are two records of one guest: {text}")
+                is_sure = kind != "source" or not text.startswith("process ") or SINCE in text
+                note = "" if is_sure else "; or of two, since they do not say when that began"
+                raise Refused(f"{other.record} and {guest.record} are two records of one guest: {text}{note}")
 
 
 def expect_planned(guests: list[Guest]) -> None:

@@ -65,10 +65,11 @@ class Segment(NamedTuple):
 
 
 class Series:
-    """The segments of a guest."""
+    """The segments of a guest, the newest first. What was named by a clock that was ahead comes last."""
 
     def __init__(self, paths: list[str]):
-        self.segments = sorted(map(segment_of, paths), reverse=True)
+        now, found = time.time(), map(segment_of, paths)
+        self.segments = sorted(found, key=lambda each: (each.begin <= now, each), reverse=True)
 
     def fits(self, hour: float) -> list[Fit]:
         """Its records of a second of the day, the newest first: one for each day."""

@@ -22,11 +22,12 @@ state=$(mktemp -d) || exit 1
 trap 'rm -r "$state"' EXIT
 trap ': > "$state/stop"' INT TERM HUP
 
-# move NUMBER BEFORE DOMAIN DOWNTIME SPEED URI [TIME]: moves a guest as soon as that of number BEFORE has moved, and not
-# before a time in Unix seconds.
+# move NUMBER BEFORE DOMAIN DOWNTIME SPEED URI [TIME [END]]: moves a guest as soon as that of number BEFORE has moved,
+# not before a time in Unix seconds, and not from another one on.
 move() {{
     until [ "$2" = 0 ] || [ -e "$state/$2" ] || [ -e "$state/stop" ]; do sleep 0.1; done
     until [ "$(date +%s)" -ge "${{7:-0}}" ] || [ -e "$state/stop" ]; do sleep 1; done
+    [ "$(date +%s)" -lt "${{8:-9999999999}}" ] || {{ echo "$3: the window has ended" >&2; : > "$state/stop"; }}
     [ ! -e "$state/stop" ] || return 1
     echo "$3 begins"
     if virsh migrate-setmaxdowntime --domain "$3" --downtime "$4" &&
@@ -48,7 +49,8 @@ until wait; do :; done
 
 class Step(NamedTuple):
     """The move of a guest, in a script: its number from 1 on; those that have to have moved before, that of its slot
-    and that of its group, with 0 for none; and when it begins, which is not before a time in Unix seconds."""
+    and that of its group, with 0 for none; and when it begins, which is not before a time in Unix seconds, and before
+    another one, with 0 for none."""
 
     number: int
     move: Placed
@@ -56,6 +58,7 @@ class Step(NamedTuple):
     of_group: int
     when: str
     not_before: int = 0
+    closes: float = 0.0
 
 
 def milliseconds(limit: float) -> int:
@@ -68,9 +71,9 @@ def mebibytes(rate: float) -> int:
     return max(1, int(rate) >> 20)
 
 
-def steps_of(moves: list[Placed], groups: dict[str, int], opens: float = 0.0) -> list[Step]:
-    """The moves in their order, each with those that it waits for. The schedule opens at a time in Unix seconds, or at
-    any time: then no guest is held back."""
+def steps_of(moves: list[Placed], groups: dict[str, int], opens: float = 0.0, closes: float = 0.0) -> list[Step]:
+    """The moves in their order, each with those that it waits for. The schedule opens and closes at times in Unix
+    seconds, or opens at any time: then no guest is held back."""
     found: list[Step] = []
     for number, move in enumerate(moves, 1):
         group = groups.get(move.guest.name, 0)
@@ -81,7 +84,7 @@ def steps_of(moves: list[Placed], groups: dict[str, int], opens: float = 0.0) ->
         not_before = math.ceil(opens + move.start / 1e6) if is_timed else 0
         when = when_text(move, before, not_before)
         of_slot, of_group = (steps[-1].number if steps else 0 for steps in (slot, same))
-        found.append(Step(number, move, of_slot, of_group, when, not_before))
+        found.append(Step(number, move, of_slot, of_group, when, not_before, closes))
     return found
 
 
@@ -111,8 +114,8 @@ def virsh_line(step: Step, to: str) -> str:
     limits, before = step.move.guest.limits, 0 if step.of_group == step.of_slot else step.of_group
     words = [step.number, before, limits.domain or step.move.guest.name]
     words += [milliseconds(limits.downtime), mebibytes(step.move.cost.share), to]
-    words += [step.not_before] if step.not_before else []
-    return f"move {' '.join(shlex.quote(str(word)) for word in words)}"
+    times = [step.not_before, int(step.closes)] if step.closes else [step.not_before] if step.not_before else []
+    return f"move {' '.join(shlex.quote(str(word)) for word in (*words, *times))}"
 
 
 def virsh_script(steps: list[Step], ways: dict[str, Way]) -> str:
@@ -157,6 +160,7 @@ def qmp_script(steps: list[Step], ways: dict[str, Way]) -> str:
             "slot": step.move.slot,
             "before": step.of_group,
             "not_before": step.not_before,
+            "closes": step.closes,
             "monitor": ways[step.move.guest.name].monitor,
             "commands": qmp_commands(step.move, ways[step.move.guest.name].to)[1:],
         }

@@ -59,8 +59,6 @@ class QmpMover:
 
     def begin(self) -> None:
         """Begins, or raises a Fault. If it is not known whether QEMU has begun, it is watched as if it has."""
-        if why := self.why_not():
-            raise qmp.Fault(why)
         self.client = qmp.Client(self.way.monitor, SECONDS)
         self.client.ask("migrate-set-capabilities", capabilities=[{"capability": "events", "state": True}])
         _, parameters, migrate = qmp_commands(self.move, self.way.to)
@@ -181,8 +179,6 @@ class VirshMover:
         return "" if is_idle else f"domain {self.domain} has a job already"
 
     def begin(self) -> None:
-        if why := self.why_not():
-            raise qmp.Fault(why)
         downtime, speed = milliseconds(self.move.guest.limits.downtime), mebibytes(self.move.cost.share)
         domains.virsh("migrate-setmaxdowntime", "--domain", self.domain, "--downtime", str(downtime))
         command = ["virsh", "--quiet", "migrate", "--live", "--bandwidth", str(speed), "--domain", self.domain]

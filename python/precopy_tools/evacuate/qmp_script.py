@@ -138,6 +138,8 @@ def move(row):
     """Moves one guest, or raises one of FAULTS if it has not moved, or Unknown."""
     with contextlib.closing(Monitor(row["monitor"])) as monitor:
         expect_movable(monitor)
+        if 0 < row["closes"] <= time.time():
+            raise OSError("the window has ended")
         begin(monitor, row["commands"])
         tell(f"{row['guest']} begins", sys.stdout)
         tell(f"{row['guest']} has moved, with a downtime of {watch(monitor)} ms", sys.stdout)

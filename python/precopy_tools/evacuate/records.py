@@ -48,7 +48,9 @@ def last_of(paths: list[str]) -> str:
     """The segment that stands for a guest."""
     if len(paths) == 1:
         return paths[0]
-    in_order = sorted(paths)
+    # What was named by a clock that was ahead goes first.
+    now = datetime.datetime.now(datetime.timezone.utc)
+    in_order = sorted(paths, key=lambda path: ((begun_at(path) or now) <= now, path))
     lengths = [seconds_of(path) for path in in_order]
     return next(
         (path for path, length in reversed([*zip(in_order, lengths)]) if length >= LEAST_PART * max(lengths)), ""

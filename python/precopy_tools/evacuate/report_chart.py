@@ -12,12 +12,13 @@ KEYS = {
     "planned": ("planned", 80),
     "moving": ("moved", 75),
     "missed": ("has not moved", 115),
+    "lost": ("not known", 90),
     "down": ("downtime, drawn at least two dots wide", 0),
 }
 
 
 def kind_of(move: Moved) -> str:
-    return "moving" if move.is_moved else "missed"
+    return {"moved": "moving", "lost": "lost"}.get(move.state, "missed")
 
 
 def bar_of(kind: str, begin: float, end: float, y: float, height: float) -> str:

@@ -1,11 +1,13 @@
 """Performs a schedule: begins each guest when its slot and its group are free, and watches all that move.
 
-After a failure no other guest begins, and those under way end as they do. After SIGINT or SIGTERM they are told to
-stay. One thread decides. Others ask the monitors, one for each guest, so that one that hangs holds up nobody for long.
+After a failure or its window no other guest begins, and those under way end as they do. After SIGINT or SIGTERM they
+are told to stay. One thread decides. Others ask the monitors, one for each guest, so that one that hangs holds up
+nobody for long.
 """
 
 import argparse
 import concurrent.futures
+import math
 import sys
 import time
 from collections.abc import Callable
@@ -46,6 +48,7 @@ class Moving:
 
     def __init__(self, step: Step, mover, patience: float | None):
         self.step, self.mover, self.name = step, mover, step.move.guest.name
+        self.closes = step.closes or math.inf
         self.patience = patience or TIMES * step.move.cost.time / 1e6 + MORE
         self.seen, self.begun, self.ended = Look("waiting"), 0.0, 0.0
         self.sent: list[tuple[float, int]] = []
@@ -69,11 +72,14 @@ class Moving:
         self.wait()
 
     def _begin(self) -> Look:
+        """Begins if nothing stands against it; the window may end while that is asked."""
+        why = self.mover.why_not() or ("the window has ended" if time.time() >= self.closes else "")
         try:
-            self.mover.begin()
+            if not why:
+                self.mover.begin()
         except qmp.Fault as fault:
-            return Look("failed", why=str(fault))
-        return Look("moving")
+            why = str(fault)
+        return Look("failed" if why else "moving", why=why)
 
     def take(self) -> bool:
         """Has it go on with the share that it is to have, or begin with it. Returns whether it does."""
@@ -147,11 +153,11 @@ class Moving:
             f"{size_text(self.seen.left)} left{left}; planned until {moment_text(self.step.move.end)}"
         )
 
-    def moved(self, begun: float) -> Moved:
-        """What is told of it in the end."""
+    def moved(self, begun: float, stopped: str) -> Moved:
+        """What is told of it in the end; `stopped` says why it has not begun, if it has not."""
         state, why = self.seen.state, self.seen.why
         if state == "waiting":
-            return Moved(self.step.move, "not begun", why="no other guest began after a failure or a signal")
+            return Moved(self.step.move, "not begun", why=stopped)
         if state == "cancelled" and self.is_late:
             why = f"it took more than {time_text(micros_of(self.patience))}, and was cancelled"
         elif state == "cancelled":
@@ -171,7 +177,7 @@ class Run:
         self.by_number = {move.step.number: move for move in moves}
         self.begun = time.monotonic() + max(0.0, opens - time.time())
         self.shown, self.lines = 0.0, 0
-        self.is_stopped = False
+        self.why = ""  # why no other guest begins
 
     def perform(self) -> None:
         while self._begin_due() or any(move.is_watched for move in self.moves) or self._holds():
@@ -193,11 +199,15 @@ class Run:
 
     def _cancel(self) -> None:
         """Has all that move be told to stay, with the next look."""
-        if not self.is_stopped:
-            self.is_stopped = True
-            self._print(f"{self.stopping.by}: no other guest begins, and those that move are told to stay")
+        self._stop(f"{self.stopping.by}: no other guest begins, and those that move are told to stay")
         for move in self.moves:
             move.is_to_stay = True
+
+    def _stop(self, told: str, why: str = "no other guest began after a failure or a signal") -> None:
+        """No other guest begins, which is told once."""
+        if not self.why:
+            self.why = why
+            self._print(told)
 
     def _is_next(self, move: Moving) -> bool:
         """Whether a guest waits for no other one."""
@@ -209,7 +219,7 @@ class Run:
 
     def _holds(self) -> bool:
         """Whether a guest waits for its time alone."""
-        return not self.is_stopped and any(self._is_next(move) for move in self.moves)
+        return not self.why and any(self._is_next(move) for move in self.moves)
 
     def _share(self, due: list[Moving]) -> None:
         """Makes the shares of those that move, and of those that are due, anew. Lower ones are told first, and greater
@@ -233,12 +243,14 @@ class Run:
     def _begin_due(self) -> bool:
         """Begins what is due, and shares the link if it is shared. Returns whether something was begun."""
         is_begun = False
-        may_begin = not self.is_stopped and not self.stopping.by
+        if any(move.seen.state == "waiting" and time.time() >= move.closes for move in self.moves):
+            self._stop("the window has ended: no other guest begins", "the window had ended")
+        may_begin = not self.why and not self.stopping.by
         due = [move for move in self.moves if may_begin and self._is_due(move)]
         if self.link:
             self._share(due)
         for move in due:
-            if not self.is_stopped and not self.stopping.by:
+            if not self.why and not self.stopping.by:
                 self._print(f"{move.name} begins")
                 move.said = move.told
                 move.begin()
@@ -256,9 +268,7 @@ class Run:
         state, why = move.seen.state, move.seen.why
         told = LOST if state == "lost" else f" has not moved, {state}{': ' if why else ''}"
         self._print(f"{move.name}{told}{why}")
-        if not self.is_stopped:
-            self.is_stopped = True
-            self._print("no other guest begins")
+        self._stop("no other guest begins")
 
     def _print(self, line: str) -> None:
         self._erase()
@@ -283,7 +293,7 @@ class Run:
     def outcome(self) -> Outcome:
         """What came of it. A run that is stopped before it opens has taken no time."""
         taken = max(0.0, time.monotonic() - self.begun)
-        return Outcome([move.moved(self.begun) for move in self.moves], micros_of(taken))
+        return Outcome([move.moved(self.begun, self.why) for move in self.moves], micros_of(taken))
 
 
 def expect_ready(options: argparse.Namespace, steps: list[Step], ways: dict[str, Way], status: int) -> None:

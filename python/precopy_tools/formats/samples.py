@@ -41,8 +41,10 @@ def digest(text: bytes) -> str:
     return hashlib.sha256(text).hexdigest()
 
 
-def now() -> str:
-    return datetime.datetime.now(datetime.timezone.utc).isoformat(timespec="seconds")
+def now(ago: float = 0.0) -> str:
+    """What the clock says now, or so many seconds before."""
+    moment = datetime.datetime.now(datetime.timezone.utc) - datetime.timedelta(seconds=ago)
+    return moment.isoformat(timespec="seconds")
 
 
 @dataclasses.dataclass(frozen=True)
@@ -250,14 +252,3 @@ class Beside(traces.Pending):
         text = sample.text()
         self.write(text)
         os.ftruncate(self.descriptor, len(text))
-
-
-def pending(trace_path: str, sample: Sample) -> Beside:
-    """The whole text of NAME.json under another name; finish() gives it its own."""
-    file = Beside(trace_path)
-    try:
-        file.put(sample)
-    except OSError:
-        file.discard()
-        raise
-    return file

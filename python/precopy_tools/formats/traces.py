@@ -126,10 +126,15 @@ def read(text):
     return Trace(text[4], text[5], pages, writes, text)
 
 
+def text_of(path, is_input=False):
+    """The bytes of a file, or of standard input, but no more than a byte beyond those of the greatest trace."""
+    with sys.stdin.buffer if is_input else open(path, "rb") as file:
+        return file.read(Limits().bytes + 1)
+
+
 def read_file(path):
     """A trace in a file, and its records. A refusal names the file and the cause."""
-    with open(path, "rb") as file:
-        text = file.read(Limits().bytes + 1)
+    text = text_of(path)
     try:
         trace = read(text)
         return trace, list(trace.records())
@@ -149,7 +154,8 @@ def is_locked(path):
 
 
 class Pending:
-    """A file that is written under another name, only for its owner, and takes its own name when it is whole.
+    """A file that is written under another name, only for its owner, and takes its own name when it is whole and on the
+    disk: not even a crash of the host leaves a part under that name.
 
     The path - is standard output, to which all is copied when it is whole. So it is to what is there and is no file, as
     a pipe or /dev/null: a file with its name would be in its place. A link stays one.
@@ -189,9 +195,15 @@ class Pending:
                 shutil.copyfileobj(file, stream)
                 stream.flush()
         else:
-            os.close(self.descriptor)
-            self.descriptor = None
+            try:
+                os.fsync(self.descriptor)
+            except OSError as fault:
+                raise OSError(fault.errno, fault.strerror, self.path) from fault
             os.rename(self.hidden, os.path.realpath(self.path))
+            with contextlib.suppress(OSError), contextlib.ExitStack() as opened:
+                folder = os.open(os.path.dirname(self.hidden), os.O_RDONLY)
+                opened.callback(os.close, folder)
+                os.fsync(folder)
 
     def discard(self):
         """Takes the unfinished file away. After finish() it does nothing."""

@@ -4,8 +4,10 @@ import json
 import math
 import re
 import subprocess
+from fractions import Fraction
 from typing import NamedTuple
 
+from precopy_tools.quantities import micros_of
 from precopy_tools.record.memory import PAGE
 from precopy_tools.words import given_rate, whole_rate
 
@@ -39,9 +41,10 @@ class Settings(NamedTuple):
 
 
 def settings_of(bandwidth: float, downtime: float, tick: float, weight: float = 1.0) -> Settings:
-    """The settings for bytes a second and a limit in seconds, if a page of the trace stands for `weight` pages."""
-    rate = round(bandwidth / PAGE / weight * tick * 1000)
-    return Settings(rate, min(MOST_THRESHOLD, int(downtime / tick * rate / 1000) + 1))
+    """The settings for bytes a second and a limit in seconds, if a page of the trace stands for `weight` pages. Both
+    times are whole microseconds, so that no division loses a page."""
+    rate = round(Fraction(bandwidth) * micros_of(tick) / (1000 * PAGE) / Fraction(weight))
+    return Settings(rate, min(MOST_THRESHOLD, micros_of(downtime) * rate // (1000 * micros_of(tick)) + 1))
 
 
 class Plan(NamedTuple):

@@ -14,9 +14,9 @@ which mappings, as often as needed: all, largest, a file, or BEGIN-END as in /pr
 another one is an eighth of it or more. --memory refuses what does not sum to it.
 
 Each interval has one record for each page that was written. Tick 0 is the guest as it was found, and the intervals
-begin at tick 1000. Without --for it goes on until SIGINT, SIGTERM, the end of the guest or a limit of traces. Any of
---pages, --one-in, --by, --scan, --mapping and --seed makes it record drawn pages, and so does an OUTPUT that ends in
-.light.pcwt, without --light and --compact. Then NAME.json is written beside the trace, for tools/predict.
+begin at tick 1000. Without --for it goes on until SIGINT, SIGTERM, SIGHUP, the end of the guest or a limit of traces.
+Any of --pages, --one-in, --by, --scan, --mapping and --seed makes it record drawn pages, and so does an OUTPUT that
+ends in .light.pcwt, without --light and --compact. Then NAME.json is written beside the trace, for tools/predict.
 
 With --segment each such time has a trace of its own, NAME.20261127T030000Z.light.pcwt by when it began in UTC, with
 its .json. One that is full is followed by the next at once; what is written between two is in the later one. --keep
@@ -34,6 +34,7 @@ import itertools
 import math
 import resource
 import shlex
+import signal
 import sys
 import time
 
@@ -324,7 +325,7 @@ def cause_of(fault):
 
 def recorded(options, limits, told):
     """Records a series, or one trace."""
-    stopping = looking.Stopping()
+    stopping = looking.Stopping(signal.SIGHUP)
     if options.segment:
         return record_series(options, limits, stopping, told)
     with traces.Writer(options.output, limits) as writer:

@@ -14,6 +14,7 @@ from precopy_tools.record.memory import Gone
 HYPERVISORS = re.compile(r"qemu-(system|kvm)|kvm$|cloud-hyperviso|firecracker|crosvm|lkvm|VBoxHeadless|bhyve")
 MACHINE = "anon_inode:kvm-vm"
 MONITOR = re.compile(r"^(?:unix:|socket,.*?path=)([^,]+)")
+BOOT, SINCE = "/proc/sys/kernel/random/boot_id", " since tick "
 LIBVIRT_NAME = re.compile(r"^guest=([^,]+),debug-threads")
 
 
@@ -47,6 +48,13 @@ class Guest(NamedTuple):
 def name_of(process: int) -> str:
     with open(f"/proc/{process}/comm", encoding="utf-8", errors="replace") as name:
         return name.read().strip()
+
+
+def identity_of(process: int) -> str:
+    """A process as no other one is called: its number may be given to another one, so it says when it began."""
+    with open(f"/proc/{process}/stat", "rb") as stat, open(BOOT, encoding="ascii") as boot:
+        tick = int(stat.read().rpartition(b")")[2].split()[19])
+        return f"process {process} {name_of(process)}{SINCE}{tick} of boot {boot.read()[:8]}"
 
 
 def is_hypervisor(process: int, name: str) -> bool:

@@ -16,13 +16,15 @@ from precopy_tools.record.ticks import FIRST
 
 
 class Stopping:
-    """Is set by SIGINT and SIGTERM. The trace is ended then; a sample that has begun is finished."""
+    """Is set by SIGINT and SIGTERM, and by others that are named, unless they are ignored, as after nohup. The trace is
+    ended then; a sample that has begun is finished."""
 
-    def __init__(self):
+    def __init__(self, *others):
         self.by = None
         self.woken, wakes = os.pipe2(os.O_CLOEXEC | os.O_NONBLOCK)
         signal.set_wakeup_fd(wakes)
-        for number in (signal.SIGINT, signal.SIGTERM):
+        others = [number for number in others if signal.getsignal(number) != signal.SIG_IGN]
+        for number in (signal.SIGINT, signal.SIGTERM, *others):
             signal.signal(number, self._set)
 
     def _set(self, number, _):

@@ -95,7 +95,7 @@ class SampleRecorder:
     def _begin(self, writer):
         self.samples = self.last = self.late = 0
         self.writer, self.numbers, self.times = writer, {}, []
-        self.taken_at, self.still, self.ran = samples.now(), "", None
+        self.begun, self.still, self.ran = time.clock_gettime(time.CLOCK_BOOTTIME), "", None
         self.watch.begin_anew()
 
     def begin_anew(self, writer):
@@ -189,7 +189,8 @@ class SampleRecorder:
             method=self.method,
             samples=self.samples,
             late=self.late,
-            taken_at=self.taken_at,
+            # By the clock as it is now: one that was wrong may be set meanwhile.
+            taken_at=samples.now(time.clock_gettime(time.CLOCK_BOOTTIME) - self.begun),
             taken_of=self.guest.of,
             ran_share=self.ran_share() if text else None,
         )

@@ -18,7 +18,7 @@ from precopy_tools.record import looking, memory, sources
 
 LIGHT = ".light.pcwt"
 STAMP = "%Y%m%dT%H%M%SZ"
-SECOND = datetime.timedelta(seconds=1)
+SECOND, DAY = datetime.timedelta(seconds=1), datetime.timedelta(days=1)
 
 
 class Series:
@@ -47,10 +47,11 @@ class Series:
         return self.path(datetime.datetime.now(datetime.timezone.utc).strftime(STAMP))
 
     def path_for(self, begun: str) -> str:
-        """A name that no segment has, for one that began then. Two segments never begin in the same second."""
+        """A name that no segment has, for one that began then. Two segments never begin in the same second. Names rise
+        also if the clock is set back, unless it was a day ahead or more: they would stay so."""
         known = set(self.stamps())
-        moment = datetime.datetime.fromisoformat(begun).astimezone(datetime.timezone.utc)
-        self.last = max(moment.replace(tzinfo=None, microsecond=0), self.last + SECOND)
+        moment = datetime.datetime.fromisoformat(begun).astimezone(datetime.timezone.utc).replace(tzinfo=None)
+        self.last = max(moment, self.last + SECOND) if self.last - moment < DAY else moment
         while self.last.strftime(STAMP) in known:
             self.last += SECOND
         return self.path(self.last.strftime(STAMP))
@@ -121,12 +122,12 @@ class Recording:
         hidden = self.series.path_for_now()
         with traces.Writer(hidden, self.limits) as writer, samples.Beside(hidden) as beside:
             begun = self._begin(writer)
-            path = writer.path = self.series.path_for(self.recorder.taken_at)
-            beside.path = samples.path_beside(path)
             until = min(self.end, begun + self.options.segment)
             _, ended_by = looking.go_on(self.recorder, self.options, self.stopping, begun, until)
-            text = writer.seal(memory.SHIFT, self.recorder.pages())
-            beside.put(self.recorder.sample(text))
+            sample = self.recorder.sample(writer.seal(memory.SHIFT, self.recorder.pages()))
+            path = writer.path = self.series.path_for(sample.taken_at)
+            beside.path = samples.path_beside(path)
+            beside.put(sample)
             beside.finish()
             writer.finish(memory.SHIFT, self.recorder.pages())
         self.count += 1

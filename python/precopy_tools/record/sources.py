@@ -6,7 +6,7 @@ from typing import NamedTuple
 from precopy_tools.qemu import qmp
 from precopy_tools.quantities import size_text
 from precopy_tools.record import domains, guest_memory, mappings
-from precopy_tools.record.guests import name_of
+from precopy_tools.record.guests import identity_of, name_of
 from precopy_tools.record.memory import PAGE, FileSource
 
 # How long a monitor is waited for while the guest is recorded.
@@ -56,7 +56,7 @@ def of_words(process: int, words: list[str] | None, is_sampled: bool) -> Source:
     note = MAY_BE_TAKEN if "all" in named else LEFT_OUT
     told = [share(process, ranges), mappings.listed_ranges(process, ranges), note]
     fixed = ranges if is_sampled or words else None
-    return Source(None, process, fixed, f"process {process} {name_of(process)}, mapping {' '.join(named)}", told)
+    return Source(None, process, fixed, f"{identity_of(process)}, mapping {' '.join(named)}", told)
 
 
 def of_monitor(process: int, monitor, called: str) -> Source:
@@ -65,7 +65,7 @@ def of_monitor(process: int, monitor, called: str) -> Source:
     ranges = guest_memory.checked(process, memory)
     names = " ".join(sorted(block.name for block in memory.blocks))
     told = [share(process, ranges), *memory.told()]
-    of = f"process {process} {name_of(process)}, {called}: {names}"
+    of = f"{identity_of(process)}, {called}: {names}"
     return Source(None, process, ranges, of, told, memory.summary)
 
 

@@ -29,11 +29,12 @@ Looks and predictions take at most --processor of a processor: if looks cost mor
 becomes longer, and the next records say so. Setting a guest up takes a moment more. While a guest is recorded, no
 post-copy migration and no background snapshot of it can begin.
 
-The status is 0 if SIGINT or SIGTERM ends it, 1 if it cannot begin, and 2 if the words are refused.
+The status is 0 if SIGINT, SIGTERM or SIGHUP ends it, 1 if it cannot begin, and 2 if the words are refused.
 """
 
 import argparse
 import os
+import signal
 import sys
 
 from precopy_tools import places, printed, version, words
@@ -114,7 +115,7 @@ def asked_of(options: argparse.Namespace) -> Asked:
 def watch(options: argparse.Namespace) -> int:
     limits = host_limits.File(options.limits)
     host = Monitors(options.monitors) if options.monitors else Libvirt()
-    Service(host, limits, asked_of(options), Stopping()).run()
+    Service(host, limits, asked_of(options), Stopping(signal.SIGHUP)).run()
     return 0
 
 

@@ -4,6 +4,7 @@ them, so that they take no more than a share of a processor."""
 import json
 import os
 import resource
+import runpy
 import signal
 import subprocess
 import sys
@@ -58,7 +59,7 @@ def of_document(document: dict, limits: Limits) -> Prediction:
 
 
 def command_of(program: str, path: str, limits: Limits) -> list[str]:
-    module = [sys.executable, "-B", "-m", "precopy_tools.predict.command"]
+    module = [sys.executable, "-B", "-m", "precopy_tools.watch.predicting"]
     asked = ["--link", words.given_rate(limits.link), "--downtime", words.given_time(limits.downtime)]
     return [*module, "--json", "--starts", "1", "--program", program, *asked, path]
 
@@ -95,11 +96,11 @@ def end_group(process: subprocess.Popen) -> None:
 
 def predicted(program: str, path: str, limits: Limits, is_over: threading.Event) -> Prediction:
     """What tools/predict tells of a segment, or Failed."""
-    environment = {**os.environ, "PYTHONPATH": FOLDER}
-    how = {"stdin": subprocess.DEVNULL, "stdout": subprocess.PIPE, "stderr": subprocess.PIPE, "text": True}
-    command = command_of(program, path, limits)
-    # In a group of its own, so that what it begins ends with it.
-    with subprocess.Popen(command, env=environment, process_group=0, **how) as process:
+    reader, writer = os.pipe()
+    how = {"stdin": reader, "stdout": subprocess.PIPE, "stderr": subprocess.PIPE, "text": True}
+    how |= {"env": {**os.environ, "PYTHONPATH": FOLDER}, "process_group": 0}
+    # In a group of its own, so that what it begins ends with it, and all of that when nobody can write to it any more.
+    with open(reader, "rb"), open(writer, "wb"), subprocess.Popen(command_of(program, path, limits), **how) as process:
         os.setpriority(os.PRIO_PROCESS, process.pid, NICE)
         try:
             text, faults = finished(process, is_over)
@@ -187,3 +188,9 @@ class Predictor:
             self.count += 1
             if self.current == name:
                 self.found[name] = found
+
+
+if __name__ == "__main__":
+    # As soon as the service has ended, even if that is killed, so does this process with all that it has begun.
+    threading.Thread(target=lambda: os.read(0, 1) or os.killpg(0, signal.SIGKILL), daemon=True).start()
+    runpy.run_module("precopy_tools.predict.command", run_name="__main__", alter_sys=True)

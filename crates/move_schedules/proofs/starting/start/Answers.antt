@@ -1,5 +1,5 @@
 use Rattle.std.proofs.Common.{arith, inl, inr, map, refl, string_bytes}
-use Rattle.program_messages.proofs.Told.{no_text}
+use Rattle.job_commands.proofs.Told.{no_text}
 use Rattle.move_schedules.proofs.WordLemmas.{asked_for, refused_words}
 use Rattle.move_schedules.proofs.starting.start.Goals as goal
 

@@ -1,5 +1,5 @@
 use Rattle.std.proofs.Common.{arith, inl, inr, map, refl, string_bytes}
-use Rattle.program_messages.proofs.Told.{no_text}
+use Rattle.job_commands.proofs.Told.{no_text}
 use Rattle.precopy.proofs.Told.{asked_for}
 use Rattle.precopy.proofs.starting.start.Goals as goal
 

@@ -1,7 +1,7 @@
 use Rattle.std.proofs.Common.{refl, string_bytes, subst, sym}
+use Rattle.job_commands.specs.Ends.{IsHelpText}
 use Rattle.job_commands.specs.declared.command.WordsError.{WordsError}
-use Rattle.program_messages.specs.Ends.{IsHelpText}
-use Rattle.program_messages.proofs.telling.refuse.Goals as goal
+use Rattle.job_commands.proofs.telling.refuse.Goals as goal
 
 pub returns-in-Help-clause-kept : goal.returns-in-Help-clause-kept
 returns-in-Help-clause-kept g c none =

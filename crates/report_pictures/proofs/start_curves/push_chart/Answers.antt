@@ -4,7 +4,7 @@ use Rattle.report_pictures.specs.Labels.{AreLabels}
 use Rattle.report_pictures.specs.Spans.{axis_over}
 use Rattle.report_pictures.specs.StartCharts.{starts_axis}
 use Rattle.report_pictures.specs.declared.axis.Axis.{Axis}
-use Rattle.report_pictures.proofs.start_curves.starts_chart.Goals as goal
+use Rattle.report_pictures.proofs.start_curves.push_chart.Goals as goal
 
 pub returns : goal.returns
 returns c =

@@ -4,11 +4,11 @@ use Rattle.std.specs.Prelude.{Result, Ok, Err, IfSome, OnErr, OnOk}
 use Rattle.std.specs.Fmt.{WritesText}
 use Rattle.std.specs.Io.KnownBytes.{Appends}
 use Rattle.byte_sinks.specs.Sink.{AppendsPart}
+use Rattle.job_commands.specs.Ends.{IsHelpText, IsTold, IsWholeOrCut}
 use Rattle.job_commands.specs.declared.command.WordsError.{WordsError}
 use Rattle.job_commands.specs.declared.command.WordsError.TheVariants.{Memory}
 use Rattle.std.proofs.lemmas.Fmt.{contents_after_writes}
 use Rattle.arrayvec.specs.ArrayString.{ArrayString}
-use Rattle.program_messages.specs.Ends.{IsHelpText, IsTold, IsWholeOrCut}
 
 -- a text was told, whatever became of its write
 pub told : {T E : Type 0} (old new : Option (List ℕ)) (has_failed : Bool) (text : List ℕ) (r : Result T E)

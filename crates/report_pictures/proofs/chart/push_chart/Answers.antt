@@ -5,7 +5,7 @@ use Rattle.report_pictures.specs.Panels.{bottom_of}
 use Rattle.report_pictures.specs.ReportCharts.{pages_panel, rates_panel, rounds_axis, windows_panel}
 use Rattle.report_pictures.specs.Spans.{axis_over}
 use Rattle.report_pictures.specs.declared.axis.Axis.{Axis}
-use Rattle.report_pictures.proofs.chart.report_chart.Goals as goal
+use Rattle.report_pictures.proofs.chart.push_chart.Goals as goal
 
 pub returns : goal.returns
 returns c =

@@ -1,5 +1,4 @@
 //! Waiting for threads, each of which owes what its promise says.
-#![tactic(auto)]
 
 ghost use Rattle.std.specs.Prelude.{◌≡◌, IfOk, length};
 ghost use Rattle.std.specs.PromisedHandle.{KeepsEach};

@@ -4,13 +4,13 @@ ghost use Rattle.std.specs.Prelude.{◌≡◌, ◌≤◌, ◌⊎◌, ◌↔◌, 
 ghost use Rattle.std.specs.Io.KnownBytes.{Appends};
 ghost use Rattle.byte_sinks.specs.Sink.{AppendsPart};
 ghost use Rattle.job_commands.specs.Commands.{IsWordsRefusal};
-ghost use Rattle.program_messages.specs.Ends.{IsHelpText, IsTold, IsWholeOrCut, TellsLine, TellsWords};
-ghost use Rattle.program_messages.specs.Ends.{line_of, memory_line, write_line};
+ghost use Rattle.job_commands.specs.Ends.{IsHelpText, IsTold, IsWholeOrCut, TellsLine, TellsWords};
+ghost use Rattle.job_commands.specs.Ends.{line_of, memory_line, write_line};
 
+use crate::command::WordsError;
 use crate::program::Program;
 use arrayvec::ArrayString;
 use byte_sinks::{Sink, write_out};
-use job_commands::WordsError;
 use std::fmt::{Display, Write};
 
 /// Writes a text of faults. If that fails, nobody can be told.

@@ -1,5 +1,5 @@
-use Rattle.program_messages.proofs.Told.{whole}
-use Rattle.program_messages.proofs.telling.text_of.Goals as goal
+use Rattle.job_commands.proofs.Told.{whole}
+use Rattle.job_commands.proofs.telling.text_of.Goals as goal
 
 pub returns-in-Ok : goal.returns-in-Ok
 returns-in-Ok g c =

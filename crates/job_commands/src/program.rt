@@ -1,7 +1,7 @@
 //! The programs, by name.
 
 ghost use Rattle.std.specs.Prelude.{◌≡◌, ◌≤◌, length};
-ghost use Rattle.program_messages.specs.Ends.{name_of};
+ghost use Rattle.job_commands.specs.Ends.{name_of};
 
 /// A program. Its name begins each of its fault lines.
 #[derive(Clone, Copy, Debug, PartialEq, Eq)]

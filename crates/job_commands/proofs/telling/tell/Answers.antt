@@ -1,7 +1,7 @@
 use Rattle.std.proofs.Common.{List, ℕ, subst}
-use Rattle.program_messages.specs.Ends.{IsTold}
-use Rattle.program_messages.proofs.Told.{told}
-use Rattle.program_messages.proofs.telling.tell.Goals as goal
+use Rattle.job_commands.proofs.Told.{told}
+use Rattle.job_commands.specs.Ends.{IsTold}
+use Rattle.job_commands.proofs.telling.tell.Goals as goal
 
 pub returns : goal.returns
 returns g c =

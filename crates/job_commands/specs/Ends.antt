@@ -5,8 +5,8 @@ use Rattle.std.specs.Io.KnownBytes.{Appends}
 use Rattle.byte_sinks.specs.Sink.{AppendsPart}
 use Rattle.job_commands.specs.declared.command.WordsError.{WordsError}
 use Rattle.job_commands.specs.declared.command.WordsError.TheVariants as errors
-use Rattle.program_messages.specs.declared.program.Program.{Program}
-use Rattle.program_messages.specs.declared.program.Program.TheVariants as programs
+use Rattle.job_commands.specs.declared.program.Program.{Program}
+use Rattle.job_commands.specs.declared.program.Program.TheVariants as programs
 
 -- neither the source of a program nor one of its sinks has failed
 pub record NoneHasFailed (source sink faults : Bool) : Type 0 where
