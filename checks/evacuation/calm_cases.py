@@ -384,6 +384,12 @@ def held_in_runs(_: Programs, folder: str) -> None:
             # Nor does a guest whose window ends while its monitor is asked.
             moves[1].begin()
             expect(moves[1].seen.why == "the window has ended" and len(log) == 2, f"{moves[1].seen}, {log}")
+            # A signal is told then, too, and once.
+            stopping.by = "SIGTERM"
+            with contextlib.redirect_stdout(io.StringIO()) as told:
+                going._cancel()
+                going._cancel()
+            expect(told.getvalue().count("SIGTERM: no other guest begins") == 1, told.getvalue())
             continue
         if is_stopped:
             expect(states == ["not begun"] * 2 and not log, f"{states}, {log}")

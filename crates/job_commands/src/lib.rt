@@ -1,4 +1,4 @@
-//! The words of precopy's command line: words in, a job or a refusal out.
+//! Command lines: words in, a job or a refusal out; and what all programs tell alike: help, fault lines and statuses.
 #![tactic(auto)]
 
 mod cases;

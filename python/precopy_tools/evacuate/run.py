@@ -33,6 +33,8 @@ EVERY = 5.0
 TIMES, MORE = 3, 30.0
 # How long the rate is that is shown.
 WINDOW = 2.0
+# Why a guest was not begun, unless its window had ended.
+STOPPED = "no other guest began after a failure or a signal"
 
 
 class Unready(Exception):
@@ -199,11 +201,13 @@ class Run:
 
     def _cancel(self) -> None:
         """Has all that move be told to stay, with the next look."""
-        self._stop(f"{self.stopping.by}: no other guest begins, and those that move are told to stay")
+        if not all(move.is_to_stay for move in self.moves):
+            self._print(f"{self.stopping.by}: no other guest begins, and those that move are told to stay")
+        self.why = self.why or STOPPED
         for move in self.moves:
             move.is_to_stay = True
 
-    def _stop(self, told: str, why: str = "no other guest began after a failure or a signal") -> None:
+    def _stop(self, told: str, why: str = STOPPED) -> None:
         """No other guest begins, which is told once."""
         if not self.why:
             self.why = why
