@@ -218,6 +218,22 @@ def virsh_in_other_languages(_, folder: str) -> None:
         expect(done.stdout == told, f"{job}: {done}")
 
 
+def answers_of_virsh(_, folder: str) -> None:
+    """What virsh tells of a job is read as it prints it, with blanks between a number and its unit: also the downtime of
+    a guest that has moved."""
+    code = "import types; from precopy_tools.evacuate import movers, ways\n"
+    code += "from checks.evacuation.silent_cases import step_of\n"
+    code += "mover = movers.VirshMover(step_of('web'), ways.Way('', 'b'))\n"
+    code += "mover.process = types.SimpleNamespace(poll=lambda: 0, returncode=0)\nprint(*mover.look()[:4])"
+    environment = {**monitors.virsh_in(folder, 0)[0], "PYTHONPATH": f"{TOP}:{TOP}/python"}
+    command = [sys.executable, "-B", "-c", code]
+    done = subprocess.run(command, env=environment, capture_output=True, text=True, timeout=SECONDS)
+    expect(done.stdout == f"moved {12 << 20} 0 7000\n", f"{done}")
+    text = f"{'Iteration:':17} {3:<12}\n{'Memory processed:':17} 0.500 KiB\n{'Memory bandwidth:':17} 1.500 MiB/s\n"
+    told = movers.sizes_of(f"{'Job type:':17} {'Unbounded':12}\n{'Time elapsed:':17} {90:<12} ms\n{text}")
+    expect(told == {"Time elapsed": 90, "Iteration": 3, "Memory processed": 512, "Memory bandwidth": 2}, f"{told}")
+
+
 def names_that_are_no_moments(programs: Programs, folder: str) -> None:
     """A record whose name ends in a moment that never was is no segment, and refuses nothing."""
     web, *_ = four_guests(folder)

@@ -17,7 +17,7 @@ MOST_SILENT = 10
 # A guest in one of these states may move, and in one of those no other migration of it is under way.
 MOVABLE, IDLE = ("running", "paused", "suspended"), ("none", "completed", "failed", "cancelled")
 UNITS = {"B": 1, "KiB": 1 << 10, "MiB": 1 << 20, "GiB": 1 << 30, "TiB": 1 << 40}
-JOB_LINE = re.compile(r"^([A-Z][a-z ]+): +(\S+)(?: (\S+))?$", re.M)
+JOB_LINE = re.compile(r"^([A-Z][a-z ]+): +(\S+)(?: +(\S+))? *$", re.M)
 
 
 class Look(NamedTuple):
