@@ -30,7 +30,7 @@ move() {{
     [ "$(date +%s)" -lt "${{8:-9999999999}}" ] || {{ echo "$3: the window has ended" >&2; : > "$state/stop"; }}
     [ ! -e "$state/stop" ] || return 1
     echo "$3 begins"
-    if virsh migrate-setmaxdowntime --domain "$3" --downtime "$4" &&
+    if virsh migrate-setmaxdowntime --domain "$3" --downtime "$4" && [ "$(date +%s)" -lt "${{8:-9999999999}}" ] &&
         virsh migrate --live --bandwidth "$5" --domain "$3" --desturi "$6"; then
         echo "$3 has moved"
         : > "$state/$1"

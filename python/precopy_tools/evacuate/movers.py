@@ -1,8 +1,10 @@
 """How one guest is moved and watched: by QEMU's monitor, or by virsh. No mover touches what it did not begin."""
 
+import math
 import re
 import subprocess
 import tempfile
+import time
 from typing import NamedTuple
 
 from precopy_tools.evacuate.lines import Step, mebibytes, milliseconds, qmp_commands
@@ -31,6 +33,12 @@ class Look(NamedTuple):
     why: str = ""
 
 
+def expect_open(closes: float) -> None:
+    """No guest begins from a time in Unix seconds on. What was asked before may have taken long."""
+    if time.time() >= closes:
+        raise qmp.Fault("the window has ended")
+
+
 def with_share(move: Placed, share: int) -> Placed:
     """A move that begins with another share of the link."""
     return move._replace(cost=move.cost._replace(share=share))
@@ -57,12 +65,14 @@ class QmpMover:
             return f"{self.way.monitor}: it moves already: its migration is {told['status']}"
         return ""
 
-    def begin(self) -> None:
-        """Begins, or raises a Fault. If it is not known whether QEMU has begun, it is watched as if it has."""
+    def begin(self, closes: float = math.inf) -> None:
+        """Begins before a time, or raises a Fault. If it is not known whether QEMU has begun, it is watched as if it
+        has."""
         self.client = qmp.Client(self.way.monitor, SECONDS)
         self.client.ask("migrate-set-capabilities", capabilities=[{"capability": "events", "state": True}])
         _, parameters, migrate = qmp_commands(self.move, self.way.to)
         self.client.ask(parameters["execute"], **parameters["arguments"])
+        expect_open(closes)
         try:
             self.client.ask(migrate["execute"], **migrate["arguments"])
         except qmp.Fault as fault:
@@ -178,10 +188,12 @@ class VirshMover:
             return f"domain {self.domain} does not run here: its state is {state}"
         return "" if is_idle else f"domain {self.domain} has a job already"
 
-    def begin(self) -> None:
+    def begin(self, closes: float = math.inf) -> None:
+        """Begins before a time, or raises a Fault."""
         downtime, speed = milliseconds(self.move.guest.limits.downtime), mebibytes(self.move.cost.share)
         domains.virsh("migrate-setmaxdowntime", "--domain", self.domain, "--downtime", str(downtime))
         command = ["virsh", "--quiet", "migrate", "--live", "--bandwidth", str(speed), "--domain", self.domain]
+        expect_open(closes)
         try:
             self.errors = tempfile.TemporaryFile()
             how = {"stdin": subprocess.DEVNULL, "stdout": subprocess.DEVNULL, "stderr": self.errors}
