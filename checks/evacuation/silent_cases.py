@@ -11,6 +11,7 @@ import sys
 import threading
 import time
 import types
+import uuid
 
 from checks.evacuation import monitors
 from checks.evacuation.calm_cases import Waiting
@@ -18,7 +19,7 @@ from checks.evacuation.cases import LINK, Programs, expect, four_guests, run_too
 from checks.evacuation.moving_cases import SECONDS, by_qmp, four_monitors, run_of, script_of
 from checks.lib.harness import cases_of
 from checks.lib.tally import expect_in_time
-from precopy_dev.files import write_file
+from precopy_dev.files import read_text, write_file
 from precopy_dev.tree import TOP
 from precopy_tools.evacuate import lines, movers, run, ways
 from precopy_tools.evacuate.costs import Cost, Guest, Wanted
@@ -34,6 +35,32 @@ case "$*" in
 *domstate*) echo "$state" ;;
 *domjobinfo*) echo 'Job type:         {job}' ;;
 esac
+"""
+# A virsh of a guest that is called 2 and has the number 1. Another guest has the number 2.
+NUMBERED = """\
+#!/bin/sh
+[ "$1" = --quiet ] && shift
+case "$1 $3" in
+"domid 2") echo 1 ;;
+"domuuid 1") echo {own} ;;
+"domstate {own}" | "domstate 2") echo running ;;
+"domjobinfo {own}" | "domjobinfo 2") echo 'Job type:         None' ;;
+domid*) echo "error: failed to get domain '$3'" >&2; exit 1 ;;
+*) echo "$*" >> {log} ;;
+esac
+"""
+OF_NUMBERED = """\
+import sys
+from checks.evacuation import silent_cases
+from precopy_tools.evacuate import movers, ways
+from precopy_tools.record import domains
+for name in "2", "3":
+    mover = movers.VirshMover(silent_cases.moving(sys.argv[1], [], name, 1).step, ways.Way("", "b"))
+    print(why := mover.why_not())
+    if not why:
+        mover.begin()
+        mover.process.wait()
+print(domains.Domain("2").identity, domains.called_or_number("3"))
 """
 # A process whose table of open files is full.
 FULL = """\
@@ -216,6 +243,23 @@ def virsh_in_other_languages(_, folder: str) -> None:
         command = [sys.executable, "-B", "-c", code]
         done = subprocess.run(command, env=environment, capture_output=True, text=True, timeout=SECONDS)
         expect(done.stdout == told, f"{job}: {done}")
+
+
+def names_that_are_numbers(_, folder: str) -> None:
+    """A guest whose name is a number is moved, and not another one that has this number, as virsh would."""
+    own, log = uuid.uuid4(), os.path.join(folder, "log")
+    os.chmod(write_file(NUMBERED.format(own=own, log=log), folder, "virsh"), stat.S_IRWXU)
+    environment = {**os.environ, "PATH": f"{folder}:{os.environ['PATH']}", "PYTHONPATH": f"{TOP}:{TOP}/python"}
+    command = [sys.executable, "-B", "-c", OF_NUMBERED, os.path.join(folder, "run")]
+    done = subprocess.run(command, env=environment, capture_output=True, text=True, timeout=SECONDS)
+    expect(done.stdout == f"\nvirsh domid: failed to get domain '3'\n{own} 3\n", f"{done}")
+    moved = f"migrate-setmaxdowntime --domain {own} --downtime 300\n"
+    moved += f"migrate --live --bandwidth 95 --domain {own} --desturi b\n"
+    expect(read_text(log) == moved, read_text(log))
+    step = moving(folder, [], "2", 1).step
+    script = lines.script("virsh", [step], {"2": ways.Way("", "b")})
+    done = subprocess.run(["sh", "-c", script], env=environment, capture_output=True, text=True, timeout=SECONDS)
+    expect(done.returncode == 0 and read_text(log) == 2 * moved, f"{done}, {read_text(log)}")
 
 
 def answers_of_virsh(_, folder: str) -> None:

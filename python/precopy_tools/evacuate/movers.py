@@ -170,7 +170,7 @@ class VirshMover:
     def __init__(self, step: Step, way: Way):
         limits = step.move.guest.limits
         self.move, self.way, self.process = step.move, way, None
-        self.domain = limits.domain or step.move.guest.name
+        self.domain = self.name = limits.domain or step.move.guest.name
         self.errors, self.is_told, self.last = None, False, Look("moving")
 
     def _state(self) -> tuple[str, bool]:
@@ -181,12 +181,13 @@ class VirshMover:
 
     def why_not(self) -> str:
         try:
+            self.domain = domains.called(self.name)
             state, is_idle = self._state()
         except qmp.Fault as fault:
             return str(fault)
         if state not in MOVABLE:
-            return f"domain {self.domain} does not run here: its state is {state}"
-        return "" if is_idle else f"domain {self.domain} has a job already"
+            return f"domain {self.name} does not run here: its state is {state}"
+        return "" if is_idle else f"domain {self.name} has a job already"
 
     def begin(self, closes: float = math.inf) -> None:
         """Begins before a time, or raises a Fault."""
