@@ -21,10 +21,11 @@ from checks.lib.harness import cases_of
 from checks.lib.tally import expect_in_time
 from precopy_dev.files import read_text, write_file
 from precopy_dev.tree import TOP
-from precopy_tools.evacuate import lines, movers, run, ways
+from precopy_tools.evacuate import gathering, lines, movers, run, ways
 from precopy_tools.evacuate.costs import Cost, Guest, Wanted
 from precopy_tools.evacuate.schedules import Placed
 from precopy_tools.qemu import qmp
+from precopy_tools.refusals import Refused
 
 UNKNOWN = "idle: not known whether it has moved: "
 # A virsh whose user reads German.
@@ -285,6 +286,26 @@ def names_that_are_no_moments(programs: Programs, folder: str) -> None:
     for words in [], ["--at", "03:00"], ["--window", "22:00-06:00"]:
         text, fault = run_tool(programs, web, odd, "--link", LINK, "--at-once", "1", *words)
         expect("\ndb " in text and not fault, f"{words}: {text}, {fault}")
+
+
+def records_of_one_text(_, __) -> None:
+    """Records of one text are of one guest, unless they say that they were taken of two processes: so are those of two
+    guests that are paused."""
+    first = "process 7 qemu since tick 50 of boot 01234567, mapping all"
+    fault = "a.pcwt and b.pcwt are two records of one guest: text"
+    for second, told in (
+        (first.replace("50", "51"), ""),
+        (first.replace("mapping all", "domain a: pc.ram"), fault),
+        (first.replace(" since tick 50 of boot 01234567", ""), fault),
+        ("file /dev/shm/b", fault),
+    ):
+        guests = [Guest(name, f"{name}.pcwt", of, "text", Wanted(1), {}, {}) for name, of in zip("ab", (first, second))]
+        refused = ""
+        try:
+            gathering.expect_once(guests)
+        except Refused as found:
+            refused = str(found)
+        expect(refused == told, f"{second}: {refused!r}")
 
 
 def names_in_scripts(_, folder: str) -> None:
