@@ -270,6 +270,32 @@ def whole_on_the_disk(_, folder):
     expect(os.listdir(folder) == ["out"] and read_bytes(path) == b"all", f"{os.listdir(folder)}")
 
 
+def streams_that_are_gone(_, folder):
+    """A standard stream that is closed, or that nobody reads any more, is a fault that is told by one line; and what
+    release tells does not get into a trace."""
+    trace, to = os.path.join(folder, "trace"), os.path.join(folder, "to")
+    expect(run([IMPORT, "-", trace], A_TEXT.encode()).status == 0, "no trace")
+    for closing, words in (
+        ("<&-", (IMPORT, "-", to)),
+        ("<&-", (EXPORT, "-", to)),
+        ("<&-", (RELEASE, "--after", "5", "-", to)),
+        (">&-", (EXPORT, trace, "-")),
+        (">&-", (RELEASE, "--after", "5", trace, "-")),
+    ):
+        done = run(["sh", "-c", f'exec "$@" {closing}', "sh", *words])
+        told = f"{os.path.basename(words[0])}: -: Bad file descriptor\n"
+        expect(
+            (done.status, done.faults, os.path.exists(to)) == (1, told.encode(), False), f"{closing} {words}: {done}"
+        )
+    for words in (IMPORT, "-", to), (EXPORT, trace, to), (RELEASE, "--after", "5", trace, to):
+        with harness.closed_pipe() as nowhere:
+            done = run([*words, "--json"], A_TEXT.encode(), stdout=nowhere)
+        told = f"{os.path.basename(words[0])}: [Errno 32] Broken pipe\n"
+        expect((done.status, done.faults) == (1, told.encode()), f"{words}: {done}")
+    words = [RELEASE, "--after", "5", trace, "-"]
+    expect(run(["sh", "-c", 'exec "$@" 2>&-', "sh", *words]).output == run(words).output, "another trace")
+
+
 def bad_words(_, folder):
     for command in (
         [IMPORT, "--pages", "0", "-"],
