@@ -240,6 +240,15 @@ def held_up_to_a_deadline(programs: Programs, folder: str) -> None:
         expect(is_calm and move["cost"]["kept"], f"{deadline}: {move}")
 
 
+def seconds_that_pass(_: Programs, __) -> None:
+    """What begins now does so also if a second or more has passed since the words were read, and not a day later."""
+    for passed in 0, 0.9, 1.0, 1.5, 30:
+        now = time.time() + passed
+        expect(hours.hour_of(hours.clock("now"), None, now) == hours.Hour(now), f"{passed} s later")
+    for now, opens in ((FIRST + 60.0, FIRST + 60.0), (FIRST + 60.9, FIRST + 60.9), (FIRST + 61.5, FIRST + DAY + 60.0)):
+        expect(hours.hour_of(hours.clock("00:01"), None, now).opens == opens, f"00:01 at {now}")
+
+
 def windows_too_short(programs: Programs, folder: str) -> None:
     """A window in which not all guests have room is told, with status 3."""
     begin = int(time.time() // 60 * 60 + 7200) % DAY
