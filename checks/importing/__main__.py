@@ -103,6 +103,17 @@ def what_is_no_file(_, folder):
     expect(not [name for name in os.listdir(folder) if name.endswith(".part")], f"{os.listdir(folder)}")
 
 
+def what_is_no_name(_, folder):
+    """An empty name, as of a variable that is not set, and one of a folder that is not there are refused before
+    anything is written, also by a recorder that would go on for a day."""
+    trace, record = os.path.join(TOP, "examples", "a.pcwt"), os.path.join(TOP, "tools", "record")
+    for name, told in ("", "[Errno 2] No such file or directory: ''"), ("none/", "none/: Is a directory"):
+        for command in ([EXPORT, trace, name], [record, "--file", trace, "--for", "24h", name]):
+            done = run(command, cwd=folder)
+            fault = f"{os.path.basename(command[0])}: {told}\n"
+            expect((done.status, done.faults) == (1, fault.encode()) and not os.listdir(folder), f"{command}: {done}")
+
+
 def known_text(_, folder):
     for name, text in (("a", A_TEXT), ("c", C_TEXT)):
         done = run([EXPORT, os.path.join(TOP, "examples", f"{name}.pcwt"), "-"])

@@ -165,11 +165,14 @@ class Pending:
     disk: not even a crash of the host leaves a part under that name.
 
     The path - is standard output, to which all is copied when it is whole. So it is to what is there and is no file, as
-    a pipe or /dev/null: a file with its name would be in its place. A link stays one.
+    a pipe or /dev/null: a file with its name would be in its place. A link stays one. What can be no name of a file is
+    refused at once, and not when all is written.
     """
 
     def __init__(self, path):
-        if os.path.isdir(path):
+        if not path:
+            raise FileNotFoundError(errno.ENOENT, os.strerror(errno.ENOENT), path)
+        if os.path.isdir(path) or path.endswith("/"):
             raise IsADirectoryError(errno.EISDIR, os.strerror(errno.EISDIR), path)
         self.path = path
         self.is_copied = path == "-" or os.path.exists(path) and not os.path.isfile(path)
