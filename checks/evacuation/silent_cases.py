@@ -264,8 +264,8 @@ def names_that_are_numbers(_, folder: str) -> None:
 
 
 def answers_of_virsh(_, folder: str) -> None:
-    """What virsh tells of a job is read as it prints it, with blanks between a number and its unit: also the downtime of
-    a guest that has moved."""
+    """What virsh tells of a job is read as it prints it, with blanks between a number and its unit, and so is the
+    downtime of a guest that has moved."""
     code = "import types; from precopy_tools.evacuate import movers, ways\n"
     code += "from checks.evacuation.silent_cases import step_of\n"
     code += "mover = movers.VirshMover(step_of('web'), ways.Way('', 'b'))\n"
