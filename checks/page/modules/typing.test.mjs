@@ -2,6 +2,7 @@ import assert from "node:assert/strict";
 import { test } from "node:test";
 import { typedNumber, typedQuantity, typedTicks } from "../../../web/model/typing.js";
 import { RATE_UNITS, TIME_UNITS } from "../../../web/model/units.js";
+import { Controls } from "../../../web/views/controls.js";
 
 test("a quantity is taken with or without a unit", () => {
   const taken = [
@@ -36,4 +37,20 @@ test("ticks are typed as a time, or as they are", () => {
 test("a number may have the noun of its control", () => {
   assert.equal(typedNumber("25 %", ["%"]), "25");
   assert.equal(typedNumber("25 %"), null);
+});
+
+test("an arrow key steps a number, and ticks stay ticks", () => {
+  const stepped = (value, key) => {
+    const field = { value };
+    Controls.prototype.stepped.call({ typed: () => {} }, { field }, { key, preventDefault: () => {} });
+    return field.value;
+  };
+  const steps = [
+    ["1000 ticks", "ArrowUp", "1001 ticks"], ["1 tick", "ArrowDown", "0 ticks"], ["1,000", "ArrowUp", "1001"],
+    ["0.5", "ArrowDown", "0"], ["25 %", "ArrowUp", "26"], ["2 ms", "ArrowUp", "2 ms"], ["7", "Home", "7"],
+  ];
+  for (const [value, key, wanted] of steps) {
+    assert.equal(stepped(value, key), wanted, `${value}, ${key}`);
+  }
+  assert.equal(typedTicks(stepped("1000 ticks", "ArrowUp"), 1_000n, false), 1_001);
 });
