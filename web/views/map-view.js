@@ -9,6 +9,7 @@ import { paintTurns, paintWrites } from "./map-canvas.js";
 import { counted, countOf, momentText, SIZE_UNITS } from "../model/numbers.js";
 import { AXIS_HEIGHT, axisLabels, axisOf, pictureOf, widthOf } from "./plot.js";
 import { nounsOf } from "../model/nouns.js";
+import { briefCount } from "../model/quantities.js";
 import { pagesWords, roundsIn, sumsOf, sumsWords } from "../model/round-words.js";
 import { mapFile, mapTable } from "./tables.js";
 import { amountOf, microsOf, scaleOf } from "../model/units.js";
@@ -265,7 +266,7 @@ export class MapView {
   /** The axis of pages, in bytes: the unit that it has, and so many digits that its labels differ. */
   scaleParts(title) {
     const { axis, fromPage, endPage, trace: { sizes: { pageBytes } } } = this.held;
-    const [size, unit] = SIZE_UNITS.find(([some]) => endPage * pageBytes >= some);
+    const [, unit, size] = briefCount(BigInt(endPage * pageBytes), SIZE_UNITS);
     const step = ((endPage - fromPage) * pageBytes) / 4;
     const digits = unit === "bytes" ? 0 : Math.max(0, Math.ceil(-Math.log10(step / Number(size))) + 1);
     const parts = [0, 1, 2, 3, 4].flatMap((quarter) => {
