@@ -11,6 +11,8 @@ test("a quantity is taken with or without a unit", () => {
     [".5", "s", TIME_UNITS, 500_000, "s"], ["300ms", "s", TIME_UNITS, 300_000, "ms"],
     ["2 min", "ms", TIME_UNITS, 120_000_000, "s"], ["9 \u00b5s", "s", TIME_UNITS, 9, "us"],
     ["1 000 000", "us", TIME_UNITS, 1_000_000, "us"], ["10 Gb/s", "KB", RATE_UNITS, 1_250_000_000, "Gbit"],
+    ["64 MBps", "KB", RATE_UNITS, 64_000_000, "MB"], ["64 Mbps", "KB", RATE_UNITS, 8_000_000, "Mbit"],
+    ["1 GBps", "Mbit", RATE_UNITS, 1_000_000_000, "GB"], ["64 mbps", "KB", RATE_UNITS, 8_000_000, "Mbit"],
     ["1 second", "ms", TIME_UNITS, 1_000_000, "s"], ["3 hours", "ms", TIME_UNITS, 10_800_000_000, "s"],
   ];
   for (const [text, own, units, amount, unit] of taken) {
@@ -19,7 +21,7 @@ test("a quantity is taken with or without a unit", () => {
 });
 
 test("what is no quantity is not taken", () => {
-  const others = ["1constructor", "1__proto__", "8 mb", "8 Mb"];
+  const others = ["1constructor", "1__proto__", "8 mb", "8 Mb", "8 MBPS", "8 mBps"];
   for (const text of ["", ".", "-1", "1e3", "1,00", "1,0000", "1.2.3", "12x", ...others]) {
     assert.equal(typedQuantity(text, "Mbit", RATE_UNITS), null, text);
   }
