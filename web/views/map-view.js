@@ -123,7 +123,11 @@ export class MapView {
   takeRows(places) {
     const pages = this.rowPages();
     const rowAt = (y) => Math.min(1, Math.max(0, (y - MAP_TOP) / MAP_HEIGHT)) * this.held.grid.rows;
-    this.showPages({ fromPage: pages[Math.floor(rowAt(places[0]))], endPage: pages[Math.ceil(rowAt(places[1]))] });
+    const [from, end] = [Math.floor(rowAt(places[0])), Math.ceil(rowAt(places[1]))];
+    // Above the map and below it there are none.
+    if (from < end) {
+      this.showPages({ fromPage: pages[from], endPage: pages[end] });
+    }
   }
 
   /** Takes pages nearer, or further, round those that are looked at. */

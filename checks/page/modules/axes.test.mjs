@@ -31,3 +31,16 @@ test("pages have the unit that their end has one of once it is rounded", () => {
   assert.deepEqual(pageTexts(65_000, 16), ["Where, KiB", "0", "254", "508", "762", "1016"]);
   assert.deepEqual(pageTexts(25, 16), ["Where, bytes", "0", "100", "200", "300", "400"]);
 });
+
+test("of what is drawn over beside the map no rows are taken", () => {
+  const held = { grid: { rows: 4 }, fromPage: 0, endPage: 40 };
+  const taken = (...places) => {
+    let found = null;
+    const view = { held, rowPages: MapView.prototype.rowPages, showPages: (range) => { found = range; } };
+    MapView.prototype.takeRows.call(view, places);
+    return found;
+  };
+  assert.deepEqual(taken(100, 200), { fromPage: 10, endPage: 30 });
+  assert.deepEqual(taken(0, 400), { fromPage: 0, endPage: 40 });
+  assert.deepEqual([taken(0, 26), taken(282, 330)], [null, null]);
+});
