@@ -285,9 +285,10 @@ export class TraceDesk {
 
   /** Learns whether the section is in sight: then what it says needs no copy. */
   watchSight() {
-    new IntersectionObserver(([{ isIntersecting }]) => {
-      this.isSeen = isIntersecting;
-      byId("notice").hidden ||= isIntersecting;
+    new IntersectionObserver((entries) => {
+      // Of several that are told at once, as while the page is busy, the last is of now.
+      this.isSeen = entries.at(-1).isIntersecting;
+      byId("notice").hidden ||= this.isSeen;
     }).observe(byId("trace"));
     byId("close-notice").addEventListener("click", () => {
       keepFocus(() => { byId("notice").hidden = true; }, () => byId("file"));

@@ -114,3 +114,22 @@ test("the reader takes of each field what the published schema takes", () => {
     assert.ok(values.some((value) => !isTaken(name, value)), name);
   }
 });
+
+test("whether the section of the trace is in sight is told by the last of several entries", () => {
+  const notice = { hidden: false, addEventListener: () => {} };
+  globalThis.document = { getElementById: () => notice };
+  let told = null;
+  globalThis.IntersectionObserver = class {
+    constructor(act) {
+      told = (...seen) => act(seen.map((isIntersecting) => ({ isIntersecting })));
+    }
+
+    observe() {}
+  };
+  const desk = Object.create(TraceDesk.prototype);
+  desk.watchSight();
+  told(true, false);
+  assert.deepEqual([desk.isSeen, notice.hidden], [false, false]);
+  told(false, true);
+  assert.deepEqual([desk.isSeen, notice.hidden], [true, true]);
+});
