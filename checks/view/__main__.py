@@ -228,7 +228,6 @@ def tries_of(folder):
         yield from ((check_document, "report", words, trace) for words in SETTINGS)
         yield from ((check_document, "sweep", words, trace) for words in CASES)
         yield from ((check_screen, words, trace) for words in SETTINGS)
-    yield from ((check_colors, word, gzip) for word in COLORS)
     yield from ((check_screen, [], hot_trace(folder, pages)) for pages in (10, 80, 300, 1_000))
     yield from ((check_picture, words, trace) for trace in examples + windows for words in SETTINGS)
     for tries in (report_tries, start_tries):
@@ -237,6 +236,8 @@ def tries_of(folder):
     for tries in (word_tries, plan_tries, nearest_tries, quantity_tries):
         yield from tries(gzip)
     yield from picture_tries(folder)
+    # A program behind another one, as checks/wrongs tries it, has no terminal: these come last.
+    yield from ((check_colors, word, gzip) for word in COLORS)
 
 
 # How often each must come of the random questions, at least; and at most a fifth of each kind is refused.
