@@ -4,10 +4,12 @@ back until their calm."""
 import contextlib
 import datetime
 import io
+import math
 import os
 import re
 import signal
 import subprocess
+import sys
 import time
 import xml.etree.ElementTree
 
@@ -17,6 +19,7 @@ from checks.evacuation.moving_cases import write_settings
 from checks.lib.harness import cases_of, draws
 from checks.lib.tally import expect_in_time
 from precopy_dev.files import read_text, write_file
+from precopy_dev.tree import TOP
 from precopy_tools.evacuate import hours, lines, movers, run
 from precopy_tools.evacuate.costs import Cost, Guest, Wanted
 from precopy_tools.evacuate.schedules import Placed
@@ -237,6 +240,15 @@ def held_up_to_a_deadline(programs: Programs, folder: str) -> None:
         expect(is_calm and move["cost"]["kept"], f"{deadline}: {move}")
 
 
+def seconds_that_pass(_: Programs, __) -> None:
+    """What begins now does so also if a second or more has passed since the words were read, and not a day later."""
+    for passed in 0, 0.9, 1.0, 1.5, 30:
+        now = time.time() + passed
+        expect(hours.hour_of(hours.clock("now"), None, now) == hours.Hour(now), f"{passed} s later")
+    for now, opens in ((FIRST + 60.0, FIRST + 60.0), (FIRST + 60.9, FIRST + 60.9), (FIRST + 61.5, FIRST + DAY + 60.0)):
+        expect(hours.hour_of(hours.clock("00:01"), None, now).opens == opens, f"00:01 at {now}")
+
+
 def windows_too_short(programs: Programs, folder: str) -> None:
     """A window in which not all guests have room is told, with status 3."""
     begin = int(time.time() // 60 * 60 + 7200) % DAY
@@ -283,6 +295,16 @@ def damaged_segments(programs: Programs, folder: str) -> None:
     expect(fault.count("\n") == 1 and f"{paths[-1]}: E14" in fault, fault)
     moves = {move["guest"]: move for move in document_of(folder)["best"]["moves"]}
     expect(240 <= moves["early"]["start_seconds"] < 420, f"{moves}")
+
+
+# A virsh that takes two seconds to set the limit of downtime.
+SLOW = """\
+#!/bin/sh
+case "$*" in
+*migrate-setmaxdowntime*) sleep 2 ;;
+*) echo "$*" >> {log} ;;
+esac
+"""
 
 
 class Waiting:
@@ -400,6 +422,48 @@ def held_in_runs(_: Programs, folder: str) -> None:
         starts = [move.start / 1e6 for move in outcome.moves]
         expect(-0.1 < starts[0] and 2.4 < starts[1], f"{starts}: not from the opening on")
         expect_in_time(starts[0] < 3 and starts[1] < 6, f"{starts}: not from the opening on")
+
+
+def slow_monitor(folder: str, name: str, log: list[monitors.Event], until: float) -> monitors.Monitor:
+    """A guest whose monitor takes parameters at a time in Unix seconds, and not before."""
+    monitor = monitors.Monitor(folder, name, log, 0.2)
+    answer = monitor.answer
+
+    def slowly(command: str, arguments: dict) -> dict:
+        if command == "migrate-set-parameters":
+            time.sleep(max(0.0, until - time.time()))
+        return answer(command, arguments)
+
+    monitor.answer = slowly
+    return monitor
+
+
+def windows_that_end_meanwhile(_: Programs, folder: str) -> None:
+    """A guest does not begin whose monitor or virsh takes the parameters only after the end of the window."""
+    (step, _), _ = steps_in(0)
+    step, log = step._replace(not_before=0, closes=time.time() + 3), []
+    own = {"web": Way(slow_monitor(folder, "web", log, step.closes + 0.1).path, "tcp:b:4444")}
+    move = run.Moving(step, movers.QmpMover(step, own["web"]), None)
+    script = write_file(lines.script("qmp", [step], own), folder, "move")
+    os.chmod(script, 0o700)
+    with subprocess.Popen([script], stdout=subprocess.PIPE, stderr=subprocess.PIPE, text=True) as process:
+        told = process.communicate(timeout=60)
+    expect(process.returncode == 1 and told == ("", "web has not moved: the window has ended\n"), f"{told}, {log}")
+    move.closes = time.time() + 3
+    move.mover.way = Way(slow_monitor(folder, "db", log, move.closes + 0.1).path, "tcp:b:4444")
+    move.begin()
+    while not move.is_free():
+        move.wait()
+    expect(move.seen.why == "the window has ended" and not log, f"{move.seen}, {log}")
+    os.chmod(write_file(SLOW.format(log=f"{folder}/log"), folder, "virsh"), 0o700)
+    code = "import time; from checks.evacuation import calm_cases; from precopy_tools.evacuate import movers, ways\n"
+    code += "(step, _), _ = calm_cases.steps_in(0)\n"
+    code += "movers.VirshMover(step, ways.Way('', 'b')).begin(time.time() + 0.9)"
+    environment = {**os.environ, "PATH": f"{folder}:{os.environ['PATH']}", "PYTHONPATH": f"{TOP}:{TOP}/python"}
+    step = step._replace(closes=math.ceil(time.time()) + 1)
+    for command in ["sh", "-c", lines.script("virsh", [step], own)], [sys.executable, "-B", "-c", code]:
+        done = subprocess.run(command, env=environment, capture_output=True, text=True, timeout=60)
+        expect(done.returncode == 1 and not os.path.exists(f"{folder}/log"), f"{done}")
 
 
 CASES = cases_of(__name__)

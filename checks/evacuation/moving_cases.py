@@ -359,9 +359,8 @@ def runs_of_virsh(programs: Programs, folder: str) -> None:
         expect_two_at_once(events)
         guests = document_of(folder)["run"]["guests"]
         states = [each["state"] for each in guests]
-        # virsh no longer tells the downtime of a move that ended between two looks.
-        told = [each["down_seconds"] for each in guests if "down_seconds" in each]
-        expect(set(told) <= {0.007} and len(told) <= states.count("moved"), f"{guests}")
+        told = [each.get("down_seconds") for each in guests if each["state"] == "moved"]
+        expect(set(told) <= {0.007}, f"{guests}")
         expect(set(states) == {"moved"} if not failing else {"failed", "not begun"} <= set(states), f"{states}")
         expect(not failing or "no such host" in done.stderr, done.stderr)
 

@@ -11,6 +11,7 @@ import sys
 import threading
 import time
 import types
+import uuid
 
 from checks.evacuation import monitors
 from checks.evacuation.calm_cases import Waiting
@@ -18,12 +19,13 @@ from checks.evacuation.cases import LINK, Programs, expect, four_guests, run_too
 from checks.evacuation.moving_cases import SECONDS, by_qmp, four_monitors, run_of, script_of
 from checks.lib.harness import cases_of
 from checks.lib.tally import expect_in_time
-from precopy_dev.files import write_file
+from precopy_dev.files import read_text, write_file
 from precopy_dev.tree import TOP
-from precopy_tools.evacuate import lines, movers, run, ways
+from precopy_tools.evacuate import gathering, lines, movers, run, ways
 from precopy_tools.evacuate.costs import Cost, Guest, Wanted
 from precopy_tools.evacuate.schedules import Placed
 from precopy_tools.qemu import qmp
+from precopy_tools.refusals import Refused
 
 UNKNOWN = "idle: not known whether it has moved: "
 # A virsh whose user reads German.
@@ -34,6 +36,32 @@ case "$*" in
 *domstate*) echo "$state" ;;
 *domjobinfo*) echo 'Job type:         {job}' ;;
 esac
+"""
+# A virsh of a guest that is called 2 and has the number 1. Another guest has the number 2.
+NUMBERED = """\
+#!/bin/sh
+[ "$1" = --quiet ] && shift
+case "$1 $3" in
+"domid 2") echo 1 ;;
+"domuuid 1") echo {own} ;;
+"domstate {own}" | "domstate 2") echo running ;;
+"domjobinfo {own}" | "domjobinfo 2") echo 'Job type:         None' ;;
+domid*) echo "error: failed to get domain '$3'" >&2; exit 1 ;;
+*) echo "$*" >> {log} ;;
+esac
+"""
+OF_NUMBERED = """\
+import sys
+from checks.evacuation import silent_cases
+from precopy_tools.evacuate import movers, ways
+from precopy_tools.record import domains
+for name in "2", "3":
+    mover = movers.VirshMover(silent_cases.moving(sys.argv[1], [], name, 1).step, ways.Way("", "b"))
+    print(why := mover.why_not())
+    if not why:
+        mover.begin()
+        mover.process.wait()
+print(domains.Domain("2").identity, domains.called_or_number("3"))
 """
 # A process whose table of open files is full.
 FULL = """\
@@ -218,6 +246,39 @@ def virsh_in_other_languages(_, folder: str) -> None:
         expect(done.stdout == told, f"{job}: {done}")
 
 
+def names_that_are_numbers(_, folder: str) -> None:
+    """A guest whose name is a number is moved, and not another one that has this number, as virsh would."""
+    own, log = uuid.uuid4(), os.path.join(folder, "log")
+    os.chmod(write_file(NUMBERED.format(own=own, log=log), folder, "virsh"), stat.S_IRWXU)
+    environment = {**os.environ, "PATH": f"{folder}:{os.environ['PATH']}", "PYTHONPATH": f"{TOP}:{TOP}/python"}
+    command = [sys.executable, "-B", "-c", OF_NUMBERED, os.path.join(folder, "run")]
+    done = subprocess.run(command, env=environment, capture_output=True, text=True, timeout=SECONDS)
+    expect(done.stdout == f"\nvirsh domid: failed to get domain '3'\n{own} 3\n", f"{done}")
+    moved = f"migrate-setmaxdowntime --domain {own} --downtime 300\n"
+    moved += f"migrate --live --bandwidth 95 --domain {own} --desturi b\n"
+    expect(read_text(log) == moved, read_text(log))
+    step = moving(folder, [], "2", 1).step
+    script = lines.script("virsh", [step], {"2": ways.Way("", "b")})
+    done = subprocess.run(["sh", "-c", script], env=environment, capture_output=True, text=True, timeout=SECONDS)
+    expect(done.returncode == 0 and read_text(log) == 2 * moved, f"{done}, {read_text(log)}")
+
+
+def answers_of_virsh(_, folder: str) -> None:
+    """What virsh tells of a job is read as it prints it, with blanks between a number and its unit, and so is the
+    downtime of a guest that has moved."""
+    code = "import types; from precopy_tools.evacuate import movers, ways\n"
+    code += "from checks.evacuation.silent_cases import step_of\n"
+    code += "mover = movers.VirshMover(step_of('web'), ways.Way('', 'b'))\n"
+    code += "mover.process = types.SimpleNamespace(poll=lambda: 0, returncode=0)\nprint(*mover.look()[:4])"
+    environment = {**monitors.virsh_in(folder, 0)[0], "PYTHONPATH": f"{TOP}:{TOP}/python"}
+    command = [sys.executable, "-B", "-c", code]
+    done = subprocess.run(command, env=environment, capture_output=True, text=True, timeout=SECONDS)
+    expect(done.stdout == f"moved {12 << 20} 0 7000\n", f"{done}")
+    text = f"{'Iteration:':17} {3:<12}\n{'Memory processed:':17} 0.500 KiB\n{'Memory bandwidth:':17} 1.500 MiB/s\n"
+    told = movers.sizes_of(f"{'Job type:':17} {'Unbounded':12}\n{'Time elapsed:':17} {90:<12} ms\n{text}")
+    expect(told == {"Time elapsed": 90, "Iteration": 3, "Memory processed": 512, "Memory bandwidth": 2}, f"{told}")
+
+
 def names_that_are_no_moments(programs: Programs, folder: str) -> None:
     """A record whose name ends in a moment that never was is no segment, and refuses nothing."""
     web, *_ = four_guests(folder)
@@ -225,6 +286,26 @@ def names_that_are_no_moments(programs: Programs, folder: str) -> None:
     for words in [], ["--at", "03:00"], ["--window", "22:00-06:00"]:
         text, fault = run_tool(programs, web, odd, "--link", LINK, "--at-once", "1", *words)
         expect("\ndb " in text and not fault, f"{words}: {text}, {fault}")
+
+
+def records_of_one_text(_, __) -> None:
+    """Records of one text are of one guest, unless they say that they were taken of two processes: so are those of two
+    guests that are paused."""
+    first = "process 7 qemu since tick 50 of boot 01234567, mapping all"
+    fault = "a.pcwt and b.pcwt are two records of one guest: text"
+    for second, told in (
+        (first.replace("50", "51"), ""),
+        (first.replace("mapping all", "domain a: pc.ram"), fault),
+        (first.replace(" since tick 50 of boot 01234567", ""), fault),
+        ("file /dev/shm/b", fault),
+    ):
+        guests = [Guest(name, f"{name}.pcwt", of, "text", Wanted(1), {}, {}) for name, of in zip("ab", (first, second))]
+        refused = ""
+        try:
+            gathering.expect_once(guests)
+        except Refused as found:
+            refused = str(found)
+        expect(refused == told, f"{second}: {refused!r}")
 
 
 def names_in_scripts(_, folder: str) -> None:

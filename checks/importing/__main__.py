@@ -103,6 +103,17 @@ def what_is_no_file(_, folder):
     expect(not [name for name in os.listdir(folder) if name.endswith(".part")], f"{os.listdir(folder)}")
 
 
+def what_is_no_name(_, folder):
+    """An empty name, as of a variable that is not set, and one of a folder that is not there are refused before
+    anything is written, also by a recorder that would go on for a day."""
+    trace, record = os.path.join(TOP, "examples", "a.pcwt"), os.path.join(TOP, "tools", "record")
+    for name, told in ("", "[Errno 2] No such file or directory: ''"), ("none/", "none/: Is a directory"):
+        for command in ([EXPORT, trace, name], [record, "--file", trace, "--for", "24h", name]):
+            done = run(command, cwd=folder)
+            fault = f"{os.path.basename(command[0])}: {told}\n"
+            expect((done.status, done.faults) == (1, fault.encode()) and not os.listdir(folder), f"{command}: {done}")
+
+
 def known_text(_, folder):
     for name, text in (("a", A_TEXT), ("c", C_TEXT)):
         done = run([EXPORT, os.path.join(TOP, "examples", f"{name}.pcwt"), "-"])
@@ -268,6 +279,32 @@ def whole_on_the_disk(_, folder):
     with contextlib.suppress(OSError), mock.patch("os.fsync", side_effect=OSError), traces.Pending(path) as file:
         file.finish()
     expect(os.listdir(folder) == ["out"] and read_bytes(path) == b"all", f"{os.listdir(folder)}")
+
+
+def streams_that_are_gone(_, folder):
+    """A standard stream that is closed, or that nobody reads any more, is a fault that is told by one line; and what
+    release tells does not get into a trace."""
+    trace, to = os.path.join(folder, "trace"), os.path.join(folder, "to")
+    expect(run([IMPORT, "-", trace], A_TEXT.encode()).status == 0, "no trace")
+    for closing, words in (
+        ("<&-", (IMPORT, "-", to)),
+        ("<&-", (EXPORT, "-", to)),
+        ("<&-", (RELEASE, "--after", "5", "-", to)),
+        (">&-", (EXPORT, trace, "-")),
+        (">&-", (RELEASE, "--after", "5", trace, "-")),
+    ):
+        done = run(["sh", "-c", f'exec "$@" {closing}', "sh", *words])
+        told = f"{os.path.basename(words[0])}: -: Bad file descriptor\n"
+        expect(
+            (done.status, done.faults, os.path.exists(to)) == (1, told.encode(), False), f"{closing} {words}: {done}"
+        )
+    for words in (IMPORT, "-", to), (EXPORT, trace, to), (RELEASE, "--after", "5", trace, to):
+        with harness.closed_pipe() as nowhere:
+            done = run([*words, "--json"], A_TEXT.encode(), stdout=nowhere)
+        told = f"{os.path.basename(words[0])}: [Errno 32] Broken pipe\n"
+        expect((done.status, done.faults) == (1, told.encode()), f"{words}: {done}")
+    words = [RELEASE, "--after", "5", trace, "-"]
+    expect(run(["sh", "-c", 'exec "$@" 2>&-', "sh", *words]).output == run(words).output, "another trace")
 
 
 def bad_words(_, folder):

@@ -99,6 +99,21 @@ def check_beside_refused(page):
     expect(", as a.json says" in said, said)
 
 
+def check_several(page):
+    """Of several records that of the trace's name is read, in whatever order they come; the others are named."""
+    (_, trace), (_, record) = guest_with_record("a")
+    other = record_of(trace, tick_seconds=1)
+    for files in (
+        [("a.pcwt", trace), ("a.json", record), ("b.json", other)],
+        [("b.json", other), ("a.json", record), ("a.pcwt", trace)],
+    ):
+        page.open_planned("#trace=gzip")
+        said = page.drop(*files)
+        expect(", as a.json says" in said and "Not opened: b.json." in said, f"{files[0][0]} first: {said}")
+    said = page.drop(("c.json", other), ("a.json", record))
+    expect(", as a.json says" in said and "Not opened: c.json." in said, f"without a trace: {said}")
+
+
 def check_unreadable(page):
     """A record that cannot be read is refused in a sentence, and leaves the trace beside it to be opened."""
     trace, record = guest_with_record("a")
@@ -305,6 +320,7 @@ RECORDS = {
     "a record beside a file that is refused": check_beside_refused,
     "a limit that was chosen, and comes back": check_chosen_again,
     "doubts of a record": check_doubts,
+    "several records": check_several,
     "a record that cannot be read": check_unreadable,
     "a guest that stood still": check_still,
 }

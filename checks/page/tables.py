@@ -47,13 +47,14 @@ def moment_texts(moments):
 
 def round_texts(asked, rounds):
     """The table of rounds or lists, of the first of many, as the page writes it: rates are in a unit of the link's
-    family that the link has one of."""
+    family that the link with about three digits has one of."""
 
     def share(rate):
         return Fraction(rate * asked.page * asked.guest * 1_000, asked.sampled * asked.tick)
 
     unit = re.sub(r"[\d.]", "", asked.link[1])
-    fitting = [name for name in RATES if name[1:] == unit[1:] and asked.link[0] >= RATES[name]]
+    family = [name for name in RATES if name[1:] == unit[1:]]
+    fitting = [name for name in family if float(few_digits(Fraction(asked.link[0], RATES[name]))) >= 1]
     unit = max(fitting, key=RATES.get, default=unit)
     numbers, begins, ends, rates, *counts = zip(*(some.values() for some in rounds[:ROWS_SHOWN]))
     columns = [moment_texts([(tick - asked.start) * asked.tick for tick in ticks]) for ticks in (begins, ends)]

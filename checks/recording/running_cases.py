@@ -22,7 +22,7 @@ from precopy_tools.evacuate import settings
 from precopy_tools.formats import samples
 from precopy_tools.qemu import qmp
 from precopy_tools.record import command as record_command
-from precopy_tools.record import sampled, series, sources
+from precopy_tools.record import guests, mappings, sampled, series, sources
 from precopy_tools.record.pagemap import Unavailable
 from precopy_tools.refusals import Refused
 from precopy_tools.watch import limits
@@ -361,6 +361,24 @@ def path_of(descriptor):
         return os.readlink(f"/proc/self/fd/{descriptor}")
     except OSError:
         return ""
+
+
+def words_of_guests(_, __):
+    """How a guest is said follows from the words of QEMU: by its monitor, and not by another socket that it has, such
+    as a console. A comma in a name is written twice there."""
+    console, monitor = "-chardev socket,id=c,path=/run/c", "-chardev socket,id=m,path=/run/a,,b.qmp,server=on"
+    for words, told in (
+        ("-name guest=web,debug-threads=on", "--domain web"),
+        ("-name guest=a,,b,debug-threads=on -qmp unix:/run/m", "--domain a,b"),
+        ("-name web -qmp unix:/run/a,,b.qmp,server=on,wait=off", "--qmp /run/a,b.qmp"),
+        (f"{console} {monitor} -mon chardev=c,mode=readline -mon chardev=m,mode=control", "--qmp /run/a,b.qmp"),
+        (f"{monitor} {console} -mon m,mode=control,pretty=on", "--qmp /run/a,b.qmp"),
+        (f"{console} -qmp tcp:localhost:4444,server=on", "--pid 7 --mapping 1000-3000"),
+        (f"{console} -chardev socket,id=m,fd=9 -mon chardev=m,mode=control", "--pid 7 --mapping 1000-3000"),
+    ):
+        memory = [mappings.Mapping(0x1000, 0x3000, "rw-p", 0, "00:00", 0, "")]
+        found = guests.Guest(7, "qemu", ["qemu-system-x86_64", *words.split(), ""], memory).how()
+        expect(found == told, f"{words}: {found}")
 
 
 CASES = cases_of(__name__)

@@ -222,9 +222,10 @@ def clocks_that_are_set(_, folder):
     paths = [path for path, *_ in segments_in(folder)]
     expect(len(paths) == len(told) and records.last_of(paths[::-1]).endswith(told[-2]), f"{paths}")
     write_file("", folder, "other.20261201T110000Z.light.pcwt")
-    other, moments = series.Series(os.path.join(folder, "other.light.pcwt")), ("09T12", "09T11", "01T11", "01T10")
-    names = [os.path.basename(other.path_for(f"2026-12-{at}:00:00+00:00"))[6:-11] for at in moments]
-    wanted = ["20261209T120000Z", "20261209T120001Z", "20261201T110001Z", "20261201T110002Z"]
+    other, moments = series.Series(os.path.join(folder, "other.light.pcwt")), ("09T12:00", "09T11:30", "09T11:00")
+    names = [other.path_for(f"2026-12-{at}:00+00:00") for at in (*moments, "01T11:00", "01T10:30")]
+    names = [os.path.basename(name)[6:-11] for name in names]
+    wanted = ["20261209T120000Z", "20261209T120001Z", "20261209T110000Z", "20261201T110001Z", "20261201T110002Z"]
     expect(names == wanted, f"{names}")
 
 

@@ -5,20 +5,23 @@
 The traces are examples/*.pcwt, and some that are made. Each JSON document must have the facts of the text of `precopy
 report` or `precopy sweep`, under the names of that text; both must be what a model makes of the trace
 (checks/lib/migration_model.py), and keep its schema in docs/. Tables for a terminal must have the same numbers, in
-lines that are no wider than asked; runs of hot pages fill up to eight such lines, and only then some may be left out. A
-picture must have its bars and texts inside, and no text over another, also with 1, 30 and 10,000 windows; 200 random
-pictures of reports and starts are read back, each mark to the numbers that it may stand for. Random questions in time
-and bytes are asked of `json report`, `when`, `json when`, `advise` and `json sweep`, half of those about starts by a
-hypervisor's looks; of each answer there are a number, and at most a fifth is refused, in the words of the model. Words
-of limits are tried at the ends of their ranges, and with misspellings, and those of Clark's rounds without --clark;
-times, rates and sizes as words are those of checks/view/quantities.tsv and random decimals, for the program and for the
-tools.
+lines that are no wider than asked, and colors where the words and the terminal have it so; runs of hot pages fill up to
+eight such lines, and only then some may be left out. A picture must have its bars and texts inside, and no text over
+another, also with 1, 30 and 10,000 windows; 200 random pictures of reports and starts are read back, each mark to the
+numbers that it may stand for. Random questions in time and bytes are asked of `json report`, `when`, `json when`,
+`advise` and `json sweep`, half of those about starts by a hypervisor's looks; of each answer there are a number, and at
+most a fifth is refused, in the words of the model. Words of limits are tried at the ends of their ranges, and with
+misspellings, and those of Clark's rounds without --clark; times, rates and sizes as words are those of
+checks/view/quantities.tsv and random decimals, for the program and for the tools.
 """
 
 import collections
+import contextlib
 import itertools
 import os
+import pty
 import re
+import subprocess
 import tempfile
 import xml.etree.ElementTree
 
@@ -130,11 +133,9 @@ def check_screen(view, _, words, trace):
     wanted = report_of(trace, *asked_by(words))
     for width in 72, 80, 200:
         text = told(view, ["show", f"--width={width}", *words], trace.path)
-        if (
-            re.sub("\x1b\\[[0-9]+m", "", told(view, ["show", f"--width={width}", "--color", *words], trace.path))
-            != text
-        ):
-            raise Failure("colors change the text")
+        colored = told(view, ["show", f"--width={width}", "--color", *words], trace.path)
+        if colored == text or re.sub("\x1b\\[[0-9]+m", "", colored) != text:
+            raise Failure("there are no colors, or they change the text")
         lines = text.splitlines()
         if max(map(len, lines)) > width or rows_below(lines, "round") != wanted["rounds"]:
             raise Failure(f"lines of {max(map(len, lines))} characters, or other rounds")
@@ -144,6 +145,35 @@ def check_screen(view, _, words, trace):
         numbers = [int(number) for line in lines[-4:] for number in re.findall("[0-9]+", line)]
         if numbers != [wanted["stop"][name] for name in ("at", "pages", "down", "total")]:
             raise Failure(f"{numbers} at the stop")
+
+
+# Words for colors, and whether bars have some on a terminal and elsewhere.
+COLORS = {"": (False, False), "--color": (True, True), "--color=always": (True, True)}
+COLORS |= {"--color=never": (False, False), "--color=auto": (True, False)}
+
+
+def written_on_terminal(command, source):
+    """What a command writes to a terminal of its own."""
+    here, terminal = pty.openpty()
+    with subprocess.Popen(command, stdin=source, stdout=terminal) as run:
+        os.close(terminal)
+        pieces = []
+        # Where nobody has the terminal open any more, a read of it fails.
+        with contextlib.suppress(OSError):
+            while piece := os.read(here, 1 << 16):
+                pieces.append(piece)
+        os.close(here)
+    expect(run.returncode == 0, f"{command}: status {run.returncode}")
+    return b"".join(pieces).decode()
+
+
+def check_colors(view, _, word, trace):
+    words = ["show", "--threshold=1", *filter(None, [word])]
+    with open(trace.path, "rb") as source:
+        shown = written_on_terminal([view, *words], source)
+    found = ["\x1b[" in text for text in (shown, told(view, words, trace.path))]
+    expect(found == list(COLORS[word]), f"colors on a terminal and elsewhere: {found}")
+    expect("windows of 1000 ticks" in shown, "the terminal shows no windows")
 
 
 # ---- Pictures.
@@ -206,6 +236,8 @@ def tries_of(folder):
     for tries in (word_tries, plan_tries, nearest_tries, quantity_tries):
         yield from tries(gzip)
     yield from picture_tries(folder)
+    # A program behind another one, as checks/wrongs tries it, has no terminal: these come last.
+    yield from ((check_colors, word, gzip) for word in COLORS)
 
 
 # How often each must come of the random questions, at least; and at most a fifth of each kind is refused.

@@ -36,6 +36,28 @@ with open("{place}/new", "w") as file:
 os.rename("{place}/new", "{place}/begun")
 time.sleep(60)
 """
+# A process whose table of open files is full for a while.
+FULL = """\
+import os, resource, sys
+from precopy_tools.qemu import qmp
+from precopy_tools.watch import hosts
+host = hosts.Monitors(sys.argv[1])
+print([*host.look()])
+resource.setrlimit(resource.RLIMIT_NOFILE, (64, 64))
+held = []
+try:
+    while True:
+        held.append(os.open("/dev/null", os.O_RDONLY))
+except OSError:
+    pass
+try:
+    print([*host.look()])
+except qmp.Fault as fault:
+    print(fault)
+for each in held:
+    os.close(each)
+print([*host.look()])
+"""
 ODDLY_CALLED = "not watched: a record cannot have this name"
 UNNAMED = "not watched: no part of its path is a name that no other guest has"
 NUMBERS = {"time_seconds": "duration_seconds", "sent_bytes": "sent_bytes", "down_seconds": "downtime_seconds"}
@@ -285,6 +307,17 @@ def odd_names(folder):
         of_sockets.look()
     told = [*paths[:2], *domains[1:], paths[0]]
     expect(faults.getvalue() == "".join(f"watch: {each!r}: {ODDLY_CALLED}\n" for each in told), faults.getvalue())
+
+
+def folders_that_cannot_be_read(_, folder):
+    """If the folder of the monitors cannot be read now, as when too many files are open, that is told, and no guest has
+    gone. One that is not there yet has none."""
+    environment = {**os.environ, "PYTHONPATH": os.path.join(TOP, "python")}
+    command = [sys.executable, "-B", "-c", FULL, os.path.join(folder, "*.qmp")]
+    with known(folder, "a.qmp"):
+        done = subprocess.run(command, env=environment, capture_output=True, text=True, timeout=SECONDS)
+    expect(done.stdout == f"['a']\n{folder}: Too many open files\n['a']\n", f"{done}")
+    expect(not hosts.Monitors(os.path.join(folder, "none", "*.qmp")).look(), "a guest without a folder")
 
 
 def memory_that_is_plugged_in(program, folder):

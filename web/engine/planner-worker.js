@@ -43,12 +43,14 @@ async function openTrace({ number, blob }) {
   const digest = new Sha256();
   const opened = await Planner.open(held.module, blob.size, digested(blob, digest, number));
   const { sizes } = opened;
+  const isShorter = 2 * lightLength(sizes) < blob.size;
+  const light = isShorter ? lightTrace(writesIn(opened.traceBytes(), sizes.writes), sizes) : null;
+  const found = { sizes, digest: digest.digest(), light: light && new Blob([light]) };
+  // Nothing is refused from here on, as for want of memory: the page has the same trace open.
   held.planner = opened;
   held.map = null;
   held.many = null;
-  const isShorter = 2 * lightLength(sizes) < blob.size;
-  const light = isShorter ? lightTrace(writesIn(opened.traceBytes(), sizes.writes), sizes) : null;
-  return { sizes, digest: digest.digest(), light: light && new Blob([light]) };
+  return found;
 }
 
 /** The answer to a question, with a row for each round or list of its plan. */

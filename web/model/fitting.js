@@ -78,9 +78,9 @@ function placed(settings, sizes, record) {
   };
 }
 
-/** Settings with the limits of others, or null if these make no plan. */
-export function withLimitsOf({ link, first, increase, downtime, reserve, rounds, clark }, settings, sizes) {
-  const found = { ...settings, link, first, increase, downtime, reserve, rounds, clark };
+/** Settings with the limits of others, and by the same rules, or null if these make no plan. */
+export function withLimitsOf({ link, first, increase, downtime, reserve, rounds, skip, clark }, settings, sizes) {
+  const found = { ...settings, link, first, increase, downtime, reserve, rounds, skip, clark };
   return refusalOf(found, sizes) === null ? found : null;
 }
 

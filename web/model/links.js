@@ -21,9 +21,12 @@ export function linkPlace(amount, middle) {
 /** The links of a curve, round numbers but for the one that is set, each with its question, or null without a plan. */
 export function linkPoints({ state }, sizes) {
   const { amount, unit } = state.link;
-  const near = (place) => (place === 0 ? state.link
-    : quantityNear(amount * RANGE ** (place / A_SIDE), unit, RATE_UNITS));
-  const links = Array.from({ length: 2 * A_SIDE + 1 }, (_, place) => near(place - A_SIDE));
+  const near = (place) => quantityNear(amount * RANGE ** (place / A_SIDE), unit, RATE_UNITS);
+  const places = Array.from({ length: A_SIDE }, (_, place) => place + 1);
+  // The least links are rounded further than to the next one.
+  const slower = places.map((place) => near(-place)).reverse().filter((link) => link.amount < amount);
+  const faster = places.map((place) => near(place)).filter((link) => link.amount > amount);
+  const links = [...slower, state.link, ...faster];
   return links.filter((link, place) => place === 0 || link.amount > links[place - 1].amount)
     .map((link) => ({ link, question: askedIfAny({ ...state, link }, sizes)?.question ?? null }));
 }

@@ -199,6 +199,12 @@ export function fewDigits(number) {
   return number < 100 ? Number(number.toPrecision(3)) : Math.round(number);
 }
 
+/** The greatest unit of the family of this one that an amount with about three digits has one of, or else this one. */
+export function roundedUnit(amount, unit, units) {
+  const isReached = (name) => Number(fewDigitsText(BigInt(amount), units[name])) >= 1;
+  return [...familyOf(unit)].reverse().find(isReached) ?? unit;
+}
+
 /** About how much an amount is, in words of the family of a unit. */
 export function roundedWords(amount, unit, units) {
   const names = amount === 0n ? [unit] : [...familyOf(unit)].reverse();

@@ -14,6 +14,12 @@ const LEAST_SHARE = 0.99;
 /** The longest of such a file, in bytes. */
 export const MOST_RECORD_BYTES = 65_536;
 
+/** Of some records that of a trace by its name, or else the first; undefined if there is none. */
+export function recordBeside(trace, records) {
+  const wanted = trace?.name.toLowerCase().replace(/(\.pcwt)?$/, ".json");
+  return records.find(({ name }) => name.toLowerCase() === wanted) ?? records[0];
+}
+
 /** Why a record is refused: the field, and a sentence. */
 export class RecordRefusal extends Error {
   constructor(field, sentence) {

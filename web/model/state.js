@@ -43,8 +43,9 @@ function readQuantity(word, units) {
   return quantityIn(word, units) ?? undefined;
 }
 
+/** A count of what a number of JavaScript holds exactly: controls make no other. */
 function readCount(word) {
-  return /^\d{1,15}$/.test(word) ? Number(word) : undefined;
+  return /^\d{1,16}$/.test(word) && Number.isSafeInteger(Number(word)) ? Number(word) : undefined;
 }
 
 function readPercent(word) {
@@ -52,11 +53,12 @@ function readPercent(word) {
 }
 
 function readSample(word) {
-  const found = /^(\d{1,10})\/(\d{1,10})$/.exec(word);
+  const found = /^(\d{1,10})\/(\d+)$/.exec(word);
   if (word === "all") {
     return null;
   }
-  return found ? { part: Number(found[1]), whole: Number(found[2]) } : undefined;
+  const [part, whole] = (found ?? []).slice(1).map(readCount);
+  return part > 0 && whole !== undefined ? { part, whole } : undefined;
 }
 
 /** What the words of a switch mean. */

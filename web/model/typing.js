@@ -15,6 +15,7 @@ for (const [letter, name] of [["k", "Kbit"], ["m", "Mbit"], ["g", "Gbit"]]) {
 }
 for (const letter of "KMG") {
   RATE_WORDS.set(`${letter}b/s`, `${letter}bit`);
+  RATE_WORDS.set(`${letter}Bps`, `${letter}B`);
 }
 const TIME_WORDS = new Map([
   ["\u00b5s", "us"], ["\u03bcs", "us"], ["msec", "ms"], ["sec", "s"], ["min", "m"],
@@ -27,7 +28,9 @@ const TIME_WORDS = new Map([
 function unitIn(word, units) {
   if (units === RATE_UNITS) {
     const plain = word.replace(/\/s(ec)?$/, "");
-    return Object.hasOwn(RATE_UNITS, plain) ? plain : RATE_WORDS.get(word) ?? RATE_WORDS.get(plain.toLowerCase());
+    const isOfBytes = /^.Bps$/i.test(plain) && plain.includes("B");
+    return Object.hasOwn(RATE_UNITS, plain) ? plain
+      : RATE_WORDS.get(word) ?? RATE_WORDS.get(isOfBytes ? plain : plain.toLowerCase());
   }
   return TIME_WORDS.get(word) ?? TIME_WORDS.get(word.toLowerCase());
 }

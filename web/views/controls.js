@@ -133,13 +133,14 @@ export class Controls {
     }
   }
 
-  /** Arrow keys step a number, as they do in the browser's own fields. */
+  /** Arrow keys step a number, as they do in the browser's own fields. What is typed as ticks stays ticks. */
   stepped(part, event) {
     const step = STEPS.get(event.key);
     const number = numberIn(part.field, false);
     if (step && number !== null && !isCommand(event)) {
       event.preventDefault();
-      part.field.value = String(Number(Math.max(0, number + step).toFixed(9)));
+      const noun = /ticks?\s*$/.test(part.field.value) ? " ticks" : "";
+      part.field.value = `${Number(Math.max(0, number + step).toFixed(9))}${noun}`;
       this.typed(part);
     }
   }

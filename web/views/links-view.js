@@ -7,7 +7,7 @@ import { Inspector } from "./inspector.js";
 import { linkCosts, LINK_PLACES, linkPlace, linkPoints, linkRows } from "../model/links.js";
 import { AXIS_HEIGHT, axisOf, pictureOf, widthOf } from "./plot.js";
 import { counted } from "../model/numbers.js";
-import { fewDigits, inFittingUnit, quantityWords, unitName } from "../model/quantities.js";
+import { fewDigits, inFittingUnit, quantityWords, roundedUnit, unitName } from "../model/quantities.js";
 import { costWords } from "./starts-chart.js";
 import { RATE_UNITS } from "../model/units.js";
 
@@ -19,7 +19,7 @@ const LABEL_RATIOS = [1 / 8, 1 / 4, 1 / 2, 1, 2, 4, 8];
 
 /** The labels of an axis of links, and their title. Where they would touch, only every third one has words. */
 function linkLabels(axis, { amount, unit }, bottom) {
-  const fitting = inFittingUnit(amount, unit, RATE_UNITS).unit;
+  const fitting = roundedUnit(amount, unit, RATE_UNITS);
   const places = LABEL_RATIOS.map((ratio) => axis.place(linkPlace(amount * ratio, amount)));
   const words = LABEL_RATIOS.map((ratio) => counted(fewDigits((amount * ratio) / Number(RATE_UNITS[fitting]))));
   const last = places.length - 1;

@@ -9,6 +9,7 @@ import { paintTurns, paintWrites } from "./map-canvas.js";
 import { counted, countOf, momentText, SIZE_UNITS } from "../model/numbers.js";
 import { AXIS_HEIGHT, axisLabels, axisOf, pictureOf, widthOf } from "./plot.js";
 import { nounsOf } from "../model/nouns.js";
+import { briefCount } from "../model/quantities.js";
 import { pagesWords, roundsIn, sumsOf, sumsWords } from "../model/round-words.js";
 import { mapFile, mapTable } from "./tables.js";
 import { amountOf, microsOf, scaleOf } from "../model/units.js";
@@ -122,7 +123,11 @@ export class MapView {
   takeRows(places) {
     const pages = this.rowPages();
     const rowAt = (y) => Math.min(1, Math.max(0, (y - MAP_TOP) / MAP_HEIGHT)) * this.held.grid.rows;
-    this.showPages({ fromPage: pages[Math.floor(rowAt(places[0]))], endPage: pages[Math.ceil(rowAt(places[1]))] });
+    const [from, end] = [Math.floor(rowAt(places[0])), Math.ceil(rowAt(places[1]))];
+    // Above the map and below it there are none.
+    if (from < end) {
+      this.showPages({ fromPage: pages[from], endPage: pages[end] });
+    }
   }
 
   /** Takes pages nearer, or further, round those that are looked at. */
@@ -265,7 +270,7 @@ export class MapView {
   /** The axis of pages, in bytes: the unit that it has, and so many digits that its labels differ. */
   scaleParts(title) {
     const { axis, fromPage, endPage, trace: { sizes: { pageBytes } } } = this.held;
-    const [size, unit] = SIZE_UNITS.find(([some]) => endPage * pageBytes >= some);
+    const [, unit, size] = briefCount(BigInt(endPage * pageBytes), SIZE_UNITS);
     const step = ((endPage - fromPage) * pageBytes) / 4;
     const digits = unit === "bytes" ? 0 : Math.max(0, Math.ceil(-Math.log10(step / Number(size))) + 1);
     const parts = [0, 1, 2, 3, 4].flatMap((quarter) => {

@@ -153,7 +153,7 @@ export class PlanView {
     if (this.last) {
       renew(byId("reason-words"), ...reasonParts(this.last));
     }
-    tellIn(byId("summary"), found.value ? this.summaryOf(found.value) : "No plan with these settings");
+    tellIn(byId("summary"), found.value ? this.summaryOf(found.value) : this.refusedSummary(found.refusal));
   }
 
   /** Says of rounds that go on after the trace what they are of. Looks end with it. */
@@ -244,6 +244,11 @@ export class PlanView {
     }
     return found.refusal ? refusalPart(found.refusal, `Kept plan ${place + 1} is refused:`)
       : html("p", { class: "derived" }, differencesOf(settings, own, place));
+  }
+
+  /** That there is no plan, in a line. If the planner gave no answer, that is not for the settings. */
+  refusedSummary(refusal) {
+    return refusal instanceof NoAnswer ? `No plan: ${refusedWords(refusal).name}` : "No plan with these settings";
   }
 
   summaryOf(prediction) {

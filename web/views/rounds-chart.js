@@ -7,7 +7,7 @@ import { counted, momentText, pagesText, timeText } from "../model/numbers.js";
 import { AXIS_HEIGHT, axisOf, axisLabels, barOf, frameOf, panelOf, pictureOf } from "./plot.js";
 import { isCut } from "../engine/look-lists.js";
 import { endOf, isUnknown, reasonWords } from "../model/predictions.js";
-import { fewDigits, fewDigitsText, inFittingUnit, unitName } from "../model/quantities.js";
+import { fewDigits, fewDigitsText, roundedUnit, unitName } from "../model/quantities.js";
 import { microsOf, rateIn, RATE_UNITS } from "../model/units.js";
 
 const PAGES_TOP = 26;
@@ -52,7 +52,7 @@ export function reachOf(predictions, range) {
     reach.rate = Math.max(reach.rate, bytesASecond(scale, settings.max));
   }
   const link = Math.max(...predictions.map(({ state }) => state.link.amount));
-  const { unit } = inFittingUnit(link, predictions[0].state.link.unit, RATE_UNITS);
+  const unit = roundedUnit(link, predictions[0].state.link.unit, RATE_UNITS);
   const stretch = stretchIn(predictions[0], range, reach.micros);
   return { ...reach, stretch, unit: { name: unitName(unit, RATE_UNITS), size: RATE_UNITS[unit] } };
 }

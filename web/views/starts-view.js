@@ -1,6 +1,6 @@
 // The section on when to move: it asks the worker what the migration costs from many starts, and draws the answer.
 
-import { byId, html } from "./elements.js";
+import { byId, html, keepFocus } from "./elements.js";
 import { foundBy } from "../model/found.js";
 import { bytesText, countOf, signed, timeText, unbroken } from "../model/numbers.js";
 import { firstStartOf, startCosts, startRows, startTicks } from "../model/starts.js";
@@ -37,6 +37,8 @@ export class StartsView {
     this.plot = byId("starts-plot");
     this.inspector = new Inspector(this.plot, byId("starts-readout"), "Starts", byId("starts-take"));
     this.asked = null;
+    /** The question for which it is said that the last one had no answer. */
+    this.failed = null;
     this.question = 0;
     this.isAsking = false;
     this.times = times;
@@ -51,7 +53,7 @@ export class StartsView {
   /** Takes another trace: what is known of starts is of no use then. */
   take(trace) {
     this.trace = trace;
-    this.asked = null;
+    [this.asked, this.failed] = [null, null];
     this.question += 1;
     byId("starts-answer").hidden = true;
     this.busy(null);
@@ -73,7 +75,16 @@ export class StartsView {
     if (this.asked && this.asked.hasTicks !== (prediction?.state.ticks ?? this.asked.hasTicks)) {
       this.asked = { ...this.asked, hasTicks: prediction.state.ticks };
     }
+    this.forgetFailed();
     this.tell();
+  }
+
+  /** Takes back why a search had no answer, once another one would be asked for. */
+  forgetFailed() {
+    if (this.failed !== null && this.prediction && keyOf(this.prediction, this.ticks) !== this.failed) {
+      this.failed = null;
+      keepFocus(() => { byId("starts-answer").hidden = true; }, () => byId("ask"));
+    }
   }
 
   busy(share) {
@@ -98,7 +109,7 @@ export class StartsView {
     const told = (share) => question === this.question && this.busy(share);
     const { value, refusal } = await foundBy(() => trace.starts(prediction.question, ticks, told));
     if (question === this.question && refusal) {
-      this.fail(refusal);
+      this.fail(refusal, prediction);
     } else if (question === this.question && value) {
       this.finish(prediction, ticks, value);
     }
@@ -113,6 +124,7 @@ export class StartsView {
       costs, chosen: { best: withQuestion(chosen.best), worst: withQuestion(chosen.worst) }, scale, limits,
       key: keyOf(prediction, ticks), hasTicks: state.ticks,
     };
+    this.failed = null;
     this.busy(null);
     byId("starts-answer").hidden = false;
     byId("take-best").hidden = false;
@@ -121,9 +133,9 @@ export class StartsView {
     this.announce(words.replaceAll(AWAITED, ""));
   }
 
-  /** Says why there is no answer. */
-  fail(error) {
-    this.asked = null;
+  /** Says why there is no answer to what was asked for a prediction, which may be another one by now. */
+  fail(error, prediction) {
+    [this.asked, this.failed] = [null, keyOf(this.prediction ?? prediction, this.ticks)];
     this.busy(null);
     byId("starts-answer").hidden = false;
     byId("take-best").hidden = true;

@@ -8,7 +8,7 @@ import { foundBy } from "../model/found.js";
 import { PlannerClient } from "../engine/planner-client.js";
 import { READ_FAULT, Refusal } from "../engine/planner.js";
 import { answerOver } from "../model/predictions.js";
-import { differencesFrom, MOST_RECORD_BYTES, recordIn, RecordRefusal } from "../model/record.js";
+import { differencesFrom, MOST_RECORD_BYTES, recordBeside, recordIn, RecordRefusal } from "../model/record.js";
 import { exampleSource } from "../engine/trace-source.js";
 import { microsOf, scaleOf } from "../model/units.js";
 
@@ -123,18 +123,16 @@ export class TraceDesk {
 
   /** Takes files: the first that is a trace, and the record beside it. The others are named. */
   async takeFiles(files, wish) {
-    const traces = files.filter((file) => !isRecord(file));
-    const [first, ...others] = files.filter(isRecord);
-    const record = first ? await this.textOf(first) : null;
-    const sources = traces.map((file) => ({
-      name: file.name, blob: file, example: null, record: record ?? this.early,
+    const records = await Promise.all(files.filter(isRecord).map((file) => this.textOf(file)));
+    const sources = files.filter((file) => !isRecord(file)).map((file) => ({
+      name: file.name, blob: file, example: null, record: recordBeside(file, records) ?? this.early,
     }));
     if (sources.length > 0) {
-      await this.openFirst(sources, wish, others, record);
-    } else if (record) {
+      await this.openFirst(sources, wish, records);
+    } else if (records.length > 0) {
       // It may be of a trace that is still being read.
       await this.turn;
-      const ending = this.takeRecord(record, [], unopenedNotes(others));
+      const ending = this.takeRecord(records, []);
       performance.measure(ending, { start: 0, end: performance.now() });
     }
   }
@@ -155,13 +153,13 @@ export class TraceDesk {
 
   /**
    * Opens the first of some sources that is a trace, once those of the calls before are open or refused; a source may
-   * still be to come. `wish` goes to `taken`. Beside the sources came `others`, which are not opened, and a record.
+   * still be to come. `wish` goes to `taken`. Beside the sources came records, of which one is read.
    */
-  openFirst(sources, wish, others = [], record = null) {
+  openFirst(sources, wish, records = []) {
     this.loading += 1;
     const { loading } = this;
     const opened = this.turn.then(async () => {
-      const ending = await this.openInTurn(sources, wish, others, record);
+      const ending = await this.openInTurn(sources, wish, records);
       if (loading === this.loading) {
         this.busy(null);
       }
@@ -171,21 +169,21 @@ export class TraceDesk {
     return opened;
   }
 
-  async openInTurn(coming, wish, others, record) {
+  async openInTurn(coming, wish, records) {
     const [notes, sources] = [[], await Promise.all(coming)];
     for (const [place, source] of sources.entries()) {
       const refusal = await this.refusalOf(source);
       if (refusal === null) {
-        this.note([...notes, ...this.recordNotes(this.recordOf(source)),
-          ...unopenedNotes([...sources.slice(place + 1), ...others])]);
+        const others = [...sources.slice(place + 1), ...records.filter((record) => record !== source.record)];
+        this.note([...notes, ...this.recordNotes(this.recordOf(source)), ...unopenedNotes(others)]);
         this.taken(this.trace, wish);
         return "opened";
       }
       notes.push(refusalPart(refusal, named(source.name), "is refused:"));
     }
     const open = this.trace ? [html("p", {}, named(this.trace.source.name), " is still open.")] : [];
-    // The record may be of the trace that is open, or of one that is still to come.
-    return this.takeRecord(record, [...notes, ...open], unopenedNotes(others));
+    // A record may be of the trace that is open, or of one that is still to come.
+    return this.takeRecord(records, [...notes, ...open]);
   }
 
   /** Opens a source, and returns why it is no trace, or null. One that is refused leaves what is open as it is. */
@@ -222,10 +220,12 @@ export class TraceDesk {
     return record;
   }
 
-  /** Takes a record, if there is one, and says what comes of it between other notes. Returns how that ended. */
-  takeRecord(record, before, after) {
+  /** Takes one of some records, if there is one, and says what comes of it after notes. Returns how that ended. */
+  takeRecord(records, notes) {
     const last = this.trace?.record;
-    this.note([...before, ...this.recordNotes(record), ...after]);
+    const record = recordBeside(this.trace?.source, records);
+    const others = records.filter((some) => some !== record);
+    this.note([...notes, ...this.recordNotes(record), ...unopenedNotes(others)]);
     if (this.trace?.record === last) {
       return "refused";
     }
@@ -285,9 +285,10 @@ export class TraceDesk {
 
   /** Learns whether the section is in sight: then what it says needs no copy. */
   watchSight() {
-    new IntersectionObserver(([{ isIntersecting }]) => {
-      this.isSeen = isIntersecting;
-      byId("notice").hidden ||= isIntersecting;
+    new IntersectionObserver((entries) => {
+      // Of several that are told at once, as while the page is busy, the last is of now.
+      this.isSeen = entries.at(-1).isIntersecting;
+      byId("notice").hidden ||= this.isSeen;
     }).observe(byId("trace"));
     byId("close-notice").addEventListener("click", () => {
       keepFocus(() => { byId("notice").hidden = true; }, () => byId("file"));

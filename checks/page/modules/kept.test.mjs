@@ -1,9 +1,11 @@
 import assert from "node:assert/strict";
 import { test } from "node:test";
 import { PlannerClient, WorkerEnded } from "../../../web/engine/planner-client.js";
+import { takeRules } from "../../../web/model/asking.js";
+import { withLimitsOf } from "../../../web/model/fitting.js";
 import { foundBy } from "../../../web/model/found.js";
 import { KeptPlans } from "../../../web/model/kept-plans.js";
-import { stateIn } from "../../../web/model/state.js";
+import { presetOf, ROUND_SETTINGS, stateIn } from "../../../web/model/state.js";
 import { refusedWords } from "../../../web/views/outcome.js";
 import { differencesOf } from "../../../web/views/plan-view.js";
 
@@ -128,4 +130,14 @@ test("a plan that comes after another trace was opened is not of that", async ()
   const second = over(B);
   late.shift()?.();
   assert.deepEqual(await second, ["b"]);
+});
+
+test("a plan over an example beside a kept one is asked by the same rules", () => {
+  takeRules({ settings: () => ({ min: 1, max: 2 }), windowRefusal: () => 0 });
+  const kept = stateIn("link=1Gbit&downtime=20ms&first=40&increase=5&rounds=7&skip=1&clark=1&start=9").settings;
+  const found = withLimitsOf(kept, presetOf("gzip"), { pages: 25, pageBytes: 4_096 });
+  for (const name of [...ROUND_SETTINGS, "clark", "link", "downtime", "reserve"]) {
+    assert.deepEqual(found[name], kept[name], name);
+  }
+  assert.equal(found.start, presetOf("gzip").start);
 });

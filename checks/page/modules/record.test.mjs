@@ -2,6 +2,7 @@ import assert from "node:assert/strict";
 import { readFileSync } from "node:fs";
 import { test } from "node:test";
 import { differencesFrom, FIELDS, OPTIONAL, recordIn, RecordRefusal } from "../../../web/model/record.js";
+import { TraceDesk } from "../../../web/views/trace-desk.js";
 
 const TRACE = { sizes: { pages: 1_000, writes: 5_000, last: 4_999 }, digest: "0".repeat(64) };
 const RECORD = {
@@ -21,6 +22,24 @@ test("a record says what ticks, pages and the start stand for", () => {
   assert.deepEqual([late.start, differencesFrom(late, { ...settings, start: 4_999 })], [4_999, []]);
   const others = { tick: { amount: 2 }, sample: null, start: 0 };
   assert.deepEqual(differencesFrom(record, others), ["tick", "sample", "start"]);
+});
+
+/** The record that comes with each trace of some files, by their names. */
+async function recordsBeside(names) {
+  let sources = [];
+  const desk = Object.create(TraceDesk.prototype, {
+    early: { value: null }, openFirst: { value: (some) => { sources = some; } },
+  });
+  await desk.takeFiles(names.map((name) => ({ name, size: 2, text: async () => "{}" })), {});
+  return sources.map(({ name, record }) => [name, record?.name ?? null]);
+}
+
+test("of several records each trace has that of its name, or else the first", async () => {
+  const pairs = [["a.pcwt", "a.json"], ["B.pcwt", "b.json"], ["c", "c.json"], ["d.pcwt", "b.json"]];
+  const names = ["a.pcwt", "b.json", "B.pcwt", "c", "a.json", "c.json", "d.pcwt"];
+  assert.deepEqual(await recordsBeside(names), pairs);
+  assert.deepEqual(await recordsBeside(["a.pcwt", "other.json"]), [["a.pcwt", "other.json"]]);
+  assert.deepEqual(await recordsBeside(["a.pcwt"]), [["a.pcwt", null]]);
 });
 
 test("no record makes a guest that is larger than it is", () => {
@@ -94,4 +113,23 @@ test("the reader takes of each field what the published schema takes", () => {
     assert.ok(other.every((value) => isTaken(name, value)), name);
     assert.ok(values.some((value) => !isTaken(name, value)), name);
   }
+});
+
+test("whether the section of the trace is in sight is told by the last of several entries", () => {
+  const notice = { hidden: false, addEventListener: () => {} };
+  globalThis.document = { getElementById: () => notice };
+  let told = null;
+  globalThis.IntersectionObserver = class {
+    constructor(act) {
+      told = (...seen) => act(seen.map((isIntersecting) => ({ isIntersecting })));
+    }
+
+    observe() {}
+  };
+  const desk = Object.create(TraceDesk.prototype);
+  desk.watchSight();
+  told(true, false);
+  assert.deepEqual([desk.isSeen, notice.hidden], [false, false]);
+  told(false, true);
+  assert.deepEqual([desk.isSeen, notice.hidden], [true, true]);
 });

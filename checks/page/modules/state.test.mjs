@@ -1,12 +1,36 @@
 import assert from "node:assert/strict";
 import { test } from "node:test";
 import { fragmentOf, stateIn } from "../../../web/model/state.js";
+import { typedTicks } from "../../../web/model/typing.js";
+import { Controls } from "../../../web/views/controls.js";
 
 test("an address has the whole state", () => {
   const state = stateIn("#link=64MiB&first=50&downtime=300ms&start=1000&rounds=7&skip=1&base=500&sample=5/9"
     + "&of=0123456789ab&kept=link%3D1Gbit&kept=rounds%3D3");
   assert.deepEqual(stateIn(fragmentOf(state)), state);
   assert.equal(state.kept.length, 2);
+});
+
+test("an address has also what is typed and makes no plan", () => {
+  const state = stateIn("");
+  const settled = { settings: { sample: null }, sizes: { pages: 4_154 } };
+  const sampleFor = (weight) => Controls.prototype.sampleFor.call(settled, weight);
+  for (const weight of [0, 1, 31.25156, 10_000_000, 9_999_999_999.999_999]) {
+    state.settings.sample = sampleFor(weight);
+    assert.deepEqual(stateIn(fragmentOf(state)), state, `${weight} pages`);
+  }
+  for (const text of ["0", "9007199254.740991", "999999999999999 ticks"]) {
+    state.settings.start = typedTicks(text, 1n, false);
+    assert.deepEqual(stateIn(fragmentOf(state)), state, text);
+  }
+});
+
+test("an address has no sample of no pages, nor of what is no number", () => {
+  const plain = stateIn("");
+  for (const word of ["0/5", "0/0", "5", "5/", "/5", "5/6/7", "5/x", "1/9007199254740992", "x/all"]) {
+    assert.deepEqual(stateIn(`sample=${word}`), plain, word);
+  }
+  assert.deepEqual(stateIn("sample=5/0").settings.sample, { part: 5, whole: 0 });
 });
 
 test("an address that says what only rounds have goes by them, unless it says otherwise", () => {

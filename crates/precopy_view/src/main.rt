@@ -21,16 +21,27 @@ mod units_tests;
 use crate::faults::refuse;
 use crate::starting::start;
 use byte_sinks::FromWrite;
+use std::io::IsTerminal;
 use std::process::ExitCode;
 use trace_codec::FromRead;
 use view_commands::{ViewWordsError, words};
 
 fn main(rt: HostRuntime) -> ExitCode {
     let mut source = FromRead::new(rt.stdin());
-    let mut sink = FromWrite::new(rt.stdout());
+    let output = rt.stdout();
+    let is_terminal = output.is_terminal();
+    let mut sink = FromWrite::new(output);
     let mut faults = FromWrite::new(rt.stderr());
     let status = match words(&rt) {
-        Ok(words) => start(&rt, rt.alloc(), words, &mut source, &mut sink, &mut faults),
+        Ok(words) => start(
+            &rt,
+            rt.alloc(),
+            words,
+            is_terminal,
+            &mut source,
+            &mut sink,
+            &mut faults,
+        ),
         Err(error) => refuse(ViewWordsError::Words(error), &mut sink, &mut faults),
     };
     ExitCode::from(status)

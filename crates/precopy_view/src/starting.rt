@@ -106,7 +106,8 @@ fn show<R: Threads + Sync, S: Source, K: Sink, E: Sink>(
 }
 
 /// Runs the program: `words` are its name and its arguments, and the trace comes from `source`. The view and a request
-/// for help go to `sink`, and the line of a fault or the text of a refused command line to `faults`.
+/// for help go to `sink`, which is a terminal or not, and the line of a fault or the text of a refused command line to
+/// `faults`.
 ///
 /// Returns the program's status: 0 is success, 1 a run that failed, 2 a refused command line, 3 a prediction whose
 /// downtime is over its limit, 4 one of a migration that ends after the trace, and 5 one whose limit is kept or not as
@@ -115,6 +116,7 @@ pub fn start<R: Threads + Sync, S: Source, K: Sink, E: Sink>(
     rt: &R,
     alloc: Global,
     words: Vec<String>,
+    is_terminal: bool,
     source: &mut S,
     sink: &mut K,
     faults: &mut E,
@@ -125,25 +127,25 @@ pub fn start<R: Threads + Sync, S: Source, K: Sink, E: Sink>(
     ensures flushed { (result ≡ 0) ⊎ (3 ≤ result) → K.is_flushed sink.new ≡ true }
     // What was written is the view of what was read that the words ask for, and its limit is kept; or else they ask for
     // help, and nothing was read.
-    ensures written { result ≡ 0 → ((asked : AskedView) × WordsAsk (map string_bytes words.items) asked
+    ensures written { result ≡ 0 → ((asked : AskedView) × WordsAsk is_terminal (map string_bytes words.items) asked
         × WritesView (S.remaining source.old) asked Verdict.Yes (K.contents sink.old) (K.contents sink.new))
         ⊎ (FailsAs IsHelp (map string_bytes words.items) × (source.new ≡ source.old)
         × (text : List ℕ) × Appends (K.contents sink.old) (K.contents sink.new) text) }
     // What was written is the view of what was read that the words ask for, and its limit is not kept.
-    ensures missed { result ≡ 3 → (asked : AskedView) × WordsAsk (map string_bytes words.items) asked
+    ensures missed { result ≡ 3 → (asked : AskedView) × WordsAsk is_terminal (map string_bytes words.items) asked
         × WritesView (S.remaining source.old) asked Verdict.No (K.contents sink.old) (K.contents sink.new) }
     // What was written is the view of what was read that the words ask for, and the trace ends before its migration.
-    ensures unknown { result ≡ 4 → (asked : AskedView) × WordsAsk (map string_bytes words.items) asked
+    ensures unknown { result ≡ 4 → (asked : AskedView) × WordsAsk is_terminal (map string_bytes words.items) asked
         × WritesView (S.remaining source.old) asked Verdict.Unknown (K.contents sink.old) (K.contents sink.new) }
     // What was written is the view of what was read that the words ask for, and whether its limit is kept is not sure.
-    ensures uncertain { result ≡ 5 → (asked : AskedView) × WordsAsk (map string_bytes words.items) asked
+    ensures uncertain { result ≡ 5 → (asked : AskedView) × WordsAsk is_terminal (map string_bytes words.items) asked
         × WritesView (S.remaining source.old) asked Verdict.Uncertain (K.contents sink.old) (K.contents sink.new) }
     // Words are refused before any byte of the trace is read, and nothing is written then.
     ensures refused { result ≡ 2 → FailsAs IsRefusal (map string_bytes words.items) × (source.new ≡ source.old)
         × (sink.new ≡ sink.old) }
     // The view that the words ask for failed; or else nothing was read: a write of help failed, or memory ran out while
     // the words were read, and nothing is written. Each of these is told.
-    ensures failed { result ≡ 1 → ((asked : AskedView) × WordsAsk (map string_bytes words.items) asked
+    ensures failed { result ≡ 1 → ((asked : AskedView) × WordsAsk is_terminal (map string_bytes words.items) asked
         × HasFailed (S.remaining source.old) asked (S.has_failed source.new) (K.has_failed sink.new)
         (K.contents sink.old) (K.contents sink.new) (sink.new ≡ sink.old)
         (λ e. TellsShow e (E.contents faults.old) (E.contents faults.new) (E.has_failed faults.new)))
@@ -158,7 +160,7 @@ pub fn start<R: Threads + Sync, S: Source, K: Sink, E: Sink>(
     // A view or help that was written is not told.
     ensures untold { (result ≡ 0) ⊎ (3 ≤ result) → faults.new ≡ faults.old }
 {
-    match view_of(alloc, &words) {
+    match view_of(alloc, &words, is_terminal) {
         Ok(asked) => show(rt, alloc, &asked, source, sink, faults),
         Err(error) => refuse(error, sink, faults),
     }

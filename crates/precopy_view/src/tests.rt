@@ -16,12 +16,14 @@ fn sink(alloc: Global) -> TestSink
     TestSink::new(Vec::new(alloc), usize::MAX, None, false)
 }
 
-/// What the program does with a line of words over the trace's first `len` bytes: its status, output and faults.
-fn told<R: Abort + Threads + Sync>(
+/// What the program does with a line of words over the trace's first `len` bytes, on a terminal or not: its status,
+/// output and faults.
+fn told_on<R: Abort + Threads + Sync>(
     rt: &R,
     alloc: Global,
     len: usize,
     line: &str,
+    is_terminal: bool,
 ) -> (u8, TestSink, TestSink) {
     let mut words = Vec::new(alloc);
     words
@@ -41,8 +43,26 @@ fn told<R: Abort + Threads + Sync>(
     let mut source = TestSource::new(bytes, 102, None);
     let mut output = sink(alloc);
     let mut faults = sink(alloc);
-    let status = start(rt, alloc, words, &mut source, &mut output, &mut faults);
+    let status = start(
+        rt,
+        alloc,
+        words,
+        is_terminal,
+        &mut source,
+        &mut output,
+        &mut faults,
+    );
     (status, output, faults)
+}
+
+/// The same where no terminal is.
+fn told<R: Abort + Threads + Sync>(
+    rt: &R,
+    alloc: Global,
+    len: usize,
+    line: &str,
+) -> (u8, TestSink, TestSink) {
+    told_on(rt, alloc, len, line, false)
 }
 
 /// Returns whether a line of words over the whole trace has this status and this output.
@@ -180,6 +200,25 @@ fn shows_tables(rt: HostRuntime) {
 }
 
 #[test]
+fn colors_bars_when_it_is_told_to(rt: HostRuntime) {
+    const CASES: [(&str, bool, bool); 8] = [
+        ("show", true, false),
+        ("show --color", false, true),
+        ("show --color --hot=2", true, true),
+        ("show --color=always", false, true),
+        ("show --color never", true, false),
+        ("show --color auto", false, false),
+        ("show --color=auto", true, true),
+        ("show --color=auto --hot=2", false, false),
+    ];
+    for &(line, is_terminal, has_colors) in &CASES {
+        let (status, output, _) = told_on(&rt, rt.alloc(), TRACE.len(), line, is_terminal);
+        assert!(rt; status == 0, "{line}");
+        assert!(rt; output.bytes().contains(&0x1b) == has_colors, "{line}");
+    }
+}
+
+#[test]
 fn draws_a_picture(rt: HostRuntime) {
     assert!(rt; draws(&rt, rt.alloc(), "chart"));
 }
@@ -215,12 +254,15 @@ fn says_why_it_ends(rt: HostRuntime) {
 
 #[test]
 fn unknown_words_are_told(rt: HostRuntime) {
-    const LINES: [&str; 8] = [
+    const LINES: [&str; 11] = [
         "",
         "json",
         "advise",
         "report",
         "show --width=71",
+        "show --color=blue",
+        "show --color=Auto",
+        "show --color always never",
         "show --clark",
         "advise --down=0 --clark",
         "json report --clark",

@@ -1,5 +1,5 @@
 -- What a command line makes of words, as the program gets it.
-use Rattle.std.proofs.Common.{◌≡◌, List, [], Option, Some, None, IfOk, IfErr, inl, inr, sym, subst}
+use Rattle.std.proofs.Common.{◌≡◌, Bool, List, [], Option, Some, None, IfOk, IfErr, inl, inr, sym, subst}
 use Rattle.std.specs.Prelude.{◌⊎◌, Result, Ok, Err, MatchOption}
 use Rattle.clap.specs.Faults.{fault_of}
 use Rattle.clap.specs.Kinds.{HasKind}
@@ -49,8 +49,9 @@ refused_at_once line words Refuses error told has tells = inr (inl (fails_by_kin
 
 -- ---- with `json` after the program's name, and without it
 
-abbrev pub Asked : List Text → AskedView → Option (List Text) → Type 0
-Asked words asked o = MatchOption o (Names view_line words (λ name rows. AsksForView name rows asked.view asked.scale))
+abbrev pub Asked : Bool → List Text → AskedView → Option (List Text) → Type 0
+Asked terminal words asked o = MatchOption o
+    (Names view_line words (λ name rows. AsksForView terminal name rows asked.view asked.scale))
     (λ below. Names json_line below (λ name rows. AsksForDocument name rows asked.view asked.scale))
 
 abbrev pub Failed : List Text → ViewWordsError → Option (List Text) → Type 0
@@ -58,12 +59,13 @@ Failed words e o = MatchOption o (FailsOn view_line words e ⊎ Names view_line 
     (λ name rows. RefusesView name rows e))
     (λ below. FailsOn json_line below e ⊎ Names json_line below (λ name rows. RefusesDocument name rows e))
 
-pub asked_below : (words below : List Text) (r : Result AskedView ViewWordsError) → json_words words ≡ Some below
+pub asked_below : (terminal : Bool) (words below : List Text) (r : Result AskedView ViewWordsError)
+    → json_words words ≡ Some below
     → IfOk r (λ asked. Names json_line below (λ name rows. AsksForDocument name rows asked.view asked.scale))
-    → IfOk r (λ asked. WordsAsk words asked)
-asked_below words below (Ok asked) is holds = let P : Option (List Text)
-    → Type 0 = λ o. Asked words asked o in subst P (sym is) holds
-asked_below words below (Err e) is holds = tt
+    → IfOk r (λ asked. WordsAsk terminal words asked)
+asked_below terminal words below (Ok asked) is holds = let P : Option (List Text)
+    → Type 0 = λ o. Asked terminal words asked o in subst P (sym is) holds
+asked_below terminal words below (Err e) is holds = tt
 
 pub failed_below : (words below : List Text) (r : Result AskedView ViewWordsError) → json_words words ≡ Some below
     → IfErr r (λ e. Fails json_line below RefusesDocument e) → IfErr r (λ e. WordsFail words e)
@@ -72,12 +74,13 @@ failed_below words below (Err e) is (inl memory) = inl memory
 failed_below words below (Err e) is (inr cause) = let P : Option (List Text)
     → Type 0 = λ o. Failed words e o in inr (subst P (sym is) cause)
 
-pub asked_above : (words : List Text) (r : Result AskedView ViewWordsError) → json_words words ≡ None
-    → IfOk r (λ asked. Names view_line words (λ name rows. AsksForView name rows asked.view asked.scale))
-    → IfOk r (λ asked. WordsAsk words asked)
-asked_above words (Ok asked) is holds = let P : Option (List Text)
-    → Type 0 = λ o. Asked words asked o in subst P (sym is) holds
-asked_above words (Err e) is holds = tt
+pub asked_above : (terminal : Bool) (words : List Text) (r : Result AskedView ViewWordsError)
+    → json_words words ≡ None
+    → IfOk r (λ asked. Names view_line words (λ name rows. AsksForView terminal name rows asked.view asked.scale))
+    → IfOk r (λ asked. WordsAsk terminal words asked)
+asked_above terminal words (Ok asked) is holds = let P : Option (List Text)
+    → Type 0 = λ o. Asked terminal words asked o in subst P (sym is) holds
+asked_above terminal words (Err e) is holds = tt
 
 pub failed_above : (words : List Text) (r : Result AskedView ViewWordsError) → json_words words ≡ None
     → IfErr r (λ e. Fails view_line words RefusesView e) → IfErr r (λ e. WordsFail words e)

@@ -1,8 +1,9 @@
 -- The command lines of `precopy-view`: its commands, those below `json`, and the options of each.
 use Rattle.std.specs.Prelude.{◌≡◌, ◌⊎◌, List, [], ◌∷◌, ◌++◌, Option, Some, None, if◌then◌else◌, true, false, codes}
 use Rattle.std.specs.Str.{bytes_eq}
-use Rattle.clap.specs.Simple.{App, new_shape}
+use Rattle.clap.specs.Simple.{App, new_rule, new_shape}
 use Rattle.clap.specs.Walk.{Rule, Text}
+use Rattle.clap.specs.declared.builder.action.ArgAction.TheVariants.{Set}
 use Rattle.job_commands.specs.Commands.{case_rule, flag_rule, leaf, number_rule, report_rules, sweep_rules}
 use Rattle.view_commands.specs.Units.{scale_rules, unit_rules}
 
@@ -25,9 +26,19 @@ abbrev pub budget_rules : List Rule
 budget_rules = sweep_rules ++ number_rule (codes "max") ∷ number_rule (codes "total") ∷ number_rule (codes "down")
     ∷ unit_rules
 
+-- the option of colors, whose word may be left out
+abbrev pub color_rule : Rule
+color_rule = record (new_rule (codes "color")) {
+  long = Some (codes "color");
+  action = Some Set;
+  range = Some (record { start_inclusive = 0; end_inclusive = 1 });
+  value_names = 1;
+  missing = codes "always" ∷ [];
+}
+
 -- the options of a report for a terminal
 abbrev pub style_rules : List Rule
-style_rules = report_rules ++ number_rule (codes "width") ∷ flag_rule (codes "color") ∷ unit_rules
+style_rules = report_rules ++ number_rule (codes "width") ∷ color_rule ∷ unit_rules
 
 -- the commands of `precopy-view`, one of which must follow the program's name
 unfoldable pub view_line : App

@@ -1,5 +1,5 @@
 -- Which view a command asks for, by its name and by what clap found after it, and why it is refused.
-use Rattle.std.specs.Prelude.{◌≡◌, ◌⊎◌, ℕ, List, Option, Some, MatchOption, [], ⊤, codes}
+use Rattle.std.specs.Prelude.{◌≡◌, ◌⊎◌, ℕ, Bool, List, Option, Some, MatchOption, [], ⊤, codes}
 use Rattle.clap.specs.Faults.{fault_of}
 use Rattle.clap.specs.Simple.{App, subcommand_of}
 use Rattle.clap.specs.Walk.{Row, Text}
@@ -22,7 +22,7 @@ use Rattle.view_commands.specs.Advice.{AsksForAdvice, RefusesAdvice}
 use Rattle.view_commands.specs.Commands.{json_line, json_words, view_line}
 use Rattle.view_commands.specs.Manners.{AsksForMigration, RefusesMigration}
 use Rattle.view_commands.specs.Starts.{AsksForForm, AsksForStarts, RefusesStarts}
-use Rattle.view_commands.specs.Styles.{AsksForStyle, IsWidthRefused}
+use Rattle.view_commands.specs.Styles.{AsksForStyle, IsColorRefused, IsWidthRefused}
 use Rattle.view_commands.specs.Usage.{IsUsage}
 use Rattle.view_commands.specs.declared.command.AskedView.{AskedView}
 use Rattle.view_commands.specs.declared.command.ViewWordsError.{ViewWordsError}
@@ -39,18 +39,19 @@ pub record AsksForPrediction (rows : List Row) (form : PredictionForm) (asked : 
   pub form_is : asked.form ≡ form
 
 -- A command of this name, with what clap found after it, asks for this view, and for this scale if it has units.
-abbrev pub AsksForView : Text → List Row → View → Option TraceScale → Type 0
-AsksForView name rows (views.JsonReport settings shown) scale = ⊥
-AsksForView name rows (views.JsonSweep cases workers shown) scale = ⊥
-AsksForView name rows (views.Advise budget settings known) scale =
+-- `terminal` is whether standard output is one.
+abbrev pub AsksForView : Bool → Text → List Row → View → Option TraceScale → Type 0
+AsksForView terminal name rows (views.JsonReport settings shown) scale = ⊥
+AsksForView terminal name rows (views.JsonSweep cases workers shown) scale = ⊥
+AsksForView terminal name rows (views.Advise budget settings known) scale =
     (name ≡ codes "advise") × AsksForAdvice rows budget settings known scale
-AsksForView name rows (views.Show settings shown style) scale =
-    (name ≡ codes "show") × AsksToMeasure rows settings scale × AsksForStyle rows style × (shown ≡ scale)
-AsksForView name rows (views.Chart settings shown) scale =
+AsksForView terminal name rows (views.Show settings shown style) scale =
+    (name ≡ codes "show") × AsksToMeasure rows settings scale × AsksForStyle terminal rows style × (shown ≡ scale)
+AsksForView terminal name rows (views.Chart settings shown) scale =
     (name ≡ codes "chart") × AsksToMeasure rows settings scale × (shown ≡ scale)
-AsksForView name rows (views.Predict asked) scale =
+AsksForView terminal name rows (views.Predict asked) scale =
     (name ≡ codes "predict") × AsksForPrediction rows predictions.Lines asked × (scale ≡ Some asked.scale)
-AsksForView name rows (views.When asked) scale =
+AsksForView terminal name rows (views.When asked) scale =
     (name ≡ codes "when") × AsksForStarts rows asked.form asked × AsksForForm rows asked.form
     × (scale ≡ Some asked.scale)
 
@@ -68,9 +69,12 @@ AsksForDocument name rows (views.Predict asked) scale =
 AsksForDocument name rows (views.When asked) scale =
     (name ≡ codes "when") × AsksForStarts rows forms.Json asked × (scale ≡ Some asked.scale)
 
--- what is told of a width that is out of range, and of words without a command
+-- what is told of a width that is out of range, of another word for colors, and of words without a command
 abbrev pub width_text : List ℕ
 width_text = codes "error: the width is not 72 to 512\n"
+
+abbrev pub color_text : List ℕ
+color_text = codes "error: --color: auto, always or never\n"
 
 abbrev pub command_text : List ℕ
 command_text = codes "error: a command is required\n"
@@ -90,10 +94,15 @@ abbrev pub RefusesSweepWords : List Row → ViewWordsError → Type 0
 RefusesSweepWords rows (asked.Words e) = SweepFails rows e
 RefusesSweepWords rows (asked.Limits e) = RefusesScaleWords rows e
 
+-- how a report for a terminal is to be shown is refused for this
+abbrev pub RefusesLook : List Row → ViewWordsError → Type 0
+RefusesLook rows e =
+    (IsUsage width_text e × IsWidthRefused rows) ⊎ (IsUsage color_text e × IsColorRefused rows)
+
 -- A command of this name is refused for this. `json` is one if it does not come right after the program's name.
 abbrev pub RefusesView : Text → List Row → ViewWordsError → Type 0
 RefusesView name rows e = ((name ≡ codes "advise") × RefusesAdvice rows e)
-    ⊎ (((name ≡ codes "show") × (RefusesSettings rows e ⊎ (IsUsage width_text e × IsWidthRefused rows)))
+    ⊎ (((name ≡ codes "show") × (RefusesSettings rows e ⊎ RefusesLook rows e))
     ⊎ (((name ≡ codes "chart") × RefusesSettings rows e)
     ⊎ (((name ≡ codes "predict") × RefusesPrediction rows e)
     ⊎ (((name ≡ codes "when") × RefusesStarts rows e) ⊎ ((name ≡ codes "json") × IsUsage command_text e)))))
@@ -115,10 +124,10 @@ pub record Names (line : App) (words : List Text) (Holds : Text → List Row →
   pub command : subcommand_of line words ≡ Some (name, rows)
   pub holds : Holds name rows
 
--- the words, the first being the program's name, ask for this view
-abbrev pub WordsAsk : List Text → AskedView → Type 0
-WordsAsk words view = MatchOption (json_words words)
-    (Names view_line words (λ name rows. AsksForView name rows view.view view.scale))
+-- the words, the first being the program's name, ask for this view, at a terminal or elsewhere
+abbrev pub WordsAsk : Bool → List Text → AskedView → Type 0
+WordsAsk terminal words view = MatchOption (json_words words)
+    (Names view_line words (λ name rows. AsksForView terminal name rows view.view view.scale))
     (λ below. Names json_line below (λ name rows. AsksForDocument name rows view.view view.scale))
 
 -- what a clap refusal says about words

@@ -1,6 +1,6 @@
 //! Advice as words: a budget and the settings around it, in either kind of words.
 
-ghost use Rattle.std.specs.Prelude.{◌≡◌, IfErr, IfOk, None, Some, codes, false, true};
+ghost use Rattle.std.specs.Prelude.{◌≡◌, Bool, IfErr, IfOk, None, Some, codes, false, true};
 ghost use Rattle.clap.specs.Words.{found_of, rows_of};
 ghost use Rattle.predictions.specs.Units.Limits.{ticks_for_pages};
 ghost use Rattle.job_commands.specs.Options.{Says};
@@ -22,8 +22,8 @@ use view_kinds::{Budget, Measured, View};
 /// Returns the advice that options in ticks and pages ask for.
 fn advice_in_ticks(options: &ArgMatches) -> Result<AskedView, ViewWordsError>
     requires { HasNoUnits (rows_of (found_of options.now)) }
-    ensures made { IfOk result (λ asked. AsksForView (codes "advise") (rows_of (found_of options.now)) asked.view
-        asked.scale) }
+    ensures made { (terminal : Bool) → IfOk result (λ asked. AsksForView terminal (codes "advise")
+        (rows_of (found_of options.now)) asked.view asked.scale) }
     ensures refused { IfErr result (RefusesAdvice (rows_of (found_of options.now))) }
 {
     let Some(down) = number_given(options, "down") else {
@@ -69,7 +69,8 @@ fn measured_advice(options: &ArgMatches, settings: &Settings, measured: Measured
     requires unsaid { Says (rows_of (found_of options.now)) (codes "down") None }
     requires measured { AsksForMeasure (rows_of (found_of options.now)) settings.now (Some measured.scale)
         (Some measured.limits) }
-    ensures { AsksForView (codes "advise") (rows_of (found_of options.now)) result.view result.scale }
+    ensures { (terminal : Bool) → AsksForView terminal (codes "advise") (rows_of (found_of options.now)) result.view
+        result.scale }
 {
     AskedView {
         view: View::Advise {
@@ -87,8 +88,8 @@ fn measured_advice(options: &ArgMatches, settings: &Settings, measured: Measured
 /// Returns the advice that options in time and bytes ask for.
 fn advice_in_units(options: &ArgMatches) -> Result<AskedView, ViewWordsError>
     requires { ¬ HasNoUnits (rows_of (found_of options.now)) }
-    ensures made { IfOk result (λ asked. AsksForView (codes "advise") (rows_of (found_of options.now)) asked.view
-        asked.scale) }
+    ensures made { (terminal : Bool) → IfOk result (λ asked. AsksForView terminal (codes "advise")
+        (rows_of (found_of options.now)) asked.view asked.scale) }
     ensures refused { IfErr result (RefusesAdvice (rows_of (found_of options.now))) }
 {
     if is_down_said(options) {
@@ -107,8 +108,8 @@ fn advice_in_units(options: &ArgMatches) -> Result<AskedView, ViewWordsError>
 
 /// Returns the advice that its options ask for.
 pub(crate) fn advice_of(options: &ArgMatches) -> Result<AskedView, ViewWordsError>
-    ensures made { IfOk result (λ asked. AsksForView (codes "advise") (rows_of (found_of options.now)) asked.view
-        asked.scale) }
+    ensures made { (terminal : Bool) → IfOk result (λ asked. AsksForView terminal (codes "advise")
+        (rows_of (found_of options.now)) asked.view asked.scale) }
     ensures refused { IfErr result (RefusesAdvice (rows_of (found_of options.now))) }
 {
     if says_units(options) {

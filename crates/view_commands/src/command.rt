@@ -1,12 +1,11 @@
 //! The command line: words in, a view or a refusal out.
 
 ghost use Rattle.std.specs.Prelude.{◌≡◌, ◌⊎◌, ◌++◌, ◌∷◌, [], IfErr, IfNone, IfOk, IfSome, None};
-ghost use Rattle.std.specs.Prelude.{Ok, Some};
+ghost use Rattle.std.specs.Prelude.{Bool, Ok, Some};
 ghost use Rattle.std.specs.Prelude.{codes, map, string_bytes, true};
 ghost use Rattle.clap.specs.Words.{app_of, found_of, rows_of};
 ghost use Rattle.job_commands.specs.Commands.{AddsRules, IsLeaf, case_rule, flag_rule, report_rules, sweep_rules};
 ghost use Rattle.view_commands.specs.Units.{scale_rules, unit_rules};
-ghost use Rattle.view_commands.specs.Styles.{IsWidthRefused};
 ghost use Rattle.view_commands.specs.Views.{IsOutOfMemory};
 ghost use Rattle.job_commands.specs.declared.command.WordsError.TheVariants.{Memory};
 ghost use Rattle.view_commands.specs.Commands.{IsCommand, IsDocument, json_line, json_words, prediction_rules};
@@ -15,15 +14,14 @@ ghost use Rattle.view_commands.specs.Starts.{RefusesStarts};
 ghost use Rattle.view_commands.specs.Usage.{IsUsage};
 ghost use Rattle.view_commands.specs.Views.{AsksForDocument, AsksForPrediction, AsksForView, FailsOn, Names};
 ghost use Rattle.view_commands.specs.Views.{RefusesDocument, RefusesPrediction, RefusesSettings, RefusesSweepWords};
-ghost use Rattle.view_commands.specs.Views.{RefusesView, WordsAsk};
-ghost use Rattle.view_commands.specs.Views.{WordsFail, width_text};
+ghost use Rattle.view_commands.specs.Views.{RefusesLook, RefusesView, WordsAsk, WordsFail};
 ghost use Rattle.view_commands.specs.declared.command.ViewWordsError.TheVariants.{Limits, Words};
 
 use crate::advice::advice_of;
 use crate::limits::{LimitsRefusal, with_scale, with_units};
 use crate::manners::{migration_of, with_clark};
 use crate::measures::{Measure, measure_of, scale_said};
-use crate::options::{style_of, with_budget, with_style};
+use crate::options::{StyleRefusal, style_of, with_budget, with_style};
 use crate::starts::{form_of, starts_of, with_chart, with_starts};
 use clap::{ArgMatches, Command};
 use job_commands::{
@@ -250,15 +248,19 @@ fn started(asked: AskedStarts) -> AskedView
 }
 
 /// Returns the report for a terminal that its options ask for.
-fn show_of(alloc: Global, options: &ArgMatches) -> Result<AskedView, ViewWordsError>
-    ensures made { IfOk result (λ asked. AsksForView (codes "show") (rows_of (found_of options.now)) asked.view
-        asked.scale) }
+fn show_of(
+    alloc: Global,
+    options: &ArgMatches,
+    is_terminal: bool,
+) -> Result<AskedView, ViewWordsError>
+    ensures made { IfOk result (λ asked. AsksForView is_terminal (codes "show") (rows_of (found_of options.now))
+        asked.view asked.scale) }
     ensures refused { IfErr result (λ e. RefusesSettings (rows_of (found_of options.now)) e
-        ⊎ (IsUsage width_text e × IsWidthRefused (rows_of (found_of options.now)))) }
+        ⊎ RefusesLook (rows_of (found_of options.now)) e) }
 {
     let measure = measure_of(options)?;
-    match style_of(options) {
-        Some(style) => Ok(AskedView {
+    match style_of(options, is_terminal) {
+        Ok(style) => Ok(AskedView {
             view: View::Show {
                 settings: measure.settings,
                 scale: measure.scale,
@@ -266,14 +268,15 @@ fn show_of(alloc: Global, options: &ArgMatches) -> Result<AskedView, ViewWordsEr
             },
             scale: measure.scale,
         }),
-        None => Err(usage(alloc, "error: the width is not 72 to 512\n")),
+        Err(StyleRefusal::Width) => Err(usage(alloc, "error: the width is not 72 to 512\n")),
+        Err(StyleRefusal::Color) => Err(usage(alloc, "error: --color: auto, always or never\n")),
     }
 }
 
 /// Returns the picture that its options ask for.
 fn chart_of(options: &ArgMatches) -> Result<AskedView, ViewWordsError>
-    ensures made { IfOk result (λ asked. AsksForView (codes "chart") (rows_of (found_of options.now)) asked.view
-        asked.scale) }
+    ensures made { (terminal : Bool) → IfOk result (λ asked. AsksForView terminal (codes "chart")
+        (rows_of (found_of options.now)) asked.view asked.scale) }
     ensures refused { IfErr result (RefusesSettings (rows_of (found_of options.now))) }
 {
     let measure = measure_of(options)?;
@@ -328,8 +331,8 @@ fn predicted(asked: AskedPrediction) -> AskedView
 
 /// Returns the prediction that its options ask for, for people.
 fn predict_of(options: &ArgMatches) -> Result<AskedView, ViewWordsError>
-    ensures made { IfOk result (λ asked. AsksForView (codes "predict") (rows_of (found_of options.now)) asked.view
-        asked.scale) }
+    ensures made { (terminal : Bool) → IfOk result (λ asked. AsksForView terminal (codes "predict")
+        (rows_of (found_of options.now)) asked.view asked.scale) }
     ensures refused { IfErr result (RefusesPrediction (rows_of (found_of options.now))) }
 {
     let asked = prediction_of(options, PredictionForm::Lines)?;
@@ -348,8 +351,8 @@ fn json_predict_of(options: &ArgMatches) -> Result<AskedView, ViewWordsError>
 
 /// Returns the starts that their options ask for, for people.
 fn when_of(alloc: Global, options: &ArgMatches) -> Result<AskedView, ViewWordsError>
-    ensures made { IfOk result (λ asked. AsksForView (codes "when") (rows_of (found_of options.now)) asked.view
-        asked.scale) }
+    ensures made { (terminal : Bool) → IfOk result (λ asked. AsksForView terminal (codes "when")
+        (rows_of (found_of options.now)) asked.view asked.scale) }
     ensures refused { IfErr result (RefusesStarts (rows_of (found_of options.now))) }
 {
     let asked = starts_of(alloc, options, form_of(options))?;
@@ -361,17 +364,18 @@ fn command_view(
     alloc: Global,
     name: &str,
     options: &ArgMatches,
+    is_terminal: bool,
 ) -> Result<AskedView, ViewWordsError>
     requires { IsCommand name.now }
-    ensures made { IfOk result (λ asked. AsksForView name.now (rows_of (found_of options.now)) asked.view
-        asked.scale) }
+    ensures made { IfOk result (λ asked. AsksForView is_terminal name.now (rows_of (found_of options.now))
+        asked.view asked.scale) }
     ensures refused { IfErr result (RefusesView name.now (rows_of (found_of options.now))) }
 {
     match name {
         "predict" => predict_of(options),
         "when" => when_of(alloc, options),
         "advise" => advice_of(options),
-        "show" => show_of(alloc, options),
+        "show" => show_of(alloc, options, is_terminal),
         "chart" => chart_of(options),
         _ => Err(usage(alloc, NO_COMMAND)),
     }
@@ -414,9 +418,9 @@ fn document_of(alloc: Global, words: &[String]) -> Result<AskedView, ViewWordsEr
 }
 
 /// Returns the view that the words ask for, if the second is not `json`. The first is the program's name.
-fn shown_of(alloc: Global, words: &[String]) -> Result<AskedView, ViewWordsError>
+fn shown_of(alloc: Global, words: &[String], is_terminal: bool) -> Result<AskedView, ViewWordsError>
     ensures made { IfOk result (λ asked. Names view_line (map string_bytes words.now)
-        (λ name rows. AsksForView name rows asked.view asked.scale)) }
+        (λ name rows. AsksForView is_terminal name rows asked.view asked.scale)) }
     ensures failed { IfErr result (λ e. IsOutOfMemory e ⊎ (FailsOn view_line (map string_bytes words.now) e
         ⊎ Names view_line (map string_bytes words.now) (λ name rows. RefusesView name rows e))) }
 {
@@ -425,7 +429,7 @@ fn shown_of(alloc: Global, words: &[String]) -> Result<AskedView, ViewWordsError
         Err(error) => return Err(ViewWordsError::Words(refusal_of(alloc, &error))),
     };
     match matches.subcommand() {
-        Some((name, options)) => command_view(alloc, name, options),
+        Some((name, options)) => command_view(alloc, name, options, is_terminal),
         None => Err(usage(alloc, NO_COMMAND)),
     }
 }
@@ -442,13 +446,18 @@ fn json_words(words: &[String]) -> Option<&[String]>
     }
 }
 
-/// Returns the view that the words ask for, the first being the program's name.
-pub fn view_of(alloc: Global, words: &[String]) -> Result<AskedView, ViewWordsError>
-    ensures made { IfOk result (λ asked. WordsAsk (map string_bytes words.now) asked) }
+/// Returns the view that the words ask for, the first being the program's name. Standard output is a terminal or not,
+/// which decides on colors that the words leave to it.
+pub fn view_of(
+    alloc: Global,
+    words: &[String],
+    is_terminal: bool,
+) -> Result<AskedView, ViewWordsError>
+    ensures made { IfOk result (λ asked. WordsAsk is_terminal (map string_bytes words.now) asked) }
     ensures failed { IfErr result (λ e. WordsFail (map string_bytes words.now) e) }
 {
     match json_words(words) {
         Some(below) => document_of(alloc, below),
-        None => shown_of(alloc, words),
+        None => shown_of(alloc, words, is_terminal),
     }
 }

@@ -179,7 +179,7 @@ pub(crate) struct Said {
 }
 
 /// Returns an option's word, if it is given.
-fn word_of<'a>(options: &ArgMatches<'a>, name: &str) -> Option<&'a str>
+pub(crate) fn word_of<'a>(options: &ArgMatches<'a>, name: &str) -> Option<&'a str>
     ensures given { IfSome result (λ word. first_of name.now (rows_of (found_of options.now)) ≡ Some word.now) }
     ensures missing { IfNone result (first_of name.now (rows_of (found_of options.now)) ≡ None) }
 {

@@ -1,15 +1,16 @@
 //! The options of reports for a terminal and of advice in ticks and pages, and what they make.
 
-ghost use Rattle.std.specs.Prelude.{IfErr, IfNone, IfOk, IfSome};
-ghost use Rattle.clap.specs.Words.{found_of, rows_of};
+ghost use Rattle.std.specs.Prelude.{◌≡◌, IfErr, IfNone, IfOk, IfSome, codes, false};
+ghost use Rattle.clap.specs.Walk.{first_of};
+ghost use Rattle.clap.specs.Words.{found_of, rows_of, rule_of};
 ghost use Rattle.job_commands.specs.Commands.{AddsRules};
 ghost use Rattle.view_commands.specs.Advice.{AsksForGrid, IsGridRefused};
-ghost use Rattle.view_commands.specs.Commands.{budget_rules, style_rules};
-ghost use Rattle.view_commands.specs.Styles.{AsksForStyle, IsWidthRefused};
+ghost use Rattle.view_commands.specs.Commands.{budget_rules, color_rule, style_rules};
+ghost use Rattle.view_commands.specs.Styles.{AsksForStyle, IsColorRefused, IsColored, RefusesStyle};
 
-use crate::limits::with_units;
-use clap::{ArgMatches, Command};
-use job_commands::{flag, is_flag, number, number_or, sweep_options, with_report, with_sweep};
+use crate::limits::{with_units, word_of};
+use clap::{Arg, ArgAction, ArgMatches, Command};
+use job_commands::{number, number_or, sweep_options, with_report, with_sweep};
 use rate_limit::{Asked, Settings, SettingsError};
 use std::alloc::{AllocError, Global};
 use view_kinds::Style;
@@ -64,6 +65,25 @@ const MIN_WIDTH: u64 = 72;
 
 const MAX_WIDTH: u64 = 512;
 
+/// What help tells of colors, in the words of `clap`.
+const COLOR_HELP: &str =
+    "Color the bars; auto: on a terminal [possible values: always, never, auto] \
+    [default: never] [without WHEN: always]";
+
+/// Returns the option of colors.
+fn color_arg<'a>(alloc: Global) -> Arg<'a>
+    ensures rule { rule_of result ≡ color_rule }
+    ensures local { result.global ≡ false }
+{
+    Arg::new(alloc, "color")
+        .long("color")
+        .help(COLOR_HELP)
+        .value_name("WHEN")
+        .num_args(0..=1)
+        .default_missing_value("always")
+        .action(ArgAction::Set)
+}
+
 /// Returns the command with the options of a report for a terminal.
 pub(crate) fn with_style<'a>(alloc: Global, command: Command<'a>) -> Result<Command<'a>, AllocError>
     ensures { IfOk result (λ new. AddsRules command.entry style_rules new) }
@@ -74,21 +94,47 @@ pub(crate) fn with_style<'a>(alloc: Global, command: Command<'a>) -> Result<Comm
         "width",
         "Most characters of a line, 72 to 512 [default: 80]",
     ))?;
-    let command = command.arg(flag(alloc, "color", "Color the bars"))?;
+    let command = command.arg(color_arg(alloc))?;
     with_units(alloc, command)
 }
 
-/// Returns how a report is shown, if its width is in range.
-pub(crate) fn style_of(options: &ArgMatches) -> Option<Style>
-    ensures style { IfSome result (λ style. AsksForStyle (rows_of (found_of options.now)) style) }
-    ensures refused { IfNone result (IsWidthRefused (rows_of (found_of options.now))) }
+/// Why a report is not shown as its options say.
+#[derive(Clone, Copy, Debug, PartialEq, Eq)]
+pub(crate) enum StyleRefusal {
+    /// Its width is out of range.
+    Width,
+    /// The option of colors has a word that it does not take.
+    Color,
+}
+
+/// Returns whether bars have colors, if the option has a word that it takes.
+fn colors_of(options: &ArgMatches, is_terminal: bool) -> Option<bool>
+    ensures colors { IfSome result (IsColored is_terminal (first_of (codes "color") (rows_of (found_of options.now)))) }
+    ensures refused { IfNone result (IsColorRefused (rows_of (found_of options.now))) }
+{
+    let Some(word) = word_of(options, "color") else {
+        return Some(false);
+    };
+    match word {
+        "never" => Some(false),
+        "always" => Some(true),
+        "auto" => Some(is_terminal),
+        _ => None,
+    }
+}
+
+/// Returns how a report is shown. Standard output is a terminal or not.
+pub(crate) fn style_of(options: &ArgMatches, is_terminal: bool) -> Result<Style, StyleRefusal>
+    ensures style { IfOk result (AsksForStyle is_terminal (rows_of (found_of options.now))) }
+    ensures refused { IfErr result (RefusesStyle (rows_of (found_of options.now))) }
 {
     let width = number_or(options, "width", DEFAULT_WIDTH);
     if width < MIN_WIDTH || width > MAX_WIDTH {
-        return None;
+        return Err(StyleRefusal::Width);
     }
-    Some(Style {
+    let colors = colors_of(options, is_terminal).ok_or(StyleRefusal::Color)?;
+    Ok(Style {
         width: width as usize,
-        colors: is_flag(options, "color"),
+        colors,
     })
 }

@@ -40,7 +40,8 @@ def bash_values(program):
         yield f"        {' | '.join(dict.fromkeys(names))})"
         if words:
             yield f'            mapfile -t COMPREPLY < <(compgen {words} -- "$word")'
-        yield "            return"
+        # What begins with a dash is an option, and no value.
+        yield "            [[ $word == -* ]] || return"
         yield "            ;;"
 
 
@@ -115,7 +116,8 @@ def zsh_action(words, value):
 def zsh_option(option):
     told = zsh_text(option.help)
     if option.value:
-        return f"'{option.name}=[{told}]:{zsh_text(option.value)}:{zsh_action(values_of(option), option.value)}'"
+        value = f"{':' * (1 + option.may_lack)}{zsh_text(option.value)}"
+        return f"'{option.name}=[{told}]{value}:{zsh_action(values_of(option), option.value)}'"
     return f"'{option.name}[{told}]'"
 
 

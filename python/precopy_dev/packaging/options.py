@@ -23,21 +23,26 @@ HEADINGS = {
 }
 ENTRY = re.compile(r" {2,6}(\S(?:.*?\S)?)(?: {2,}(\S.*))?")
 MORE = re.compile(r" {8,}(\S.*)")
-OPTION = re.compile(r"(--[\w-]+)(?:[ =]<?(\{[^}]*\}|[\w.-]+)>?)?")
+OPTION = re.compile(r"(--[\w-]+)(?:[ =](\[)?<?(\{[^}]*\}|[\w.-]+)>?)?")
+LISTED = re.compile(r"\[possible values: ([\w-]+(?:, [\w-]+)*)\]")
 CHOICE = re.compile(r"[\w-]+(?:, [\w-]+)+")
 
 
 class Option(NamedTuple):
-    """An option by its long name, the word for its value, if it has one, and its help."""
+    """An option by its long name, the word for its value, if it has one, its help, and whether it may lack a value."""
 
     name: str
     value: Optional[str]
     help: str
+    may_lack: bool = False
 
     @property
     def choices(self) -> List[str]:
-        """The values to choose from, of an option that lists them, as {one,other}."""
-        return self.value.strip("{}").split(",") if self.value and self.value.startswith("{") else []
+        """The values to choose from, of an option that lists them, as {one,other} or as clap does in its help."""
+        if self.value and self.value.startswith("{"):
+            return self.value.strip("{}").split(",")
+        listed = LISTED.search(self.help) if self.value else None
+        return listed[1].split(", ") if listed else []
 
 
 class Operand(NamedTuple):
@@ -111,7 +116,7 @@ def read(path, words=()) -> Command:
             option = OPTION.search(named)
             if not option:
                 raise Unread(f"{' '.join(command.words)} --help has an option without a long name: {named}")
-            command.options.append(Option(option[1], option[2], told))
+            command.options.append(Option(option[1], option[3], told, bool(option[2])))
         elif kind == "operands":
             command.operands.append(Operand(named.strip("<>[]. "), told))
         elif named != "help":

@@ -43,16 +43,16 @@ def main(words):
         text = traces.text_of(options.trace, options.trace == "-")
         with traces.Pending(options.text) as file:
             write_all(lines_of(text), file)
+        if options.json:
+            trace = traces.read(text)
+            told = {"pages": trace.pages, "page_bytes": trace.size, "version": trace.version, "writes": trace.writes}
+            printed.document("precopy exported 1", text=options.text, **told)
     except Refused as refusal:
         version.complain("export", f"trace {refusal}")
         return 1
     except OSError as fault:
         version.complain("export", traces.told(fault))
         return 1
-    if options.json:
-        trace = traces.read(text)
-        told = {"pages": trace.pages, "page_bytes": trace.size, "version": trace.version, "writes": trace.writes}
-        printed.document("precopy exported 1", text=options.text, **told)
     return 0
 
 

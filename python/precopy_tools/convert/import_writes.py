@@ -232,7 +232,7 @@ def run(options, source, writer):
 def main(words):
     options = options_of(words)
     try:
-        source = sys.stdin.buffer if options.text == "-" else open(options.text, "rb")
+        source = traces.bytes_of(sys.stdin) if options.text == "-" else open(options.text, "rb")
         with source, traces.Writer(options.trace) as writer:
             return run(options, source, writer)
     except OSError as fault:

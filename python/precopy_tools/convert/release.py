@@ -74,15 +74,16 @@ def main(words):
         with traces.Writer(options.output) as writer:
             count, pages = write_all(with_releases(trace.records(), options.after), writer)
             writer.finish(trace.shift, trace.pages, max(trace.version, writer.version))
+        if options.json:
+            told = {"releases": count, "pages": pages, "writes": writer.writes}
+            printed.document("precopy releases 1", trace=options.output, **told)
     except Refused as refusal:
         version.complain("release", f"trace {refusal}")
         return 1
     except (traces.Full, OSError) as fault:
         version.complain("release", traces.told(fault))
         return 1
-    if options.json:
-        printed.document("precopy releases 1", trace=options.output, releases=count, pages=pages, writes=writer.writes)
-    else:
+    if not options.json and sys.stderr:
         print(f"{count:,} releases of {pages:,} pages", file=sys.stderr)
     return 0
 

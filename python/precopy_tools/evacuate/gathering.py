@@ -91,13 +91,25 @@ def with_all(
     return joined, asked._replace(numbers=numbers)
 
 
+def process_of(taken_of: str) -> str:
+    """The process that a record was taken of, if it says when that began."""
+    name, since, rest = taken_of.partition(SINCE)
+    return name + since + rest.partition(",")[0] if since else ""
+
+
+def are_of_two(one: Guest, other: Guest) -> bool:
+    """Whether two records are of two guests for sure. Those of guests that write nothing may have one text."""
+    processes = {process_of(one.taken_of), process_of(other.taken_of)}
+    return len(processes) == 2 and "" not in processes
+
+
 def expect_once(guests: Iterable[Guest]) -> None:
     """Each guest has one record. Records are of one guest if they have one name or text, or were taken of one."""
     seen: dict[tuple[str, str], Guest] = {}
     for guest in guests:
         for kind, text in (("name", guest.name), ("digest", guest.digest), ("source", guest.taken_of)):
             other = seen.setdefault((kind, text), guest)
-            if other is not guest:
+            if other is not guest and not (kind == "digest" and are_of_two(other, guest)):
                 is_sure = kind != "source" or not text.startswith("process ") or SINCE in text
                 note = "" if is_sure else "; or of two, since they do not say when that began"
                 raise Refused(f"{other.record} and {guest.record} are two records of one guest: {text}{note}")

@@ -15,6 +15,8 @@ from precopy_tools.quantities import micros_of, time_text
 
 UTC = datetime.timezone.utc
 MINUTE, DAY = 60, 86_400
+# What stands for the present second: it may have passed when it is asked for.
+NOW = -1
 # So many times of each segment are looked at, to know whether it is the newest of its time.
 PARTS = 4
 CLOCK = re.compile(r"([01]\d|2[0-3]):([0-5]\d)")
@@ -117,6 +119,8 @@ def hour_of(at: int | None, window: Window | None, now: float) -> Hour:
     """What the words ask for."""
     if window:
         return Hour(*opening(window, now))
+    if at == NOW:
+        return Hour(now)
     return Hour(next_moment(at, now)) if at is not None else Hour()
 
 
@@ -165,9 +169,9 @@ def told_of(name: str, fit: Fit, away: float, count: int, hour: float) -> str:
 
 
 def clock(word: str) -> int:
-    """A second of the day, as 03:00, or the present one."""
+    """A second of the day, as 03:00, or NOW."""
     if word == "now":
-        return int(time.time() % DAY)
+        return NOW
     match = CLOCK.fullmatch(word)
     if not match:
         raise argparse.ArgumentTypeError(f"{word!r} is no time of day in UTC, as 03:00, and not now")

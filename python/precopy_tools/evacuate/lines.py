@@ -30,8 +30,15 @@ move() {{
     [ "$(date +%s)" -lt "${{8:-9999999999}}" ] || {{ echo "$3: the window has ended" >&2; : > "$state/stop"; }}
     [ ! -e "$state/stop" ] || return 1
     echo "$3 begins"
-    if virsh migrate-setmaxdowntime --domain "$3" --downtime "$4" &&
-        virsh migrate --live --bandwidth "$5" --domain "$3" --desturi "$6"; then
+    domain=$3
+    case $3 in
+    *[!0-9]*) ;;
+    # virsh takes this name for the number of a guest; only domid looks for names alone.
+    *) domain=$(virsh --quiet domuuid --domain "$(virsh --quiet domid --domain "$3")") ;;
+    esac
+    if virsh migrate-setmaxdowntime --domain "$domain" --downtime "$4" &&
+        [ "$(date +%s)" -lt "${{8:-9999999999}}" ] &&
+        virsh migrate --live --bandwidth "$5" --domain "$domain" --desturi "$6"; then
         echo "$3 has moved"
         : > "$state/$1"
     else

@@ -1,8 +1,10 @@
 """How one guest is moved and watched: by QEMU's monitor, or by virsh. No mover touches what it did not begin."""
 
+import math
 import re
 import subprocess
 import tempfile
+import time
 from typing import NamedTuple
 
 from precopy_tools.evacuate.lines import Step, mebibytes, milliseconds, qmp_commands
@@ -17,7 +19,7 @@ MOST_SILENT = 10
 # A guest in one of these states may move, and in one of those no other migration of it is under way.
 MOVABLE, IDLE = ("running", "paused", "suspended"), ("none", "completed", "failed", "cancelled")
 UNITS = {"B": 1, "KiB": 1 << 10, "MiB": 1 << 20, "GiB": 1 << 30, "TiB": 1 << 40}
-JOB_LINE = re.compile(r"^([A-Z][a-z ]+): +(\S+)(?: (\S+))?$", re.M)
+JOB_LINE = re.compile(r"^([A-Z][a-z ]+): +(\S+)(?: +(\S+))? *$", re.M)
 
 
 class Look(NamedTuple):
@@ -29,6 +31,12 @@ class Look(NamedTuple):
     left: int = 0
     downtime: int | None = None
     why: str = ""
+
+
+def expect_open(closes: float) -> None:
+    """No guest begins from a time in Unix seconds on. What was asked before may have taken long."""
+    if time.time() >= closes:
+        raise qmp.Fault("the window has ended")
 
 
 def with_share(move: Placed, share: int) -> Placed:
@@ -57,12 +65,14 @@ class QmpMover:
             return f"{self.way.monitor}: it moves already: its migration is {told['status']}"
         return ""
 
-    def begin(self) -> None:
-        """Begins, or raises a Fault. If it is not known whether QEMU has begun, it is watched as if it has."""
+    def begin(self, closes: float = math.inf) -> None:
+        """Begins before a time, or raises a Fault. If it is not known whether QEMU has begun, it is watched as if it
+        has."""
         self.client = qmp.Client(self.way.monitor, SECONDS)
         self.client.ask("migrate-set-capabilities", capabilities=[{"capability": "events", "state": True}])
         _, parameters, migrate = qmp_commands(self.move, self.way.to)
         self.client.ask(parameters["execute"], **parameters["arguments"])
+        expect_open(closes)
         try:
             self.client.ask(migrate["execute"], **migrate["arguments"])
         except qmp.Fault as fault:
@@ -160,7 +170,7 @@ class VirshMover:
     def __init__(self, step: Step, way: Way):
         limits = step.move.guest.limits
         self.move, self.way, self.process = step.move, way, None
-        self.domain = limits.domain or step.move.guest.name
+        self.domain = self.name = limits.domain or step.move.guest.name
         self.errors, self.is_told, self.last = None, False, Look("moving")
 
     def _state(self) -> tuple[str, bool]:
@@ -171,17 +181,20 @@ class VirshMover:
 
     def why_not(self) -> str:
         try:
+            self.domain = domains.called(self.name)
             state, is_idle = self._state()
         except qmp.Fault as fault:
             return str(fault)
         if state not in MOVABLE:
-            return f"domain {self.domain} does not run here: its state is {state}"
-        return "" if is_idle else f"domain {self.domain} has a job already"
+            return f"domain {self.name} does not run here: its state is {state}"
+        return "" if is_idle else f"domain {self.name} has a job already"
 
-    def begin(self) -> None:
+    def begin(self, closes: float = math.inf) -> None:
+        """Begins before a time, or raises a Fault."""
         downtime, speed = milliseconds(self.move.guest.limits.downtime), mebibytes(self.move.cost.share)
         domains.virsh("migrate-setmaxdowntime", "--domain", self.domain, "--downtime", str(downtime))
         command = ["virsh", "--quiet", "migrate", "--live", "--bandwidth", str(speed), "--domain", self.domain]
+        expect_open(closes)
         try:
             self.errors = tempfile.TemporaryFile()
             how = {"stdin": subprocess.DEVNULL, "stdout": subprocess.DEVNULL, "stderr": self.errors}

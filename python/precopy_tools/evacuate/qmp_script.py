@@ -106,11 +106,18 @@ def expect_movable(monitor):
         raise OSError(f"it has moved, or moves already: its state is {state}, and its migration {status}")
 
 
-def begin(monitor, commands):
-    """Begins. If QEMU does not say so, it is asked whether it has: it moves, or it has moved since."""
+def expect_open(closes):
+    """No guest begins from a time on, if there is one. What was asked before may have taken long."""
+    if 0 < closes <= time.time():
+        raise OSError("the window has ended")
+
+
+def begin(monitor, commands, closes):
+    """Begins before a time. If QEMU does not say so, it is asked whether it has: it moves, or it has moved since."""
     *parameters, migrate = commands
     for command in parameters:
         monitor.ask(command["execute"], **command["arguments"])
+    expect_open(closes)
     try:
         monitor.ask(migrate["execute"], **migrate["arguments"])
     except FAULTS as fault:
@@ -138,9 +145,8 @@ def move(row):
     """Moves one guest, or raises one of FAULTS if it has not moved, or Unknown."""
     with contextlib.closing(Monitor(row["monitor"])) as monitor:
         expect_movable(monitor)
-        if 0 < row["closes"] <= time.time():
-            raise OSError("the window has ended")
-        begin(monitor, row["commands"])
+        expect_open(row["closes"])
+        begin(monitor, row["commands"], row["closes"])
         tell(f"{row['guest']} begins", sys.stdout)
         tell(f"{row['guest']} has moved, with a downtime of {watch(monitor)} ms", sys.stdout)
 

@@ -75,10 +75,11 @@ class Moving:
 
     def _begin(self) -> Look:
         """Begins if nothing stands against it; the window may end while that is asked."""
-        why = self.mover.why_not() or ("the window has ended" if time.time() >= self.closes else "")
+        why = self.mover.why_not()
         try:
             if not why:
-                self.mover.begin()
+                host_movers.expect_open(self.closes)
+                self.mover.begin(self.closes)
         except qmp.Fault as fault:
             why = str(fault)
         return Look("failed" if why else "moving", why=why)

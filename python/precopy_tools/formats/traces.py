@@ -126,9 +126,16 @@ def read(text):
     return Trace(text[4], text[5], pages, writes, text)
 
 
+def bytes_of(stream):
+    """The bytes below a standard stream. One that was closed before this began is none."""
+    if stream is None:
+        raise OSError(errno.EBADF, os.strerror(errno.EBADF), "-")
+    return stream.buffer
+
+
 def text_of(path, is_input=False):
     """The bytes of a file, or of standard input, but no more than a byte beyond those of the greatest trace."""
-    with sys.stdin.buffer if is_input else open(path, "rb") as file:
+    with bytes_of(sys.stdin) if is_input else open(path, "rb") as file:
         return file.read(Limits().bytes + 1)
 
 
@@ -158,11 +165,14 @@ class Pending:
     disk: not even a crash of the host leaves a part under that name.
 
     The path - is standard output, to which all is copied when it is whole. So it is to what is there and is no file, as
-    a pipe or /dev/null: a file with its name would be in its place. A link stays one.
+    a pipe or /dev/null: a file with its name would be in its place. A link stays one. What can be no name of a file is
+    refused at once, and not when all is written.
     """
 
     def __init__(self, path):
-        if os.path.isdir(path):
+        if not path:
+            raise FileNotFoundError(errno.ENOENT, os.strerror(errno.ENOENT), path)
+        if os.path.isdir(path) or path.endswith("/"):
             raise IsADirectoryError(errno.EISDIR, os.strerror(errno.EISDIR), path)
         self.path = path
         self.is_copied = path == "-" or os.path.exists(path) and not os.path.isfile(path)
@@ -190,7 +200,7 @@ class Pending:
     def finish(self):
         if self.is_copied:
             is_output = self.path == "-"
-            to = contextlib.nullcontext(sys.stdout.buffer) if is_output else open(self.path, "wb", buffering=0)
+            to = contextlib.nullcontext(bytes_of(sys.stdout)) if is_output else open(self.path, "wb", buffering=0)
             with open(self.hidden, "rb") as file, to as stream:
                 shutil.copyfileobj(file, stream)
                 stream.flush()

@@ -7,12 +7,15 @@ LIBVIRT_DEFAULT_URI says which libvirt it is, as for all of virsh.
 
 import json
 import os
+import re
 import subprocess
 import uuid
 
 from precopy_tools.qemu import qmp
 
 SECONDS = 60
+# A name that virsh takes for the number of a guest first.
+NUMBER = re.compile(r"\s*\+?[0-9]+")
 
 
 def environment() -> dict[str, str]:
@@ -38,6 +41,22 @@ def virsh(*words: str, seconds: float = SECONDS) -> str:
     return done.stdout
 
 
+def called(name: str) -> str:
+    """What virsh is told of the guest of this name: its UUID if the name is a number, and else the name. Only `domid`
+    looks for no number."""
+    if not NUMBER.fullmatch(name):
+        return name
+    return virsh("domuuid", "--domain", virsh("domid", "--domain", name).strip()).strip()
+
+
+def called_or_number(name: str) -> str:
+    """The same, or the number of a guest if none has this name."""
+    try:
+        return called(name)
+    except qmp.Fault:
+        return name
+
+
 def command_words(process: int) -> list[str]:
     try:
         with open(f"/proc/{process}/cmdline", "rb") as file:
@@ -60,8 +79,8 @@ class Domain:
     """A guest of libvirt by its name, number or UUID. It answers what a monitor does."""
 
     def __init__(self, name: str):
-        self.name = name
-        told = virsh("domuuid", "--domain", name).strip()
+        self.name, self.called = name, called_or_number(name)
+        told = virsh("domuuid", "--domain", name).strip() if self.called == name else self.called
         try:
             self.identity = uuid.UUID(told)
         except ValueError as fault:
@@ -76,7 +95,7 @@ class Domain:
         return found[0]
 
     def ask(self, command: str, **arguments):
-        told = virsh("qemu-monitor-command", "--domain", self.name, "--cmd", qmp.command_line(command, arguments))
+        told = virsh("qemu-monitor-command", "--domain", self.called, "--cmd", qmp.command_line(command, arguments))
         try:
             answer = json.loads(told)
         except (ValueError, RecursionError) as fault:

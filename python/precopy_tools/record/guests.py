@@ -13,9 +13,20 @@ from precopy_tools.record.memory import Gone
 
 HYPERVISORS = re.compile(r"qemu-(system|kvm)|kvm$|cloud-hyperviso|firecracker|crosvm|lkvm|VBoxHeadless|bhyve")
 MACHINE = "anon_inode:kvm-vm"
-MONITOR = re.compile(r"^(?:unix:|socket,.*?path=)([^,]+)")
 BOOT, SINCE = "/proc/sys/kernel/random/boot_id", " since tick "
-LIBVIRT_NAME = re.compile(r"^guest=([^,]+),debug-threads")
+UNIX, LIBVIRT = "unix:", {"guest", "debug-threads"}
+# A part of a word of QEMU, in which a comma is written twice.
+PART = re.compile(r"(?:[^,]|,,)+")
+
+
+def parts_of(word: str) -> list[str]:
+    """The parts of a word of QEMU, as they are meant."""
+    return [part.replace(",,", ",") for part in PART.findall(word)]
+
+
+def fields_of(word: str) -> dict[str, str]:
+    """The fields of a word of QEMU. The first part may be a value alone, and is a name here."""
+    return dict(part.partition("=")[::2] for part in parts_of(word))
 
 
 class Guest(NamedTuple):
@@ -29,13 +40,24 @@ class Guest(NamedTuple):
     def after(self, option: str) -> list[str]:
         return [value for name, value in zip(self.words, self.words[1:]) if name == option]
 
+    def monitors(self) -> list[str]:
+        """The sockets of its monitors of the machine protocol: no others, such as those of consoles."""
+        found = [
+            part[len(UNIX) :] for word in self.after("-qmp") for part in parts_of(word)[:1] if part.startswith(UNIX)
+        ]
+        sockets = [fields for fields in map(fields_of, self.after("-chardev")) if "socket" in fields]
+        paths = {fields.get("id"): fields.get("path") for fields in sockets}
+        controls = [fields for fields in map(fields_of, self.after("-mon")) if fields.get("mode") == "control"]
+        named = [paths.get(fields.get("chardev", next(iter(fields)))) for fields in controls]
+        return found + [path for path in named if path]
+
     def how(self) -> str:
         """The options that say this guest."""
-        domains = [match[1] for match in map(LIBVIRT_NAME.match, self.after("-name")) if match]
-        monitors = [match[1] for match in map(MONITOR.match, self.after("-qmp") + self.after("-chardev")) if match]
+        domains = [fields["guest"] for fields in map(fields_of, self.after("-name")) if LIBVIRT <= fields.keys()]
+        monitors = self.monitors()
         if domains:
             return f"--domain {shlex.quote(domains[0])}"
-        if monitors and (self.after("-qmp") or any("mode=control" in word for word in self.after("-mon"))):
+        if monitors:
             return f"--qmp {shlex.quote(monitors[0])}"
         return f"--pid {self.process} " + " ".join(f"--mapping {it.begin:x}-{it.end:x}" for it in self.memory)
 

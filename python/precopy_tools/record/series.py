@@ -18,7 +18,7 @@ from precopy_tools.record import looking, memory, sources
 
 LIGHT = ".light.pcwt"
 STAMP = "%Y%m%dT%H%M%SZ"
-SECOND, DAY = datetime.timedelta(seconds=1), datetime.timedelta(days=1)
+SECOND, HOUR = datetime.timedelta(seconds=1), datetime.timedelta(hours=1)
 
 
 class Series:
@@ -48,10 +48,11 @@ class Series:
 
     def path_for(self, begun: str) -> str:
         """A name that no segment has, for one that began then. Two segments never begin in the same second. Names rise
-        also if the clock is set back, unless it was a day ahead or more: they would stay so."""
+        also if the clock is set back, but not if it was an hour ahead or more: until it has come so far again, they
+        would tell wrong hours."""
         known = set(self.stamps())
         moment = datetime.datetime.fromisoformat(begun).astimezone(datetime.timezone.utc).replace(tzinfo=None)
-        self.last = max(moment, self.last + SECOND) if self.last - moment < DAY else moment
+        self.last = max(moment, self.last + SECOND) if self.last - moment < HOUR else moment
         while self.last.strftime(STAMP) in known:
             self.last += SECOND
         return self.path(self.last.strftime(STAMP))

@@ -45,7 +45,8 @@ def told_by(socket: str | None, domain: str | None) -> bool | None:
 
 def asking(socket: str | None, domain: str | None) -> Callable[[], bool | None] | None:
     """What asks QEMU or libvirt; None if there is neither."""
-    return (lambda: told_by(socket, domain)) if socket or domain else None
+    called = domains.called_or_number(domain) if domain else None
+    return (lambda: told_by(socket, called)) if socket or domain else None
 
 
 class Watch:

@@ -44,7 +44,8 @@ class Monitors:
         self.pattern, self.names, self.odd, self.sockets = pattern, Names(), Odd(), {}
 
     def look(self) -> dict[str, bool | None]:
-        """Each guest whose monitor answers, and whether it runs. One that hangs is there, and nothing is known."""
+        """Each guest whose monitor answers, and whether it runs; or a Fault. One that hangs is there, and nothing is
+        known."""
         paths = self._paths()
         with concurrent.futures.ThreadPoolExecutor(AT_ONCE) as pool:
             found = zip(paths, pool.map(self._state, paths))
@@ -53,7 +54,8 @@ class Monitors:
         return {name: there[path] for name, path in self.sockets.items()}
 
     def _paths(self) -> list[str]:
-        """The sockets, each once, by whichever of its paths comes first."""
+        """The sockets, each once, by whichever of its paths comes first; or a Fault."""
+        expect_readable(self.pattern)
         sockets = [path for path in sorted(glob.glob(self.pattern)) if is_socket(path)]
         self.odd.tell([path for path in sockets if not is_name(name_of(path))])
         paths = [path for path in sockets if is_name(name_of(path))]
@@ -69,6 +71,21 @@ class Monitors:
 
     def words(self, name: str) -> list[str]:
         return [f"--qmp={self.sockets[name]}"]
+
+
+def expect_readable(pattern: str) -> None:
+    """The folder of a pattern can be read, or is not there. glob takes one that cannot be for an empty one, and so all
+    guests would have gone."""
+    folder = pattern
+    while glob.escape(folder) != folder:
+        folder = os.path.dirname(folder)
+    try:
+        if folder != pattern:
+            os.scandir(folder or ".").close()
+    except FileNotFoundError:
+        pass
+    except OSError as fault:
+        raise qmp.Fault(f"{folder or '.'}: {fault.strerror}") from fault
 
 
 def is_socket(path: str) -> bool:

@@ -41,7 +41,7 @@ returns-in-Some-clause-made c =
     (rows_of (found_of c.in-Some.options.now)) is c.in-Ok.ensures.matches c.in-Some.ensures.name
     c.in-Some.ensures.rows in
     made_by view_line words c.in-Some.name.now _ taken command
-    (λ name rows asked. AsksForView name rows asked.view asked.scale) c.command_view.result
+    (λ name rows asked. AsksForView c.args.is_terminal name rows asked.view asked.scale) c.command_view.result
     c.command_view.ensures.made
 
 pub returns-in-Some-clause-failed : goal.returns-in-Some-clause-failed
