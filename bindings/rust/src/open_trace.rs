@@ -6,7 +6,7 @@ use crate::{calls, room, Finding, OpenCheck, Sizes, Status};
 /// C's `struct precopy_trace`.
 #[repr(C)]
 #[derive(Clone, Copy)]
-pub(crate) struct Trace {
+pub struct Trace {
     sizes: calls::Sizes,
     version: u32,
     bytes: *const u8,
