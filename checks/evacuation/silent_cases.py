@@ -65,18 +65,13 @@ print(domains.Domain("2").identity, domains.called_or_number("3"))
 """
 # A process whose table of open files is full.
 FULL = """\
-import os, resource, sys, types
+import os, sys, types
+from checks.lib.harness import all_files_held
 from precopy_tools.evacuate import movers, ways
 from precopy_tools.qemu import qmp
 from precopy_tools.record import domains
 mover = movers.QmpMover(types.SimpleNamespace(move=None), ways.Way(sys.argv[1]))
-resource.setrlimit(resource.RLIMIT_NOFILE, (64, 64))
-held = []
-try:
-    while True:
-        held.append(os.open("/dev/null", os.O_RDONLY))
-except OSError:
-    pass
+held = all_files_held()
 try:
     told = mover.why_not()
     domains.virsh("list")
@@ -217,7 +212,7 @@ def answer_two(server: socket.socket) -> None:
 
 def full_tables_of_files(_, folder: str) -> None:
     """A monitor or a virsh that cannot be asked now, since too many files are open, is a fault that is told."""
-    environment = {**os.environ, "PYTHONPATH": os.path.join(TOP, "python")}
+    environment = {**os.environ, "PYTHONPATH": f"{TOP}:{TOP}/python"}
     path = monitors.Monitor(folder, "web", []).path
     command = [sys.executable, "-B", "-c", FULL, path]
     done = subprocess.run(command, env=environment, capture_output=True, text=True, timeout=SECONDS)

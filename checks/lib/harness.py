@@ -6,6 +6,7 @@ import inspect
 import itertools
 import os
 import random
+import resource
 import select
 import subprocess
 import sys
@@ -75,6 +76,16 @@ def closed_pipe() -> Iterator[int]:
     poll.poll(1000 * SECONDS)
     yield writer
     os.close(writer)
+
+
+def all_files_held() -> list[int]:
+    """Opens as many files as this process may then have open, which are few, and returns them."""
+    resource.setrlimit(resource.RLIMIT_NOFILE, (64, 64))
+    held = []
+    with contextlib.suppress(OSError):
+        while True:
+            held.append(os.open(os.devnull, os.O_RDONLY))
+    return held
 
 
 # ---- Seeds.

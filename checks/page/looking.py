@@ -100,11 +100,12 @@ TAPPED = """((name, share) => {
   return textOf(`${name}-take`);
 })"""
 ZOOM = "document.getElementById('zoom-plan').click()"
-SLOWER = """(() => {
+# Takes a slower link, and waits until its plan is drawn: a page that has not begun to draw is taken to be at rest.
+SLOWER = """after(() => {
   const field = document.getElementById("control-link");
   field.value = "32";
   field.dispatchEvent(new Event("input"));
-})()"""
+}).then(() => null)"""
 
 
 def check_offers(page):

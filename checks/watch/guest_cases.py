@@ -38,18 +38,13 @@ time.sleep(60)
 """
 # A process whose table of open files is full for a while.
 FULL = """\
-import os, resource, sys
+import os, sys
+from checks.lib.harness import all_files_held
 from precopy_tools.qemu import qmp
 from precopy_tools.watch import hosts
 host = hosts.Monitors(sys.argv[1])
 print([*host.look()])
-resource.setrlimit(resource.RLIMIT_NOFILE, (64, 64))
-held = []
-try:
-    while True:
-        held.append(os.open("/dev/null", os.O_RDONLY))
-except OSError:
-    pass
+held = all_files_held()
 try:
     print([*host.look()])
 except qmp.Fault as fault:
@@ -312,7 +307,7 @@ def odd_names(folder):
 def folders_that_cannot_be_read(_, folder):
     """If the folder of the monitors cannot be read now, as when too many files are open, that is told, and no guest has
     gone. One that is not there yet has none."""
-    environment = {**os.environ, "PYTHONPATH": os.path.join(TOP, "python")}
+    environment = {**os.environ, "PYTHONPATH": f"{TOP}:{TOP}/python"}
     command = [sys.executable, "-B", "-c", FULL, os.path.join(folder, "*.qmp")]
     with known(folder, "a.qmp"):
         done = subprocess.run(command, env=environment, capture_output=True, text=True, timeout=SECONDS)
